@@ -1,0 +1,2 @@
+//! Payloads: what each procedure's call and reply spell, and the payload of an error.
+#![tactic(auto)]

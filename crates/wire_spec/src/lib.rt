@@ -1,0 +1,8 @@
+//! Frames on the wire: the items of XDR, packets, and what stands in a stream of bytes.
+#![tactic(auto)]
+
+mod fault;
+mod message;
+
+pub use fault::{BadPacket, XdrFault};
+pub use message::{Header, Packet};
