@@ -1,30 +1,64 @@
-// How the wire refers to a domain.
-ghost use Rattle.std.specs.Prelude.{◌≡◌, IfOk};
-
-use crate::memory::NoMemory;
+// How the wire refers to domains, networks and pools.
 use crate::name::Name;
+use crate::text::Text;
 use uuid::Uuid;
 
-/// A domain as replies name it: `remote_nonnull_domain` of libvirt's `remote_protocol.x`.
-#[derive(Debug, Drop)]
+/// A domain as replies and messages name it (`remote_nonnull_domain` of libvirt's
+/// `remote_protocol.x`).
+#[derive(Drop)]
 pub struct DomainRef {
     /// Its name.
     pub name: Name,
-    /// Its identifier, which stays for life.
+    /// Its identifier.
     pub uuid: Uuid,
     /// The number of its live boot, or 2,147,483,647 where that is greater; -1 where none is live.
     pub id: i32,
 }
 
-impl DomainRef {
-    /// An equal reference.
-    pub fn copy(&self) -> Result<DomainRef, NoMemory>
-        ensures { IfOk result (λ d. d ≡ self.now) }
-    {
-        Ok(DomainRef {
-            name: self.name.copy()?,
-            uuid: self.uuid,
-            id: self.id,
-        })
-    }
+/// A network as replies name it (`remote_nonnull_network`).
+#[derive(Drop)]
+pub struct NetworkRef {
+    /// Its name.
+    pub name: Name,
+    /// Its identifier.
+    pub uuid: Uuid,
+}
+
+/// A pool as replies name it (`remote_nonnull_storage_pool`).
+#[derive(Drop)]
+pub struct PoolRef {
+    /// Its name.
+    pub name: Name,
+    /// Its identifier.
+    pub uuid: Uuid,
+}
+
+/// The domain that a call is for. The identifier alone says which; the rest is passed over, so
+/// its name may be any text.
+#[derive(Drop)]
+pub struct DomainTarget {
+    /// What the caller takes its name for.
+    pub name: Text,
+    /// Its identifier.
+    pub uuid: Uuid,
+    /// What the caller takes its number for.
+    pub id: i32,
+}
+
+/// The network that a call is for. The identifier alone says which.
+#[derive(Drop)]
+pub struct NetworkTarget {
+    /// What the caller takes its name for.
+    pub name: Text,
+    /// Its identifier.
+    pub uuid: Uuid,
+}
+
+/// The pool that a call is for. The identifier alone says which.
+#[derive(Drop)]
+pub struct PoolTarget {
+    /// What the caller takes its name for.
+    pub name: Text,
+    /// Its identifier.
+    pub uuid: Uuid,
 }

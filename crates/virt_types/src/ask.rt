@@ -1,0 +1,130 @@
+// What a call asks of others before it is done: of the guest's monitor, or of the desk.
+use crate::bytes::Bytes;
+use crate::device_def::DeviceDef;
+use crate::domain_def::DomainDef;
+use crate::mac::Mac;
+use crate::name::Name;
+use crate::text::Text;
+use uuid::Uuid;
+
+/// A command to a guest's monitor (after QEMU's QMP).
+#[derive(Drop)]
+pub enum Command {
+    /// Whether the guest runs.
+    QueryStatus,
+    /// How much memory the guest has, in KiB.
+    QueryMemory,
+    /// Go on.
+    Cont,
+    /// Stand still.
+    Stop,
+    /// Shut down by your own means.
+    Powerdown,
+    /// Begin again from the start.
+    Reset,
+    /// End at once.
+    Quit,
+    /// Have this much memory, in KiB.
+    SetMemory(u64),
+    /// Have this many processors.
+    SetVcpus(u32),
+    /// Get the host's side of a device.
+    AddBackend {
+        /// The device's slot.
+        slot: u32,
+        /// The device.
+        device: DeviceDef,
+    },
+    /// Get the guest's side of a device.
+    AddDevice {
+        /// The device's slot.
+        slot: u32,
+        /// The device.
+        device: DeviceDef,
+    },
+    /// Lose the guest's side of the device at this slot.
+    RemoveDevice(u32),
+    /// Lose the host's side of the device at this slot.
+    RemoveBackend(u32),
+    /// Begin to copy your state.
+    CopyBegin,
+    /// How much of the copy is left.
+    CopyPoll,
+    /// Hand over the copy.
+    CopyTake,
+    /// Give the copy up.
+    CopyCancel,
+    /// Take this state.
+    LoadState(Bytes),
+    /// Do something of your own, 1 to 5.
+    Kick(u32),
+}
+
+/// What an image holds, with its number in the image's file.
+#[derive(Clone, Copy, Debug, PartialEq, Eq)]
+pub enum ImageKind {
+    /// A guest that was saved and can be restored.
+    Save = 1,
+    /// A guest that was written out and goes on.
+    Dump = 2,
+}
+
+/// What a call asks: a command of the guest's monitor, or one of the five asks of the desk.
+#[derive(Drop)]
+pub enum Ask {
+    /// This command to the guest's monitor.
+    Command(Command),
+    /// Make a guest.
+    Make {
+        /// Of this definition.
+        definition: DomainDef,
+        /// The number of its boot.
+        boot: u64,
+    },
+    /// Store a definition.
+    Put {
+        /// Which one.
+        definition: DomainDef,
+        /// Whether the daemon starts the domain when it starts itself.
+        autostart: bool,
+    },
+    /// Remove the stored definition of this domain.
+    Drop(Uuid),
+    /// Lease an address.
+    Lease {
+        /// The name of the network, as the definition has it; empty where it has none.
+        network: Text,
+        /// The interface that the address is for.
+        mac: Mac,
+    },
+    /// Write a guest's state to a file.
+    WriteImage {
+        /// The name of the file, without its ending.
+        name: Name,
+        /// What the image holds.
+        kind: ImageKind,
+        /// The definition of the guest.
+        definition: DomainDef,
+        /// Whether the guest ran.
+        running: bool,
+        /// The state of the guest.
+        bytes: Bytes,
+    },
+}
+
+/// What a guest tells of itself.
+#[derive(Clone, Copy, Debug, PartialEq, Eq)]
+pub enum GuestEvent {
+    /// It shuts down.
+    Shutdown,
+    /// It stands still.
+    Stop,
+    /// It goes on.
+    Resume,
+    /// It can't go on.
+    Panic,
+    /// The device at this slot is gone.
+    DeviceDeleted(u32),
+    /// It begins again from the start.
+    Reset,
+}

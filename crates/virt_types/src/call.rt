@@ -1,0 +1,93 @@
+// What is asked of a domain's cell: calls, which leave marks, and queries, which read.
+use crate::bytes::Bytes;
+use crate::device_def::DeviceDef;
+use crate::domain::SnapInfo;
+use crate::domain_def::DomainDef;
+use crate::name::Name;
+
+/// A call on a domain's cell. The last seven begin an operation.
+#[derive(Drop)]
+pub enum Call {
+    /// The guest is to stand still.
+    Suspend,
+    /// The guest is to go on.
+    Resume,
+    /// The guest is asked to shut down.
+    Shutdown,
+    /// The guest is reset.
+    Reboot,
+    /// The guest is ended at once.
+    Destroy,
+    /// This becomes the stored definition.
+    Define(DomainDef),
+    /// The stored definition is removed.
+    Undefine,
+    /// Whether the daemon starts the domain when it starts itself.
+    SetAutostart(bool),
+    /// The memory that the guest has, in KiB.
+    SetMemory(u64),
+    /// The processors that the guest has.
+    SetVcpus(u32),
+    /// The guest gets this device.
+    Attach(DeviceDef),
+    /// The guest loses the device with the key of this one: a disk's target, an interface's MAC.
+    Detach(DeviceDef),
+    /// How much memory the guest has.
+    MemoryStats,
+    /// The guest does something of its own: 1 shuts down, 2 panics, 3 crashes, 4 stops, 5 goes on.
+    Kick(i32),
+    /// The operation under way is to be given up.
+    Abort,
+    /// A snapshot is removed.
+    SnapDelete {
+        /// Which one.
+        name: Name,
+        /// Whether its children go with it. Else they take its parent.
+        children: bool,
+    },
+    /// A guest is started of the stored definition.
+    Start,
+    /// A guest is started of this definition, in a vacant cell.
+    Create(DomainDef),
+    /// A guest is started from a saved state.
+    Restore {
+        /// The definition that the guest had.
+        definition: DomainDef,
+        /// Whether the guest ran.
+        running: bool,
+        /// The state of the guest.
+        saved: Bytes,
+    },
+    /// The guest's state is saved under this name, and the guest ends.
+    Save(Name),
+    /// The guest's state is written under this name.
+    Dump(Name),
+    /// A snapshot is taken.
+    Snapshot(SnapInfo),
+    /// The snapshot of this name is gone back to.
+    Revert(Name),
+}
+
+/// What is read of a domain's cell.
+#[derive(Drop)]
+pub enum Query {
+    /// How the wire refers to the domain, and its state.
+    Reference,
+    /// A definition.
+    Text {
+        /// Whether the stored one is wanted even where the domain is active.
+        stored: bool,
+    },
+    /// Whether the daemon starts the domain when it starts itself.
+    Autostart,
+    /// Its state, memory and processors.
+    Info,
+    /// The operation under way.
+    JobInfo,
+    /// The names of its snapshots.
+    SnapNames,
+    /// The parent of the snapshot of this name.
+    SnapParent(Name),
+    /// The snapshot of this name.
+    SnapText(Name),
+}

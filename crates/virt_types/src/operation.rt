@@ -1,0 +1,68 @@
+// Operations: the long works on a domain, beside which other calls are served.
+use crate::caller::Who;
+use crate::refusal::Refusal;
+
+/// What kind of operation it is. Its arguments stand in its call. The numbers are those by which
+/// the wire and status files tell it; 0 is none.
+#[derive(Clone, Copy, Debug, PartialEq, Eq)]
+pub enum OpKind {
+    /// A guest is started, of a stored or of a given definition.
+    Start = 1,
+    /// A guest's state is saved to a file, and the guest ends.
+    Save = 2,
+    /// A guest's state is written to a file.
+    Dump = 3,
+    /// A snapshot is taken.
+    Snapshot = 4,
+    /// A guest is started from a saved state.
+    Restore = 5,
+    /// A snapshot is gone back to.
+    Revert = 6,
+}
+
+/// A step of an operation, with the numbers by which the wire and status files tell it.
+#[derive(Clone, Copy, Debug, PartialEq, Eq)]
+pub enum Phase {
+    /// No step with asks: the one step of an operation whose row has none. Beside no operation it
+    /// says that nothing is under way.
+    Nothing = 0,
+    /// The guest is made.
+    Make = 1,
+    /// The guest is set going.
+    Run = 2,
+    /// A saved state is loaded into the guest.
+    Load = 3,
+    /// The copying of the guest's state is begun.
+    Copy = 4,
+    /// The copying is asked how much is left.
+    Poll = 5,
+    /// What was copied is taken, and written where it belongs.
+    Take = 6,
+    /// The guest is ended.
+    Quit = 7,
+    /// The copying is given up.
+    Cancel = 8,
+}
+
+/// An operation that is under way.
+#[derive(Drop)]
+pub struct Op {
+    /// What kind it is.
+    pub kind: OpKind,
+    /// The call that began it.
+    pub who: Who,
+    /// The boot that it works on; none where it works on no guest.
+    pub boot: Option<u64>,
+    /// The step that is due or under way.
+    pub phase: Phase,
+    /// Whether the guest ran when it was begun.
+    pub was_running: bool,
+    /// Whether a caller asked that it be given up.
+    pub abort: bool,
+    /// How many polls in a row saw no less left than the poll before, 0 to 64.
+    pub still: u32,
+    /// How much the last poll saw left; none before the first poll.
+    pub remaining: Option<u64>,
+    /// The refusal that led to the step that gives up, and with which it then ends.
+    pub refusal: Option<Refusal>,
+}

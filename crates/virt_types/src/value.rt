@@ -1,0 +1,162 @@
+// What is answered: values, replies and notes.
+use crate::domain::{Live, Snap};
+use crate::domain_def::DomainDef;
+use crate::list::ListOf;
+use crate::mac::Mac;
+use crate::name::Name;
+use crate::operation::{OpKind, Phase};
+use crate::reference::{DomainRef, NetworkRef, PoolRef};
+use crate::refusal::Refusal;
+use crate::room::RoomyList;
+use crate::run_state::DomainState;
+use crate::text::Text;
+use crate::transition::Transition;
+use uuid::Uuid;
+
+/// Names in order.
+pub type NameList = ListOf<Name>;
+
+/// Texts in order.
+pub type TextList = ListOf<Text>;
+
+/// Transitions in order, with room for more.
+pub type TransitionList = RoomyList<Transition>;
+
+/// A domain with its state.
+#[derive(Drop)]
+pub struct DomainRow {
+    /// The domain.
+    pub domain: DomainRef,
+    /// Its state.
+    pub state: DomainState,
+}
+
+/// Domains with their states, in order.
+pub type DomainRowList = ListOf<DomainRow>;
+
+/// A pool, and whether it is active.
+#[derive(Drop)]
+pub struct PoolRow {
+    /// Its name.
+    pub name: Name,
+    /// Its identifier.
+    pub uuid: Uuid,
+    /// Whether it is active.
+    pub active: bool,
+}
+
+/// Pools in order.
+pub type PoolRowList = ListOf<PoolRow>;
+
+/// A lease.
+#[derive(Clone, Copy, Debug, PartialEq, Eq)]
+pub struct LeaseRow {
+    /// The interface that has it.
+    pub mac: Mac,
+    /// An IPv4 address as a number, its first byte the highest.
+    pub address: u32,
+}
+
+/// Leases in order.
+pub type LeaseRowList = ListOf<LeaseRow>;
+
+/// What a domain has (`remote_domain_get_info_ret`). The processor time is always told as 0.
+#[derive(Clone, Copy, Debug, PartialEq, Eq)]
+pub struct DomainInfo {
+    /// Its state.
+    pub state: DomainState,
+    /// The most memory that it may get, in KiB.
+    pub memory: u64,
+    /// The memory that it has, in KiB.
+    pub current: u64,
+    /// The processors that it has.
+    pub vcpus: u32,
+}
+
+/// The operation that is under way on a domain.
+#[derive(Clone, Copy, Debug, PartialEq, Eq)]
+pub struct JobInfo {
+    /// Its kind; none where no operation is under way.
+    pub kind: Option<OpKind>,
+    /// The phase that is due or under way.
+    pub phase: Phase,
+    /// How much of a copy is left; 0 before the first poll.
+    pub rest: u64,
+}
+
+/// What a call or a query that was done gives. The last four are what queries read of a domain's
+/// cell, of which the driver makes rows and texts; no reply on the wire has them.
+#[derive(Drop)]
+pub enum Value {
+    /// Nothing to be told.
+    Nothing,
+    /// A domain.
+    Domain(DomainRef),
+    /// A network.
+    Network(NetworkRef),
+    /// A pool.
+    Pool(PoolRef),
+    /// The text of a definition.
+    Text(Text),
+    /// Whether the daemon starts it when it starts itself.
+    Autostart(bool),
+    /// What a domain has.
+    Info(DomainInfo),
+    /// Names, by rising name.
+    Names(NameList),
+    /// All domains.
+    Domains(DomainRowList),
+    /// All pools, by rising name.
+    Pools(PoolRowList),
+    /// The operation under way.
+    Job(JobInfo),
+    /// The name of a snapshot or volume that was made.
+    Name(Name),
+    /// The parent of a snapshot.
+    Parent(Option<Name>),
+    /// How much memory a guest has, in KiB.
+    Memory(u64),
+    /// The leases of a network, by rising address.
+    Leases(LeaseRowList),
+    /// How the wire refers to a domain, and its state.
+    Reference(DomainRow),
+    /// A definition.
+    Definition(DomainDef),
+    /// The live part of a domain.
+    Live(Live),
+    /// A snapshot.
+    Snapshot(Snap),
+}
+
+/// What a call is answered.
+#[derive(Drop)]
+pub enum Reply {
+    /// It was done.
+    Ok(Value),
+    /// It was not done.
+    No(Refusal),
+}
+
+/// A message that no call asked for.
+#[derive(Drop)]
+pub enum Note {
+    /// Something came about in a domain.
+    Event {
+        /// The domain's name.
+        name: Name,
+        /// Its identifier.
+        uuid: Uuid,
+        /// What came about.
+        transition: Transition,
+    },
+    /// More came about in a domain than one registration keeps, and the registration has ended.
+    Lost {
+        /// The domain's name.
+        name: Name,
+        /// Its identifier.
+        uuid: Uuid,
+    },
+}
+
+/// Notes in order.
+pub type NoteList = ListOf<Note>;
