@@ -1,5 +1,5 @@
 -- Packets as bytes: a length word, six words and a payload (libvirt, src/rpc/virnetprotocol.x; the upper bound is this project's own).
-use Rattle.std.specs.Prelude.{◌≡◌, ◌==◌, ℕ, ◌+◌, ◌^◌, ◌<◌, ◌≤◌, ◌⊎◌, ◌&&◌, ◌||◌, nat_lt, List, ◌++◌, length, take, drop, Option, Some, None, IsSome, if◌then◌else◌}
+use Rattle.std.specs.Prelude.{◌≡◌, ◌==◌, ℕ, ◌+◌, ◌^◌, ◌<◌, ◌≤◌, ◌&&◌, ◌||◌, nat_lt, List, ◌++◌, length, take, drop, Option, Some, None, if◌then◌else◌}
 use Rattle.std.specs.Int.{w32, from_be_bytes}
 use Rattle.wire_spec.specs.Xdr.{word}
 use Rattle.wire_spec.specs.declared.fault.BadPacket.{BadPacket}
@@ -15,15 +15,19 @@ header h = word h.prog ++ word h.vers ++ word h.procedure ++ word h.kind ++ word
 abbrev pub spelling : Packet → List ℕ
 spelling p = word (28 + length p.payload) ++ header p.header ++ p.payload
 
--- six words that a packet may have: a call has no status
+-- a kind and a status that a packet may have: a call has no status
+pub record HasKind (h : Header) : Type 0 where
+  pub kind : h.kind ≤ 2
+  pub status : h.status ≤ 2
+  pub call : h.kind ≡ 0 → h.status ≡ 0
+
+-- six words that a packet may have
 pub record IsHeader (h : Header) : Type 0 where
   pub prog : h.prog < 2 ^ 32
   pub vers : h.vers < 2 ^ 32
   pub procedure : h.procedure < 2 ^ 32
-  pub kind : h.kind ≤ 2
   pub serial : h.serial < 2 ^ 32
-  pub status : h.status ≤ 2
-  pub call : h.kind ≡ 0 → h.status ≡ 0
+  pub allowed : HasKind h
 
 -- a packet of at most 4,194,304 bytes
 pub record IsPacket (p : Packet) : Type 0 where

@@ -1,5 +1,5 @@
 -- A stream of bytes as packets and a rest that is no whole packet.
-use Rattle.std.specs.Prelude.{◌≡◌, ℕ, ◌<◌, ◌⊎◌, List, ◌++◌, length, IsSome}
+use Rattle.std.specs.Prelude.{◌≡◌, ℕ, ◌<◌, ◌⊎◌, List, ◌++◌, length, IsSome, is_some, if◌then◌else◌}
 use Rattle.std.specs.List.{flat_map, AllByRecursion}
 use Rattle.wire_spec.specs.Packets.{IsPacket, fault, spelling, word_at}
 use Rattle.wire_spec.specs.declared.message.Packet.{Packet}
@@ -17,3 +17,7 @@ pub record Splits (bytes : List ℕ) (packets : List Packet) (rest : List ℕ) :
   pub whole : bytes ≡ stream packets rest
   pub each : AllByRecursion IsPacket packets
   pub part : IsRest rest
+
+-- how many bytes of a packet that has begun stand there: none where no packet begins so
+abbrev pub begun : List ℕ → ℕ
+begun rest = if is_some (fault rest) then 0 else length rest
