@@ -1,0 +1,61 @@
+//! The work that the scripts of bench/ time: its words choose it.
+#![tactic(auto)]
+
+mod feed;
+
+use feed::feed_packets;
+use std::alloc::Global;
+use std::process::ExitCode;
+use std::{env, io};
+use virt_types::OrNoMemory;
+
+/// What the words choose.
+#[derive(Drop)]
+enum Work {
+    /// Packets of `size` bytes are fed in pieces of `piece` bytes, `times` of them.
+    Feed {
+        size: usize,
+        piece: usize,
+        times: u32,
+    },
+    /// No work is called so.
+    Unknown,
+}
+
+fn work_of(words: &[String]) -> Work {
+    match words {
+        [_, name, size, piece, times] if name.as_str() == "feed" => {
+            match (size.parse(), piece.parse(), times.parse()) {
+                (Ok(size), Ok(piece), Ok(times)) => Work::Feed { size, piece, times },
+                _ => Work::Unknown,
+            }
+        }
+        _ => Work::Unknown,
+    }
+}
+
+fn words_of(rt: &HostRuntime, alloc: Global) -> io::Result<Vec<String>> {
+    let mut words = Vec::new(alloc);
+    for word in env::args(rt)? {
+        words.push(word)?;
+    }
+    Ok(words)
+}
+
+fn main(rt: HostRuntime) -> io::Result<ExitCode> {
+    let alloc = rt.alloc();
+    match work_of(&words_of(&rt, alloc)?) {
+        Work::Feed { size, piece, times } => match feed_packets(alloc, size, piece, times) {
+            Ok(given) => {
+                println!(rt; "{given} packets")?;
+                Ok(ExitCode::SUCCESS)
+            }
+            Err(OrNoMemory::Fault(_)) => Ok(ExitCode::from(7)),
+            Err(OrNoMemory::NoMemory) => Ok(ExitCode::from(12)),
+        },
+        Work::Unknown => {
+            println!(rt; "bench feed SIZE PIECE TIMES")?;
+            Ok(ExitCode::from(2))
+        }
+    }
+}
