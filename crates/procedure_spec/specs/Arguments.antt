@@ -1,12 +1,7 @@
 -- The arguments of calls, as their payloads spell them.
-use Rattle.std.specs.Prelude.{◌≡◌, ℕ, ◌^◌, ◌<◌, ◌≤◌, List, ◌++◌, length, Option, OnSome, IfSome}
-use Rattle.std.specs.Str.{IsUtf8}
+use Rattle.std.specs.Prelude.{◌≡◌, ℕ, ◌^◌, ◌<◌, List, ◌++◌, Option, IfSome}
 use Rattle.wire_spec.specs.Xdr.{opaque, optional, word}
-
--- a string of at most so many bytes
-pub record IsString (most : ℕ) (bytes : List ℕ) : Type 0 where
-  pub bounded : length bytes ≤ most
-  pub text : IsUtf8 bytes
+pub use Rattle.wire_spec.specs.Xdr.{IsString}
 
 -- strings that nothing but the packet bounds: 4,194,304 bytes less the seven words before a payload
 abbrev pub packet_bound : ℕ

@@ -1,3 +1,5 @@
 pub mod Packets
 pub mod Split
 pub mod Xdr
+pub mod XdrAnswer
+pub mod XdrReading
