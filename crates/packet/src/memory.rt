@@ -1,5 +1,6 @@
 //! A source and a sink in memory, for tests: they tell their bytes, and fail where they are told to.
 ghost use Rattle.std.specs.Prelude.{◌≡◌, ◌+◌, ◌<◌, ◌≤◌, ◌++◌, [], length, take, drop};
+ghost use Rattle.packet.specs.Memory.{empty_sink, source_of};
 
 use crate::outside::{Sink, Source};
 use std::alloc::Global;
@@ -44,7 +45,7 @@ impl Model for MemorySource {
 
     ghost Value = { Reading };
 
-    ghost view = { λ s. record { left = drop s.taken s.bytes.items; faults = s.faults } };
+    ghost view = { λ s. record { left = drop s.taken s.bytes.items; most = s.most; failing = s.failing; faults = s.faults } };
 
     ghost invariant = { λ s. (s.taken ≤ vec_len s.bytes) × (0 < s.most) };
 }
@@ -52,7 +53,7 @@ impl Model for MemorySource {
 impl MemorySource {
     /// These bytes, in one read if there is room for them.
     pub fn new(bytes: Vec<u8>) -> MemorySource
-        ensures { result ≡ record { left = bytes.items; faults = 0 } }
+        ensures { result ≡ source_of bytes.items }
     {
         MemorySource {
             bytes,
@@ -67,7 +68,7 @@ impl MemorySource {
     /// The same with at most so many bytes a read.
     pub fn at_most(self, most: usize) -> MemorySource
         requires { 0 < most }
-        ensures { result ≡ self }
+        ensures { result ≡ record self { most = most } }
     {
         let MemorySource {
             bytes,
@@ -89,7 +90,7 @@ impl MemorySource {
 
     /// The same with reads that fail.
     pub fn failing(self, failing: Failing) -> MemorySource
-        ensures { result ≡ self }
+        ensures { result ≡ record self { failing = failing } }
     {
         let MemorySource {
             bytes,
@@ -177,7 +178,7 @@ impl Model for MemorySink {
 
     ghost Value = { Holding };
 
-    ghost view = { λ s. record { bytes = s.bytes.items; faults = s.faults } };
+    ghost view = { λ s. record { bytes = s.bytes.items; most = s.most; failing = s.failing; faults = s.faults } };
 
     ghost invariant = { λ s. 0 < s.most };
 }
@@ -185,7 +186,7 @@ impl Model for MemorySink {
 impl MemorySink {
     /// No bytes so far. Each piece is taken whole.
     pub fn new(alloc: Global) -> MemorySink
-        ensures { result ≡ record { bytes = []; faults = 0 } }
+        ensures { result ≡ empty_sink }
     {
         MemorySink {
             bytes: Vec::new(alloc),
@@ -199,7 +200,7 @@ impl MemorySink {
     /// The same with at most so many bytes a write.
     pub fn at_most(self, most: usize) -> MemorySink
         requires { 0 < most }
-        ensures { result ≡ self }
+        ensures { result ≡ record self { most = most } }
     {
         let MemorySink {
             bytes,
@@ -219,7 +220,7 @@ impl MemorySink {
 
     /// The same with writes that fail.
     pub fn failing(self, failing: Failing) -> MemorySink
-        ensures { result ≡ self }
+        ensures { result ≡ record self { failing = failing } }
     {
         let MemorySink {
             bytes,
