@@ -10,3 +10,6 @@ mod writer;
 pub use reader::Reader;
 pub use wire_spec::XdrFault;
 pub use writer::Writer;
+
+#[cfg(test)]
+mod tests;
