@@ -1,0 +1,2 @@
+pub mod DemoName
+pub mod Words

@@ -1,0 +1,42 @@
+-- What the program does for the words `demo`, and what its status means.
+use Rattle.std.specs.Prelude.{◌≡◌, ◌⊎◌, ℕ, List, Option, None, Some}
+use Rattle.outside_spec.specs.Faults.{Rose}
+use Rattle.session_spec.specs.Course.{Course, IsWhole}
+use Rattle.session_spec.specs.declared.end.End.{End}
+use Rattle.session_spec.specs.declared.end.End.TheVariants.{BadPacket, Eof, NoMemory, SinkFault, SourceFault, Truncated}
+use Rattle.virtd.specs.Demo.{demo}
+
+-- the status of a session's end
+abbrev pub status : End → ℕ
+status Eof = 0
+status SourceFault = 5
+status SinkFault = 5
+status (BadPacket bad) = 7
+status (Truncated rest) = 8
+status NoMemory = 12
+
+-- nothing was made, and nothing comes back
+pub record MakesNothing {T : Type 0} (made back made' back' : T) : Type 0 where
+  pub made_none : made' ≡ made
+  pub back_none : back' ≡ back
+
+module _ {S K : Type 0} (left : S → Option (List ℕ)) (source_faults : S → ℕ) (held : K → Option (List ℕ)) (sink_faults : K → ℕ) where
+  -- one session over demo went over both ends, from what they were made as to what they are as they come back
+  pub record IsServed (source : S) (sink : K) (source' : S) (sink' : K) (code : ℕ) : Type 0 where
+    pub end : End
+    pub code_is : code ≡ status end
+    pub course : Course demo (left source) (left source') (held sink) (held sink') end
+    pub source_fault : end ≡ SourceFault → Rose (source_faults source) (source_faults source')
+    pub sink_fault : end ≡ SinkFault → Rose (sink_faults sink) (sink_faults sink')
+    pub complete : IsWhole (left source) → ¬ Rose (source_faults source) (source_faults source')
+        → ¬ Rose (sink_faults sink) (sink_faults sink') → (code ≡ 0) ⊎ (code ≡ 12)
+
+  -- two ends were made and come back, and a session went over them
+  abbrev pub ServesStdio : Option (S × K) → Option (S × K) → ℕ → Type 0
+  ServesStdio (Some made) (Some back) code = IsServed made.0 made.1 back.0 back.1 code
+  ServesStdio None back code = ⊥
+  ServesStdio made None code = ⊥
+
+  -- so it is, unless memory was wanting before anything was made
+  abbrev pub ServesDemo : Option (S × K) → Option (S × K) → Option (S × K) → Option (S × K) → ℕ → Type 0
+  ServesDemo made back made' back' code = ServesStdio made' back' code ⊎ ((code ≡ 12) × MakesNothing made back made' back')

@@ -1,0 +1,89 @@
+// The top call: from the words to the status.
+ghost use Rattle.std.specs.Prelude.{◌≡◌, ◌≢◌, ◌↔◌, IsTrue, map};
+ghost use Rattle.std.specs.String.{string_bytes};
+ghost use Rattle.virtd.specs.Demo.{demo, demo_words};
+ghost use Rattle.virtd.specs.Top.{MakesNothing, ServesDemo, ServesStdio, status};
+
+use crate::demo::demo_domain;
+use crate::say::{say_end, say_out_of_memory, say_usage};
+use crate::world::World;
+use session::{End, serve_fixed};
+use std::alloc::Global;
+use virt_types::{DomainRef, NoMemory};
+
+/// The words are those of no command.
+const USAGE: u8 = 2;
+
+/// There was no memory.
+const OUT_OF_MEMORY: u8 = 12;
+
+/// The status that says how a session ended.
+fn status_of(end: &End) -> u8
+    ensures { result ≡ status end.now }
+{
+    match end {
+        End::Eof => 0,
+        End::SourceFault | End::SinkFault => 5,
+        End::BadPacket(_) => 7,
+        End::Truncated { .. } => 8,
+        End::NoMemory => OUT_OF_MEMORY,
+    }
+}
+
+/// Serves the domain over standard input and output.
+fn serve_stdio<W: World>(alloc: Global, domain: &DomainRef, world: &mut W) -> u8
+    requires { domain.now ≡ demo }
+    ensures { ServesStdio W.S.left W.S.faults W.K.held W.K.faults (W.made world.new) (W.back world.new) result }
+{
+    let (mut source, sink) = world.stdio();
+    let (sink, end) = serve_fixed(alloc, domain, &mut source, sink);
+    world.ended(source, sink);
+    say_end(alloc, world, &end);
+    status_of(&end)
+}
+
+/// There was no memory before anything was made.
+pub(crate) fn out_of_memory<W: World>(world: &mut W) -> u8
+    ensures status { result ≡ 12 }
+    ensures nothing { MakesNothing (W.made world.old) (W.back world.old) (W.made world.new) (W.back world.new) }
+{
+    say_out_of_memory(world);
+    OUT_OF_MEMORY
+}
+
+/// `virtd demo`
+fn serve_demo<W: World>(alloc: Global, world: &mut W) -> u8
+    ensures { ServesDemo W.S.left W.S.faults W.K.held W.K.faults (W.made world.old) (W.back world.old)
+        (W.made world.new) (W.back world.new) result }
+{
+    match demo_domain(alloc) {
+        Ok(domain) => serve_stdio(alloc, &domain, world),
+        Err(NoMemory) => out_of_memory(world),
+    }
+}
+
+fn is_demo(words: &[String]) -> bool
+    ensures { IsTrue result ↔ (map string_bytes words.now ≡ demo_words) }
+{
+    match words {
+        [word] => word.as_str() == "demo",
+        _ => false,
+    }
+}
+
+/// Does what the words of the command line say, and answers the program's status: 0 where all is
+/// done, 2 for the words of no command, 5 for a fault of standard input or output, 7 for a bad
+/// packet, 8 for an input that ends inside a packet, and 12 for want of memory. Each but 0 has its
+/// line on standard error.
+pub fn virtd<W: World>(alloc: Global, words: &[String], world: &mut W) -> u8
+    ensures usage { (result ≡ 2) ↔ (map string_bytes words.now ≢ demo_words) }
+    ensures nothing { result ≡ 2 → MakesNothing (W.made world.old) (W.back world.old) (W.made world.new) (W.back world.new) }
+    ensures demo { map string_bytes words.now ≡ demo_words → ServesDemo W.S.left W.S.faults W.K.held W.K.faults
+        (W.made world.old) (W.back world.old) (W.made world.new) (W.back world.new) result }
+{
+    if is_demo(words) {
+        return serve_demo(alloc, world);
+    }
+    say_usage(world);
+    USAGE
+}
