@@ -1,9 +1,9 @@
 -- What is left of a payload, as the private steps of a reader hand it on.
-use Rattle.std.specs.Prelude.{◌≡◌, ℕ, List, Option, None, Some, Result, Ok, Err, IsOk}
+use Rattle.std.specs.Prelude.{◌≡◌, ℕ, List, None, Some, Result, Ok, Err, IsOk}
 use Rattle.std.specs.Borrow.{Bor}
 use Rattle.virt_types.specs.declared.memory.OrNoMemory.{OrNoMemory}
 use Rattle.virt_types.specs.declared.memory.OrNoMemory.TheVariants.{Fault, NoMemory}
-use Rattle.wire_spec.specs.XdrReading.{Left}
+use Rattle.wire_spec.specs.XdrReading.{Left, text_fault}
 use Rattle.wire_spec.specs.declared.fault.XdrFault.{XdrFault}
 use Rattle.xdr_codec.specs.declared.rest.Rest.{Rest}
 
@@ -36,10 +36,10 @@ abbrev pub Passes : Result Left XdrFault → Result Rest XdrFault → Type 0
 Passes read (Ok rest) = read ≡ Ok (seen rest)
 Passes read (Err f) = read ≡ Err f
 
--- a test found this fault, or none
-abbrev pub Finds : Option XdrFault → Result (Unit {0}) XdrFault → Type 0
-Finds fault (Ok _) = fault ≡ None
-Finds fault (Err f) = fault ≡ Some f
+-- the bytes from this place on are this text, or this is the first that is not UTF-8
+abbrev pub IsText : ℕ → List ℕ → Result (Bor (List ℕ)) XdrFault → Type 0
+IsText place bytes (Ok text) = (text_fault place bytes ≡ None) × (text.now ≡ bytes)
+IsText place bytes (Err f) = text_fault place bytes ≡ Some f
 
 -- bytes were copied, where there was memory
 abbrev pub Copies : Result (Bor (List ℕ) × Rest) XdrFault → Result (List ℕ × Rest) (OrNoMemory XdrFault) → Type 0

@@ -2,7 +2,7 @@
 ghost use Rattle.std.specs.Prelude.{◌≡◌, ◌+◌, ◌^◌, ◌<◌, ◌≤◌, length, position, IfOk};
 ghost use Rattle.wire_spec.specs.Xdr.{padding_length as padding_bytes};
 ghost use Rattle.wire_spec.specs.XdrReading.{behind_padding as behind_the_padding, first_bytes, first_fixed, first_length, first_opaque, first_string, is_set, text_fault};
-ghost use Rattle.xdr_codec.specs.Rest.{Finds, Passes, Slices, Steps, seen};
+ghost use Rattle.xdr_codec.specs.Rest.{IsText, Passes, Slices, Steps, seen};
 
 use crate::number::word;
 use crate::rest::Rest;
@@ -59,13 +59,13 @@ fn behind_padding(size: u32, rest: Rest<'_>) -> Result<Rest<'_>, XdrFault>
     }
 }
 
-// Whether the bytes, of which the first has this place, are UTF-8.
-fn utf8(place: u64, bytes: &[u8]) -> Result<(), XdrFault>
+// The text that the bytes are, of which the first has this place.
+fn utf8(place: u64, bytes: &[u8]) -> Result<&str, XdrFault>
     requires { place + length bytes.now < 2 ^ 64 }
-    ensures { Finds (text_fault place bytes.now) result }
+    ensures { IsText place bytes.now result }
 {
     match str::from_utf8(bytes) {
-        Ok(_) => Ok(()),
+        Ok(text) => Ok(text),
         Err(fault) => Err(XdrFault::Text {
             at: place + fault.valid_up_to() as u64,
         }),
@@ -107,12 +107,12 @@ pub(crate) fn opaque(most: u32, rest: Rest<'_>) -> Result<(&[u8], Rest<'_>), Xdr
 }
 
 #[tactic(auto, unfolding(wire_spec::specs::XdrReading::first_string))]
-pub(crate) fn string(most: u32, rest: Rest<'_>) -> Result<(&[u8], Rest<'_>), XdrFault>
+pub(crate) fn string(most: u32, rest: Rest<'_>) -> Result<(&str, Rest<'_>), XdrFault>
     ensures { Slices (first_string most (seen rest.entry)) result }
 {
     let (size, body) = size(most, rest)?;
-    let (text, behind) = bytes(rest.place, size, body)?;
-    utf8(body.place, text)?;
+    let (bytes, behind) = bytes(rest.place, size, body)?;
+    let text = utf8(body.place, bytes)?;
     let rest = behind_padding(size, behind)?;
     Ok((text, rest))
 }

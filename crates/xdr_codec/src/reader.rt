@@ -10,7 +10,7 @@ use crate::rest::Rest;
 use crate::{bytes, number};
 use std::alloc::Global;
 use std::marker::Model;
-use virt_types::{Bytes, OrNoMemory};
+use virt_types::{Bytes, OrNoMemory, Text};
 use wire_spec::XdrFault;
 
 /// Reads the items of a payload from its front. Contracts see the bytes that are left, and the
@@ -47,6 +47,19 @@ fn copied<'a>(
 {
     match step {
         Ok((bytes, rest)) => Ok((Bytes::copy_of(alloc, bytes)?, rest)),
+        Err(fault) => Err(OrNoMemory::Fault(fault)),
+    }
+}
+
+// Copies the text that a step found.
+fn copied_text<'a>(
+    alloc: Global,
+    step: Result<(&'a str, Rest<'a>), XdrFault>,
+) -> Result<(Text, Rest<'a>), OrNoMemory<XdrFault>>
+    ensures { Copies step.entry result }
+{
+    match step {
+        Ok((text, rest)) => Ok((Text::copy_of(alloc, text)?, rest)),
         Err(fault) => Err(OrNoMemory::Fault(fault)),
     }
 }
@@ -122,8 +135,19 @@ impl<'a> Reader<'a> {
         ensures value { AnswersOrNoMemory (IsString most) opaque self.old result self.new }
         ensures fault { ReadsOrNoMemory (first_string most) self.old result self.new }
     {
+        match self.take_text(alloc, most) {
+            Ok(text) => Ok(Bytes::of(text.into_string().into_bytes())),
+            Err(fault) => Err(fault),
+        }
+    }
+
+    /// Takes a string of at most `most` bytes (4.11) as the text that it is.
+    pub fn take_text(&mut self, alloc: Global, most: u32) -> Result<Text, OrNoMemory<XdrFault>>
+        ensures value { AnswersOrNoMemory (IsString most) opaque self.old result self.new }
+        ensures fault { ReadsOrNoMemory (first_string most) self.old result self.new }
+    {
         let found = bytes::string(most, self.rest);
-        let step = copied(alloc, found);
+        let step = copied_text(alloc, found);
         keep(&mut self.rest, step)
     }
 
