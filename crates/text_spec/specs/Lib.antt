@@ -1,0 +1,10 @@
+pub mod Character
+pub mod Reading
+pub mod Name
+pub mod Reference
+pub mod Aside
+pub mod Declaration
+pub mod Tag
+pub mod Tree
+pub mod Element
+pub mod Text
