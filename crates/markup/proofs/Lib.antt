@@ -1,0 +1,9 @@
+mod Attributes
+mod Characters
+mod Contents
+mod Lengths
+mod Miscellany
+mod NameSets
+mod Runs
+mod Values
+mod Whole
