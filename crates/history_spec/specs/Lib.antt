@@ -1,0 +1,4 @@
+pub mod Front
+pub mod Chapter
+pub mod Begins
+pub mod Pass

@@ -1,0 +1,75 @@
+-- What each step of a seat tells it.
+use Rattle.std.specs.Prelude.{◌≡◌, ℕ, ◌+◌, ◌≤◌, ◌==◌, Bool, true, false, nat_lt, List, [], ◌∷◌, Option, Some, MatchBool}
+use Rattle.atomic_table.specs.Table.{Step, Me, rest}
+use Rattle.history_spec.specs.declared.history.Ended.{Ended}
+use Rattle.history_spec.specs.Pass.{mine_after, held_after}
+use Rattle.turn_cell.specs.Meaning.{Meaning}
+use Rattle.turn_cell.specs.Known.{IsBegun, HasMarks}
+use Rattle.turn_cell.specs.declared.view.Stage.{Stage}
+use Rattle.turn_cell.specs.declared.view.Stage.TheVariants.{Idle, Waiting, Holding, Published}
+use Rattle.turn_cell.specs.declared.view.Knows.{Knows}
+use Rattle.turn_cell.specs.declared.view.View.{View}
+
+module _ {T B M S : Type 0} where
+  abbrev pub with_stage : View T B M S → Stage T → View T B M S
+  with_stage v stage = record v { stage = stage }
+
+  abbrev pub drawn_if : Bool → View T B M S → ℕ → View T B M S
+  drawn_if true v n = record v { stage = Waiting n; turns = v.turns + 1 }
+  drawn_if false v n = record v { spent = true }
+
+  -- the view after it drew this number: it has a ticket, or is spent
+  abbrev pub drawn : View T B M S → ℕ → View T B M S
+  drawn v n = drawn_if (nat_lt n 4611686018427387904) v n
+
+  abbrev pub draws : Step (Option T) → Me (Option T) (View T B M S) → ℕ → Me (Option T) (View T B M S) → Type 0
+  draws st me found now = now ≡ (drawn me.0 found, me.1)
+
+  -- passing on: the ticket is given up, and the slot
+  abbrev pub passes_on : Step (Option T) → Me (Option T) (View T B M S) → ℕ → Me (Option T) (View T B M S) → Type 0
+  passes_on st me found now = now ≡ (with_stage me.0 Idle, rest me.1)
+
+module _ {T B M S : Type 0} (K : Meaning T B M S) where
+  -- the marks that are kept for ended numbers are all that they have, and nothing else is kept for them
+  abbrev pub HasEnded : T → List (Ended M) → Type 0
+  HasEnded value [] = Unit {0}
+  HasEnded value (e ∷ es) = HasMarks K e.number e.mine (K.history value) × (K.share value e.number ≡ K.nothing) × HasEnded value es
+
+  -- what a pass finds in the value, in the turn of its ticket
+  pub record Finds (value : T) (t : ℕ) (k : Knows B M S) : Type 0 where
+    pub seen : IsBegun K k.seen (K.history value)
+    pub chapter : (K.history value).chapter ≤ t
+    pub mine : k.named ≡ true → HasMarks K k.number k.mine (K.history value)
+    pub share : k.named ≡ true → K.share value k.number ≡ k.share
+    pub held : IsBegun K k.held k.seen
+    pub own : k.named ≡ true → HasMarks K k.number k.mine k.seen
+    pub ended : HasEnded value k.ended
+
+  abbrev pub Takes : ℕ → Me (Option T) (View T B M S) → Me (Option T) (View T B M S) → Type 0
+  Takes t me now = (value : T) × (now ≡ (with_stage me.0 (Holding t value), (0, Some value) ∷ me.1)) × Finds value t me.0.knows
+
+  abbrev pub LooksFrom : Me (Option T) (View T B M S) → ℕ → Me (Option T) (View T B M S) → Stage T → Type 0
+  LooksFrom me found now (Waiting t) = MatchBool (found == t) (Takes t me now) (now ≡ me)
+  LooksFrom me found now other = now ≡ me
+
+  -- looking: where the number found is the ticket, the value is taken
+  abbrev pub looks : Step (Option T) → Me (Option T) (View T B M S) → ℕ → Me (Option T) (View T B M S) → Type 0
+  looks st me found now = LooksFrom me found now me.0.stage
+
+  -- what a pass knows once it has left a value where it found another
+  abbrev pub knows_after : T → T → Knows B M S → Knows B M S
+  knows_after found left k = let a = K.history found in let b = K.history left in record k {
+    seen = b;
+    met = (b, b);
+    mine = mine_after K.whose k.number a b k.mine;
+    held = held_after K.whose k.number a b k.held;
+    share = K.share left k.number;
+  }
+
+  abbrev pub left_at : Stage T → View T B M S → T → View T B M S
+  left_at (Holding t found) v value = record v { stage = Published t value; knows = knows_after found value v.knows }
+  left_at other v value = v
+
+  -- publishing: the value that was put into the slot is the one that counts
+  abbrev pub publishes : Step (Option T) → Me (Option T) (View T B M S) → ℕ → Me (Option T) (View T B M S) → Type 0
+  publishes st me found now = (value : T) → me.1 ≡ (0, Some value) ∷ [] → now ≡ (left_at me.0.stage me.0 value, me.1)

@@ -1,0 +1,125 @@
+ghost use Rattle.std.specs.Prelude.{◌≡◌, ◌≢◌, ℕ, ◌≤◌, ◌<◌, ◌+◌, ◌^◌, false, true, IfOk, IfErr};
+ghost use Rattle.history_spec.specs.Chapter.{GoesOn, added};
+ghost use Rattle.history_spec.specs.Pass.{AreOf};
+ghost use Rattle.turn_cell.specs.Known.{IsBegun, HasMarks};
+ghost use Rattle.turn_cell.specs.Passes.{IsFirst, Enters, left_by, SameShare, Closes, KeepsNothing};
+
+use crate::kept::Kept;
+use crate::plays::{InTurns, ViewOf};
+use crate::steps::{draw, pass_on, wait_for};
+use crate::turn::{Pass, PassOf, Turn, TurnOf};
+use atomic_table::{Refused, Table};
+use std::alloc::{AllocError, Global};
+use std::marker::Model;
+use std::snapshot::Snapshot;
+use std::sync::Wait;
+
+/// The first number that is no ticket.
+const LAST: u64 = 1 << 62;
+
+/// A value that is changed in turns. Contracts see which cell it is.
+#[derive(Drop)]
+pub struct TurnCell<T: Kept> {
+    table: Table<Option<T>, ViewOf<T>, Snapshot<T>, InTurns<T>, Global>,
+}
+
+impl<T: Kept> Model for TurnCell<T> {
+    ghost use Rattle.std.specs.Prelude.{◌≡◌};
+    ghost use Rattle.atomic_table.specs.Seated.{TableId, table_id_coded};
+
+    ghost Value = { TableId };
+
+    ghost coded = { table_id_coded };
+
+    ghost view = { λ c. c.table.shared.table_id };
+
+    ghost invariant = { λ c. (c.table.shared.table_id.words ≡ 3) × (c.table.shared.table_id.slots ≡ 1) };
+}
+
+/// There was no memory.
+#[derive(Clone, Copy, Debug, PartialEq, Eq)]
+pub struct NoMemory;
+
+/// All tickets are used up: the word that gives them has reached this number, 2^62.
+#[derive(Clone, Copy, Debug, PartialEq, Eq)]
+pub struct Spent {
+    pub ticket: u64,
+}
+
+impl<T: Kept + Drop> TurnCell<T> {
+    /// A cell with this value, whose first turn has this ticket, and its first pass, of number 0.
+    /// Where there is no memory the value comes back.
+    pub fn new_at(
+        alloc: Global,
+        value: T,
+        first_ticket: u64,
+    ) -> Result<(TurnCell<T>, PassOf<T>), (T, NoMemory)>
+        requires ticket { first_ticket ≤ 2 ^ 62 }
+        requires chapter { (T.meaning.history value).chapter ≤ first_ticket }
+        requires marks { AreOf T.meaning.whose 0 (T.meaning.history value).marks }
+        requires share { KeepsNothing T.meaning value }
+        ensures cell { IfOk result (λ made. made.1.cell ≡ made.0) }
+        ensures pass { IfOk result (λ made. IsFirst T.meaning value made.1) }
+        ensures err { IfErr result (λ e. e.0 ≡ value) }
+    {
+        let about = Snapshot::of(&value);
+        let mut slots = match Vec::with_capacity(alloc, 1) {
+            Ok(slots) => slots,
+            Err(AllocError) => return Err((value, NoMemory)),
+        };
+        let marks = value.marks();
+        slots.push_reserved(Some(value));
+        match Table::new(alloc, &[first_ticket, first_ticket, marks], slots, &about) {
+            Ok((table, seat)) => Ok((TurnCell { table }, Pass { seat, spent: false })),
+            Err(Refused { mut slots }) => Err((slots.pop().flatten().unwrap(), NoMemory)),
+        }
+    }
+
+    /// Waits for the pass's turn, and takes the value. A pass is `Spent` where no ticket is left,
+    /// and stays so. The ticket word has then reached the number in it.
+    pub fn enter<R: Wait>(&self, rt: &R, pass: PassOf<T>) -> Result<TurnOf<T>, (PassOf<T>, Spent)>
+        requires own { pass.cell ≡ self.now }
+        ensures turn { IfOk result (λ turn. Enters T.meaning pass turn) }
+        ensures spent { IfErr result (λ e. e.0 ≡ record pass { spent = true }) }
+        ensures ticket { IfErr result (λ e. e.1.ticket ≡ 2 ^ 62) }
+    {
+        let Pass { mut seat, spent } = pass;
+        if spent {
+            return Err((Pass { seat, spent }, Spent { ticket: LAST }));
+        }
+        let ticket = draw(&self.table.shared, &mut seat);
+        if ticket >= LAST {
+            return Err((Pass { seat, spent: true }, Spent { ticket: LAST }));
+        }
+        let value = wait_for(rt, &self.table.shared, &mut seat, ticket);
+        Ok(Turn { seat, value })
+    }
+
+    /// Ends the turn, and leaves what its value is now. Marks may have been added, or the next
+    /// chapter begun, and nothing that another pass keeps there may have changed.
+    pub fn leave(&self, turn: TurnOf<T>) -> PassOf<T>
+        requires own { turn.pass.cell ≡ self.now }
+        requires goes_on { GoesOn (T.meaning.next_base turn.entry) (T.meaning.history turn.entry) (T.meaning.history turn.value) }
+        requires marks { AreOf T.meaning.whose turn.pass.number (added (T.meaning.history turn.entry) (T.meaning.history turn.value)) }
+        requires others { SameShare T.meaning turn.pass.number turn.entry turn.value }
+        ensures { result ≡ left_by T.meaning turn }
+    {
+        let Turn { mut seat, value } = turn;
+        pass_on(&self.table.shared, &mut seat, value);
+        Pass { seat, spent: false }
+    }
+
+    /// Takes the value back out, with the last pass.
+    pub fn close(self, pass: PassOf<T>) -> T
+        requires own { pass.cell ≡ self }
+        requires last { pass.parts ≡ 2 ^ 62 }
+        ensures { Closes T.meaning pass result }
+    {
+        let TurnCell { table } = self;
+        let Pass { seat, spent: _ } = pass;
+        let mut closed = table.close_with(seat);
+        let value = closed.take(0);
+        closed.free();
+        value.unwrap()
+    }
+}

@@ -1,0 +1,15 @@
+//! A value that callers change in turns, each turn on a ticket of its own. The turns form one
+//! history, and each pass knows how far it has seen it and which marks there are its own.
+#![tactic(auto)]
+
+mod cell;
+mod kept;
+mod plays;
+mod steps;
+mod turn;
+mod view;
+
+pub use cell::{NoMemory, Spent, TurnCell};
+pub use kept::Kept;
+pub use turn::{Pass, PassOf, Turn, TurnOf};
+pub use view::{Knows, Stage, View};

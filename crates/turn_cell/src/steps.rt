@@ -1,0 +1,80 @@
+//! The steps of a turn, each on a table's shared part.
+ghost use Rattle.std.specs.Prelude.{◌≡◌, ◌<◌, true, false, [], ◌∷◌, MatchBool, None};
+ghost use Rattle.turn_cell.specs.declared.view.Stage.TheVariants.{Idle, Waiting, Holding};
+ghost use Rattle.turn_cell.specs.Steps.{drawn, Takes, left_at, with_stage};
+ghost use Rattle.turn_cell.specs.Passes.{HasTurn, Leaves};
+
+use crate::kept::Kept;
+use crate::plays::{Draw, InTurns, Look, PassOn, Publish, ViewOf};
+use atomic_table::{Seat, Shared};
+use std::snapshot::Snapshot;
+use std::sync::Wait;
+use std::thread::yield_now;
+
+/// The word that gives the tickets.
+const NEXT: usize = 0;
+
+/// The word with the ticket that has the turn.
+const SERVING: usize = 1;
+
+/// The word with the number of marks of the chapter.
+const FRONT: usize = 2;
+
+pub(crate) type Board<T> = Shared<Option<T>, ViewOf<T>, Snapshot<T>, InTurns<T>>;
+
+pub(crate) type Place<T> = Seat<Option<T>, ViewOf<T>>;
+
+/// Draws a ticket.
+pub(crate) fn draw<T: Kept>(board: &Board<T>, seat: &mut Place<T>) -> u64
+    requires own { (seat.old.table_id ≡ board.now.table_id) × (board.now.table_id.words ≡ 3) }
+    requires idle { (seat.old.me.0.stage ≡ Idle) × (seat.old.me.0.spent ≡ false) }
+    requires parts { 0 < seat.old.me.0.knows.parts }
+    ensures seat { (seat.new.table_id ≡ seat.old.table_id) × (seat.new.id ≡ seat.old.id) }
+    ensures drawn { seat.new.me ≡ (drawn seat.old.me.0 result, seat.old.me.1) }
+{
+    board.fetch_add::<Draw>(seat, NEXT, 1)
+}
+
+/// Looks whether the ticket is served, and if so has the slot.
+fn look<T: Kept>(board: &Board<T>, seat: &mut Place<T>, ticket: u64) -> bool
+    requires own { (seat.old.table_id ≡ board.now.table_id) × (board.now.table_id.words ≡ 3) }
+    requires waits { seat.old.me.0.stage ≡ Waiting ticket }
+    ensures seat { (seat.new.table_id ≡ seat.old.table_id) × (seat.new.id ≡ seat.old.id) }
+    ensures looked { MatchBool result (Takes T.meaning ticket seat.old.me seat.new.me) (seat.new.me ≡ seat.old.me) }
+{
+    board.load::<Look<T>>(seat, SERVING) == ticket
+}
+
+/// Waits until the ticket is served, and takes the value.
+pub(crate) fn wait_for<T: Kept + Drop, R: Wait>(
+    rt: &R,
+    board: &Board<T>,
+    seat: &mut Place<T>,
+    ticket: u64,
+) -> T
+    requires own { (seat.old.table_id ≡ board.now.table_id) × (board.now.table_id.words ≡ 3) }
+    requires waits { (seat.old.me.0.stage ≡ Waiting ticket) × (seat.old.me.1 ≡ []) }
+    ensures seat { (seat.new.table_id ≡ seat.old.table_id) × (seat.new.id ≡ seat.old.id) }
+    ensures turn { HasTurn T.meaning ticket seat.old.me seat.new.me result }
+{
+    for _ in rt.forever() {
+        if look(board, seat, ticket) {
+            return board.exchange(seat, 0, None).unwrap();
+        }
+        yield_now();
+    }
+    unreachable!()
+}
+
+/// Puts the value back, publishes it, and passes the turn on.
+pub(crate) fn pass_on<T: Kept + Drop>(board: &Board<T>, seat: &mut Place<T>, value: T)
+    requires own { (seat.old.table_id ≡ board.now.table_id) × (board.now.table_id.words ≡ 3) }
+    requires turn { Leaves T.meaning seat.old.me value }
+    ensures seat { (seat.new.table_id ≡ seat.old.table_id) × (seat.new.id ≡ seat.old.id) }
+    ensures left { seat.new.me ≡ (with_stage (left_at T.meaning seat.old.me.0.stage seat.old.me.0 value) Idle, []) }
+{
+    let marks = value.marks();
+    drop(board.exchange(seat, 0, Some(value)));
+    board.store::<Publish<T>>(seat, FRONT, marks);
+    board.fetch_add::<PassOn>(seat, SERVING, 1);
+}
