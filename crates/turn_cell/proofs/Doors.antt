@@ -2,7 +2,7 @@
 use Rattle.std.proofs.Common.{◌≡◌, ◌≢◌, ℕ, ◌+◌, ◌^◌, ◌<◌, ◌≤◌, Bool, true, false, true≢false, cond, ltb, List, [], ◌∷◌, length, get_or, set, Option, None, Some, refl, sym, ap, ◌∙◌, subst, ⊎_elim, inl, inr, arith, le_refl, length-set}
 use Rattle.std.specs.Prelude.{sum_by}
 use Rattle.std.proofs.lemmas.List.Sums.{sum_by-le-sum_by}
-use Rattle.std.proofs.lemmas.Bool.{ltb-true, cases_lt}
+use Rattle.std.proofs.lemmas.Bool.{ltb-true, ltb-false, cases_lt}
 use mathlib.Core.Option.{some, none}
 use lib.ListN.{get_elem?}
 use Rattle.atomic_table.specs.Table.{State, opening}
@@ -106,8 +106,8 @@ module _ {T B M S : Type 0} (K : Meaning T B M S) where
   small s x d = omega (arith, d.bounded, d.all_parts, sum_by-le-sum_by spent_parts parts_of s.views spent_le)
 
   drawn_fits : (b : Bool) (v : View T B M S) (serving n : ℕ) (x : T) → ltb n 4611686018427387904 ≡ b → v.stage ≡ Idle → 0 < parts_of v → serving ≤ n → Fits K serving n x v → Fits K serving (n + 1) x (drawn_if b v n)
-  drawn_fits true v serving n x is idle some_parts le f = record { stage = (le, omega arith, ltb-true _ _ is); used_up = λ e. absurd (omega arith) }
-  drawn_fits false v serving n x is idle some_parts le f = record { stage = later_next serving n (n + 1) x v.stage (omega arith) f.stage; used_up = f.used_up }
+  drawn_fits true v serving n x is idle some_parts le f = record { stage = (le, omega arith, ltb-true _ _ is); used_up = λ e. absurd (omega arith); spent = λ e. let k = f.spent e in omega arith }
+  drawn_fits false v serving n x is idle some_parts le f = record { stage = later_next serving n (n + 1) x v.stage (omega arith) f.stage; used_up = f.used_up; spent = λ e. let k = ltb-false _ _ is in omega arith }
 
   -- a view that has no turn before and after
   pub placed_away : (s : St) (words : List ℕ) (id : ℕ) (v w : View T B M S) (x : T) → get_or words 1 0 ≡ get_or s.words 1 0 → has_turn v.stage ≡ false → has_turn w.stage ≡ false → get_elem? s.views id ≡ some v → Placed K s x → Placed K record { words = words; homes = s.homes; views = set s.views id w } x
@@ -132,7 +132,7 @@ module _ {T B M S : Type 0} (K : Meaning T B M S) where
         all_parts = same_sum parts_of s.views id v w at (drawn_parts b v n) ∙ d.all_parts;
         bounded = rw next (drawn_bounded b v n (sum_by spent_parts s.views) (sum_by spent_parts (set s.views id w)) refl fresh some_parts (sum_set spent_parts s.views id v w at) d.bounded);
         each = rw (next, serving) (each_set (λ _ u. Fits K (get_or s.words 1 0) (n + 1) x u) s.views id w (drawn_fits b v (get_or s.words 1 0) n x refl idle some_parts d.order (d.each id v at))
-            (λ j u _ e. let f = d.each j u e in record { stage = later_next (get_or s.words 1 0) n (n + 1) x u.stage (omega arith) f.stage; used_up = f.used_up }));
+            (λ j u _ e. let f = d.each j u e in record { stage = later_next (get_or s.words 1 0) n (n + 1) x u.stage (omega arith) f.stage; used_up = f.used_up; spent = λ e. let k = f.spent e in omega arith }));
         apart = each_pair s.views id w d.apart (λ j u t _ e a k. omega (arith, drawn_ticket b v n t idle a, ticket_below (get_or s.words 1 0) n x u.stage t (d.each j u e).stage k));
         placed = placed_away s words id v w x serving (ap has_turn idle) (drawn_out b v n idle) at d.placed;
       }
@@ -166,7 +166,7 @@ module _ {T B M S : Type 0} (K : Meaning T B M S) where
         all_parts = same_sum parts_of s.views id v w at refl ∙ d.all_parts;
         bounded = omega (arith, d.bounded, same_sum spent_parts s.views id v w at refl);
         each = each_set (λ _ u. Fits K (get_or s.words 1 0) (get_or s.words 0 0) x u) s.views id w
-            (record { stage = (sym served, drawn_t, refl, (at_home s x d id v t at is served).1); used_up = λ e. let k : v.stage ≡ Idle = fits.used_up e in absurd cc })
+            (record { stage = (sym served, drawn_t, refl, (at_home s x d id v t at is served).1); used_up = λ e. let k : v.stage ≡ Idle = fits.used_up e in absurd cc; spent = fits.spent })
             (λ j u _ e. d.each j u e);
         apart = each_pair s.views id w d.apart (λ j u k ne e a b. let same : t ≡ k = cc in ne (d.apart j id u v t e at (b ∙ ap Some (sym same)) (ap ticket is)));
         placed = inr (id, w, set_here s.views id w (at_length s.views id v at), refl);
@@ -196,8 +196,8 @@ module _ {T B M S : Type 0} (K : Meaning T B M S) where
         all_parts = same_sum parts_of s.views id v w at parts ∙ d.all_parts;
         bounded = omega (arith, next, d.bounded, same_sum spent_parts s.views id v w at (ap (λ (p : ℕ). cond v.spent p 0) parts));
         each = rw (next, serving) (each_set (λ _ u. Fits K (get_or s.words 1 0) (get_or s.words 0 0) left u) s.views id w
-            (record { stage = (f.0, f.1, refl, omega (arith, risen, f.3)); used_up = λ e. absurd (omega arith) })
-            (λ j u ne e. record { stage = of_any_value _ _ x left u.stage (others_wait s x d id v at mine j u ne e) (d.each j u e).stage; used_up = (d.each j u e).used_up }));
+            (record { stage = (f.0, f.1, refl, omega (arith, risen, f.3)); used_up = λ e. absurd (omega arith); spent = (d.each id v at).spent })
+            (λ j u ne e. record { stage = of_any_value _ _ x left u.stage (others_wait s x d id v at mine j u ne e) (d.each j u e).stage; used_up = (d.each j u e).used_up; spent = (d.each j u e).spent }));
         apart = each_pair s.views id w d.apart (λ j u n ne e a b. others_wait s x d id v at mine j u ne e (let same : t ≡ n = cc in b ∙ ap Some (sym same ∙ f.0)));
         placed = inr (id, w, set_here s.views id w (at_length s.views id v at), refl);
       }
@@ -219,8 +219,8 @@ module _ {T B M S : Type 0} (K : Meaning T B M S) where
         all_parts = same_sum parts_of s.views id v w at refl ∙ d.all_parts;
         bounded = omega (arith, next, d.bounded, same_sum spent_parts s.views id v w at refl);
         each = rw (next, serving) (each_set (λ _ u. Fits K (n + 1) (get_or s.words 0 0) x u) s.views id w
-            (record { stage = tt; used_up = λ e. refl })
-            (λ j u ne e. record { stage = of_next_turn n _ x u.stage (others_wait s x d id v at mine j u ne e) (d.each j u e).stage; used_up = (d.each j u e).used_up }));
+            (record { stage = tt; used_up = λ e. refl; spent = (d.each id v at).spent })
+            (λ j u ne e. record { stage = of_next_turn n _ x u.stage (others_wait s x d id v at mine j u ne e) (d.each j u e).stage; used_up = (d.each j u e).used_up; spent = (d.each j u e).spent }));
         apart = each_pair s.views id w d.apart (λ j u k ne e a b. absurd cc);
         placed = inl (
           set_here s.homes 0 (some (Some x)) (omega (arith, d.homes)),
@@ -239,7 +239,7 @@ module _ {T B M S : Type 0} (K : Meaning T B M S) where
     front = refl;
     all_parts = refl;
     bounded = omega (arith, le);
-    each = λ i v e. subst (Fits K first first x) (only (newcomer K x) i v e).1 (record { stage = tt; used_up = λ e. refl });
+    each = λ i v e. subst (Fits K first first x) (only (newcomer K x) i v e).1 (record { stage = tt; used_up = λ e. refl; spent = λ e. absurd cc });
     apart = λ i j v w t a b e k. let none : ticket v.stage ≡ None = ap (λ (z : View T B M S). ticket z.stage) (sym (only (newcomer K x) i v a).1) in absurd cc;
     placed = inl (refl, chapter, λ i v e. ap (λ (z : View T B M S). has_turn z.stage) (sym (only (newcomer K x) i v e).1));
   }

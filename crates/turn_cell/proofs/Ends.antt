@@ -67,6 +67,7 @@ module _ {T B M S : Type 0} (K : Meaning T B M S) where
         mine = finds.mine named;
         share = finds.share named;
         ended = finds.ended;
+        apart = finds.apart named;
         held = finds.held;
         own = finds.own named;
         chapter = finds.chapter;

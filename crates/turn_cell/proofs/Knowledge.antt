@@ -16,7 +16,7 @@ use Rattle.history_spec.proofs.Beginnings.{prefix_itself, prefix_through, begins
 use Rattle.history_spec.proofs.Marks.{in_chapter-append, in_chapter-here, in_chapter-other, own-append, own-of_others, added-same, added-next}
 use Rattle.turn_cell.specs.Meaning.{Meaning, NoMarkLowers, NewBaseKeeps}
 use Rattle.turn_cell.specs.declared.view.Knows.{Knows}
-use Rattle.turn_cell.specs.Known.{IsBegun, own_in, HasMarks, IsAmong, IsEnded, AllEnded, Knowing, Stands, Known}
+use Rattle.turn_cell.specs.Known.{IsBegun, own_in, HasMarks, IsAmong, AreApart, AllEnded, Knowing, Stands, Known}
 use Rattle.turn_cell.specs.Steps.{HasEnded, Finds, knows_after}
 use Rattle.turn_cell.specs.Passes.{SameShare, KeepsNothing, BelongsTo, AreAmong}
 use Rattle.turn_cell.proofs.Views.{each_set, at_length, one_at, only}
@@ -98,28 +98,36 @@ module _ {T B M S : Type 0} (K : Meaning T B M S) where
   held_begins lowers [] h held p = p
   held_begins lowers (m ∷ ms) h held p = begins_itself K.rising h
 
-  -- the ended numbers of a view are none of the living
-  ended_apart : (value : T) (marks_of : ℕ → List (ℕ × M)) (all : List (Knows B M S)) (id : ℕ) (k : Knows B M S) (e : Ended M) → get_elem? all id ≡ some k → 0 < k.parts → IsEnded K value marks_of all e → e.number ≢ id
-  ended_apart value marks_of all id k e at some_parts h same = let none : k.parts ≡ 0 = h.used_up k (ap (λ (i : ℕ). get_elem? all i) same ∙ at) in omega arith
+  -- ended numbers stay so, where the value keeps their shares, their marks are the same, and no used-up view comes back
+  pub ended_moved : (value now : T) (marks_of marks : ℕ → List (ℕ × M)) (all after : List (Knows B M S)) → length all ≤ length after
+      → ((n : ℕ) → n < length all → ((u : Knows B M S) → get_elem? all n ≡ some u → u.parts ≡ 0) → (marks_of n ≡ marks n) × (K.share now n ≡ K.share value n) × ((u : Knows B M S) → get_elem? after n ≡ some u → u.parts ≡ 0))
+      → (es : List (Ended M)) → AllEnded K value marks_of all es → AllEnded K now marks after es
+  ended_moved value now marks_of marks all after long kept [] h = tt
+  ended_moved value now marks_of marks all after long kept (e ∷ es) h =
+      let k = kept e.number h.0.made h.0.used_up in
+      (record { mine = h.0.mine ∙ k.0; share = k.1 ∙ h.0.share; made = omega (arith, h.0.made, long); used_up = k.2 }, ended_moved value now marks_of marks all after long kept es h.1)
+
+  -- a view that is not used up is no ended number
+  pub living_apart : (all : List (Knows B M S)) (id n : ℕ) (k : Knows B M S) → get_elem? all id ≡ some k → 0 < k.parts → ((u : Knows B M S) → get_elem? all n ≡ some u → u.parts ≡ 0) → n ≢ id
+  living_apart all id n k at some_parts none same = let zero_parts : k.parts ≡ 0 = none k (ap (λ (i : ℕ). get_elem? all i) same ∙ at) in omega arith
 
   ended_after : (found left : T) (marks_of : ℕ → List (ℕ × M)) (more : List (ℕ × M)) (all : List (Knows B M S)) (id n : ℕ) (k w : Knows B M S) → get_elem? all id ≡ some k → 0 < k.parts → n ≡ id → SameShare K n found left
       → (es : List (Ended M)) → AllEnded K found marks_of all es → AllEnded K left (marks_after marks_of id more) (set all id w) es
-  ended_after found left marks_of more all id n k w at some_parts is others [] h = tt
-  ended_after found left marks_of more all id n k w at some_parts is others (e ∷ es) h =
-      let ne : e.number ≢ id = ended_apart found marks_of all id k e at some_parts h.0 in (
-        record {
-          mine = h.0.mine ∙ sym (marks_after-other marks_of id more e.number ne);
-          share = others e.number (λ x. ne (x ∙ is)) ∙ h.0.share;
-          made = omega (arith, h.0.made, length-set all id w);
-          used_up = λ u there. h.0.used_up u (sym (set_else all id e.number w ne) ∙ there);
-        },
-        ended_after found left marks_of more all id n k w at some_parts is others es h.1,
-      )
+  ended_after found left marks_of more all id n k w at some_parts is others = ended_moved found left marks_of (marks_after marks_of id more) all (set all id w) (omega (arith, length-set all id w))
+      (λ i l none. let ne : i ≢ id = living_apart all id i k at some_parts none in (sym (marks_after-other marks_of id more i ne), others i (λ x. ne (x ∙ is)), λ u there. none u (sym (set_else all id i w ne) ∙ there)))
 
-  stands_same : (k u : Knows B M S) (j id i : ℕ) → j ≡ id → u ≡ k → Stands i j u → Stands i id k
+  -- a view that stands where the old ones stood, with the same ended ones
+  pub same_ended : (all : List (Knows B M S)) (id : ℕ) (k w : Knows B M S) → get_elem? all id ≡ some k → w.ended ≡ k.ended → 0 < k.parts → (i n : ℕ) (a : Knows B M S) → get_elem? (set all id w) i ≡ some a → 0 < a.parts → IsAmong n a.ended
+      → (b : Knows B M S) × (get_elem? all i ≡ some b) × (0 < b.parts) × IsAmong n b.ended
+  same_ended all id k w at e some_parts i n a there parts among = ⊎_elim
+      (λ (x : (i ≡ id) × (w ≡ a)). (k, ap (λ (j : ℕ). get_elem? all j) x.0 ∙ at, some_parts, subst (IsAmong n) (ap (λ (u : Knows B M S). u.ended) (sym x.1) ∙ e) among))
+      (λ (x : (i ≢ id) × (get_elem? all i ≡ some a)). (a, x.1, parts, among))
+      (at_set all id i w a there)
+
+  pub stands_same : (k u : Knows B M S) (j id i : ℕ) → j ≡ id → u ≡ k → Stands i j u → Stands i id k
   stands_same k u j id i e same h = subst (λ (z : ℕ × Knows B M S). Stands i z.0 z.1) (λ n. (e n, same n)) h
 
-  named_number : (b : Bool) (n i : ℕ) → b ≡ true → MatchBool b (n ≡ i) (n < i) → n ≡ i
+  pub named_number : (b : Bool) (n i : ℕ) → b ≡ true → MatchBool b (n ≡ i) (n < i) → n ≡ i
   named_number true n i is h = h
   named_number false n i is h = absurd cc
 
@@ -169,6 +177,7 @@ module _ {T B M S : Type 0} (K : Meaning T B M S) where
               later = later_id;
               others = λ j. same_prefix (own_in K j b) (in_chapter b.chapter (marks j)) (whole j);
               ended = ended_after found left marks_of more all id k.number k w at some_parts is others k.ended mine.ended;
+              once = mine.once;
             })
             (λ j u ne there parts. let theirs = g.each j u there parts in record {
               seen = through u.seen a b theirs.seen begun;
@@ -181,6 +190,7 @@ module _ {T B M S : Type 0} (K : Meaning T B M S) where
               later = theirs.later;
               others = λ i. prefix_through (own_in K i u.seen) (in_chapter u.seen.chapter (marks_of i)) (in_chapter u.seen.chapter (marks i)) (theirs.others i) (marks_grow marks_of id more u.seen.chapter i);
               ended = ended_after found left marks_of more all id k.number k w at some_parts is others u.ended theirs.ended;
+              once = theirs.once;
             });
         one_history = λ i j x y e f p q. ⊎_elim
             (λ (z : (i ≡ id) × (w ≡ x)). inr (subst (λ (r : Knows B M S). IsBegun K y.seen r.seen) z.1 (begins_left j y f q)))
@@ -189,6 +199,7 @@ module _ {T B M S : Type 0} (K : Meaning T B M S) where
             (λ (r : (j ≢ id) × (get_elem? all j ≡ some y)). g.one_history i j x y z.1 r.1 p q)
             (at_set all id j w y f))
             (at_set all id i w x e);
+        joined_once = λ i j x y n e f p q m o. let u = same_ended all id k w at refl some_parts i n x e p m in let v = same_ended all id k w at refl some_parts j n y f q o in g.joined_once i j u.0 v.0 n u.1 v.1 u.2 v.2 u.3 v.3;
         whole = whole;
         no_later = no_later;
         unmade = λ i le. let far : i ≢ id = λ e. omega (arith, at_length all id k at, length-set all id w) in let before = g.unmade i (omega (arith, length-set all id w)) in
@@ -228,10 +239,12 @@ module _ {T B M S : Type 0} (K : Meaning T B M S) where
         later = first_marks-later x 0;
         others = λ j. same_prefix (own_in K j h) (in_chapter h.chapter (first_marks kept j)) (first_marks-has x j are);
         ended = tt;
+        once = tt;
       }) in
       record {
         each = λ i u e parts. let o = only k i u e in subst (λ (z : ℕ × Knows B M S). Knowing K x (first_marks kept) (k ∷ []) z.0 z.1) (λ n. (sym o.0 n, o.1 n)) first;
         one_history = λ i j u w e f p q. let o = only k i u e in let r = only k j w f in inl (subst (λ (z : Knows B M S × Knows B M S). IsBegun K z.0.seen z.1.seen) (λ n. (o.1 n, r.1 n)) (begins_itself K.rising k.seen));
+        joined_once = λ i j u w n e f p q a b. let o = only k i u e in let r = only k j w f in omega (arith, o.0, r.0);
         whole = λ i. first_marks-has x i are;
         no_later = first_marks-later x;
         unmade = λ i le. (first_marks-none kept i le, nothing i le);
@@ -241,6 +254,17 @@ module _ {T B M S : Type 0} (K : Meaning T B M S) where
   ended_has : (value : T) (marks_of : ℕ → List (ℕ × M)) (all : List (Knows B M S)) → ((i : ℕ) → HasMarks K i (marks_of i) (K.history value)) → (es : List (Ended M)) → AllEnded K value marks_of all es → HasEnded K value es
   ended_has value marks_of all whole [] h = tt
   ended_has value marks_of all whole (e ∷ es) h = (whole e.number ∙ ap (in_chapter (K.history value).chapter) (sym h.0.mine), h.0.share, ended_has value marks_of all whole es h.1)
+
+  -- no ended number is that of a living view
+  pub among_ended : (value : T) (marks_of : ℕ → List (ℕ × M)) (all : List (Knows B M S)) (n : ℕ) (es : List (Ended M)) → AllEnded K value marks_of all es → IsAmong n es → (u : Knows B M S) → get_elem? all n ≡ some u → u.parts ≡ 0
+  among_ended value marks_of all n [] h m u at = absurd m
+  among_ended value marks_of all n (e ∷ es) h m u at = ⊎_elim (λ (is : e.number ≡ n). h.0.used_up u (ap (λ (i : ℕ). get_elem? all i) is ∙ at)) (λ (o : IsAmong n es). among_ended value marks_of all n es h.1 o u at) m
+
+  pub known_apart : (value : T) (marks_of : ℕ → List (ℕ × M)) (all : List (Knows B M S)) → Known K value marks_of all → (id : ℕ) (k : Knows B M S) → get_elem? all id ≡ some k → 0 < k.parts → k.named ≡ true → AreApart k.number k.ended
+  known_apart value marks_of all g id k at some_parts named =
+      let mine = g.each id k at some_parts in
+      let is : k.number ≡ id = named_number k.named k.number id named mine.number in
+      (λ m. let zero_parts : k.parts ≡ 0 = among_ended value marks_of all k.number k.ended mine.ended m k (ap (λ (i : ℕ). get_elem? all i) is ∙ at) in omega arith, mine.once)
 
   -- what a view finds in the value
   pub known_finds : (value : T) (marks_of : ℕ → List (ℕ × M)) (all : List (Knows B M S)) → Known K value marks_of all → (id : ℕ) (k : Knows B M S) → get_elem? all id ≡ some k → 0 < k.parts → (t : ℕ) → (K.history value).chapter ≤ t → Finds K value t k
@@ -256,6 +280,7 @@ module _ {T B M S : Type 0} (K : Meaning T B M S) where
         held = mine.held;
         own = λ named. subst (λ (n : ℕ). HasMarks K n k.mine k.seen) (sym (is named)) mine.own;
         ended = ended_has value marks_of all g.whole k.ended mine.ended;
+        apart = known_apart value marks_of all g id k at some_parts;
       }
 
   -- a number whose marks stand in the history was made

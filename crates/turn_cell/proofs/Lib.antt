@@ -3,3 +3,7 @@ pub mod Doors
 pub mod Knowledge
 pub mod Moves
 pub mod Ends
+pub mod Among
+pub mod Parting
+pub mod Joining
+pub mod Parts

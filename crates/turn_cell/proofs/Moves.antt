@@ -150,7 +150,7 @@ module _ {T B M S : Type 0} (K : Meaning T B M S) where
       ⊎_elim
       (λ home.
       let finds = known_finds K x r.marks_of (knowledge s.views) r.known id v.knows there some_parts _ home.1 in
-      (x, here 0 (Some x) home.0, record { seen = finds.seen; mine = finds.mine named; share = finds.share named; ended = finds.ended; all = known_among K x r.marks_of (knowledge s.views) r.known id v.knows there some_parts named alone }))
+      (x, here 0 (Some x) home.0, record { seen = finds.seen; mine = finds.mine named; share = finds.share named; ended = finds.ended; apart = finds.apart named; all = known_among K x r.marks_of (knowledge s.views) r.known id v.knows there some_parts named alone }))
       (λ out. absurd (nobody_else s r id v out.0 out.1 idle all at out.2 out.3))
       r.door.placed
     where

@@ -32,6 +32,15 @@ IsAmong number (e ∷ es) = (e.number ≡ number) ⊎ IsAmong number es
 abbrev pub Stands : {B M S : Type 0} → ℕ → ℕ → Knows B M S → Type 0
 Stands i j k = (j ≡ i) ⊎ IsAmong i k.ended
 
+-- no two of these have one number
+abbrev pub NoTwice : {M : Type 0} → List (Ended M) → Type 0
+NoTwice [] = Unit {0}
+NoTwice (e ∷ es) = (IsAmong e.number es → ⊥) × NoTwice es
+
+-- this number and those of the ended ones all differ
+abbrev pub AreApart : {M : Type 0} → ℕ → List (Ended M) → Type 0
+AreApart number ended = (IsAmong number ended → ⊥) × NoTwice ended
+
 module _ {T B M S : Type 0} (K : Meaning T B M S) (value : T) (marks_of : ℕ → List (ℕ × M)) (all : List (Knows B M S)) where
   -- a number that ended: its marks are kept, nothing else is, and its view is used up
   pub record IsEnded (e : Ended M) : Type 0 where
@@ -56,11 +65,14 @@ module _ {T B M S : Type 0} (K : Meaning T B M S) (value : T) (marks_of : ℕ �
     pub later : (c : ℕ) → k.seen.chapter < c → in_chapter c k.mine ≡ []
     pub others : (j : ℕ) → IsPrefix (own_in K j k.seen) (in_chapter k.seen.chapter (marks_of j))
     pub ended : AllEnded k.ended
+    pub once : NoTwice k.ended
 
   pub record Known : Type 0 where
     pub each : (i : ℕ) (k : Knows B M S) → get_elem? all i ≡ some k → 0 < k.parts → Knowing i k
     -- of any two histories that were seen, one begins the other
     pub one_history : (i j : ℕ) (a b : Knows B M S) → get_elem? all i ≡ some a → get_elem? all j ≡ some b → 0 < a.parts → 0 < b.parts → IsBegun K a.seen b.seen ⊎ IsBegun K b.seen a.seen
+    -- a number was joined into one view at most
+    pub joined_once : (i j : ℕ) (a b : Knows B M S) (n : ℕ) → get_elem? all i ≡ some a → get_elem? all j ≡ some b → 0 < a.parts → 0 < b.parts → IsAmong n a.ended → IsAmong n b.ended → i ≡ j
     -- each number's marks in the present chapter are those kept for it, and none is of a later chapter
     pub whole : (i : ℕ) → HasMarks K i (marks_of i) (K.history value)
     pub no_later : (i c : ℕ) → (K.history value).chapter < c → in_chapter c (marks_of i) ≡ []

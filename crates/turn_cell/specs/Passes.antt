@@ -1,14 +1,15 @@
 -- What callers see of a pass and of a turn.
-use Rattle.std.specs.Prelude.{◌≡◌, ◌≢◌, ◌⊎◌, ℕ, ◌+◌, ◌<◌, ◌≤◌, Bool, true, false, List, [], ◌∷◌, Option, None, Some}
+use Rattle.std.specs.Prelude.{◌≡◌, ◌≢◌, ◌⊎◌, ℕ, ◌+◌, ◌++◌, ◌||◌, ◌<◌, ◌≤◌, Bool, true, false, List, [], ◌∷◌, Option, None, Some}
 use Rattle.atomic_table.specs.Table.{Me}
 use Rattle.atomic_table.specs.Seated.{TableId}
 use Rattle.history_spec.specs.declared.history.History.{History}
 use Rattle.history_spec.specs.declared.history.Ended.{Ended}
 use Rattle.history_spec.specs.Chapter.{GoesOn, added, tagged}
+use Rattle.history_spec.specs.Front.{longer}
 use Rattle.history_spec.specs.Pass.{AreOf, mine_after, held_after}
 use Rattle.turn_cell.specs.Meaning.{Meaning}
-use Rattle.turn_cell.specs.Known.{IsBegun, HasMarks, IsAmong, own_in}
-use Rattle.turn_cell.specs.Steps.{HasEnded, Finds, with_stage}
+use Rattle.turn_cell.specs.Known.{IsBegun, HasMarks, IsAmong, AreApart, own_in}
+use Rattle.turn_cell.specs.Steps.{HasEnded, Finds, with_stage, one_part}
 use Rattle.turn_cell.specs.declared.view.Stage.{Stage}
 use Rattle.turn_cell.specs.declared.view.Stage.TheVariants.{Idle, Waiting, Holding, Published}
 use Rattle.turn_cell.specs.declared.view.View.{View}
@@ -88,6 +89,21 @@ module _ {T B M S : Type 0} where
     pub named : me.0.knows.named ≡ true
     pub spent : me.0.spent ≡ false
 
+  -- a part can be cut off
+  pub record CanPart (me : Me (Option T) (View T B M S)) : Type 0 where
+    pub stage : me.0.stage ≡ Idle
+    pub named : me.0.knows.named ≡ true
+    pub parts : 1 < me.0.knows.parts
+
+-- two passes joined: the first, with what the second had seen and had done
+abbrev pub joined : {B M S : Type 0} → Passed B M S → Passed B M S → Passed B M S
+joined one other = record one {
+  seen = longer one.seen other.seen;
+  ended = one.ended ++ record { number = other.number; mine = other.mine } ∷ other.ended;
+  parts = one.parts + other.parts;
+  spent = one.spent || other.spent;
+}
+
 -- the number is one of these, or it is nobody's
 abbrev pub BelongsTo : {M : Type 0} → ℕ → List (Ended M) → Option ℕ → Type 0
 BelongsTo number ended None = Unit {0}
@@ -118,6 +134,7 @@ module _ {T B M S : Type 0} (K : Meaning T B M S) where
     pub mine : HasMarks K before.number before.mine (K.history turn.entry)
     pub share : K.share turn.entry before.number ≡ before.share
     pub ended : HasEnded K turn.entry before.ended
+    pub apart : AreApart before.number before.ended
     pub held : IsBegun K before.held before.seen
     pub own : HasMarks K before.number before.mine before.seen
     pub chapter : (K.history turn.entry).chapter ≤ turn.ticket
@@ -151,6 +168,7 @@ module _ {T B M S : Type 0} (K : Meaning T B M S) where
     pub mine : HasMarks K pass.number pass.mine (K.history value)
     pub share : K.share value pass.number ≡ pass.share
     pub ended : HasEnded K value pass.ended
+    pub apart : AreApart pass.number pass.ended
     pub all : AreAmong pass.number pass.ended (K.history value).marks
 
   -- the value was taken out, in the turn of this ticket
@@ -163,3 +181,29 @@ module _ {T B M S : Type 0} (K : Meaning T B M S) where
     pub goes_on : GoesOn (K.next_base turn.found) (K.history turn.found) (K.history left)
     pub marks : AreOf K.whose me.0.knows.number (added (K.history turn.found) (K.history left))
     pub others : SameShare me.0.knows.number turn.found left
+
+  -- the pass that is cut off: it has seen as much, has nothing of its own, and another number
+  pub record IsCutOff (pass cut : Passed B M S) : Type 0 where
+    pub number : cut.number ≢ pass.number
+    pub rest : cut ≡ record {
+      cell = pass.cell;
+      number = cut.number;
+      seen = pass.seen;
+      mine = [];
+      held = pass.seen;
+      share = K.nothing;
+      turns = 0;
+      ended = [];
+      parts = 1;
+      spent = pass.spent;
+    }
+
+  -- two seats can be put together
+  pub record CanJoin (one other : Me (Option T) (View T B M S)) : Type 0 where
+    pub one_is : IsIdle one one.0.spent
+    pub other_is : IsIdle other other.0.spent
+    pub empty : other.0.knows.share ≡ K.nothing
+
+  -- a seat that was cut off this view, with a number of its own
+  abbrev pub IsNewPart : View T B M S → Me (Option T) (View T B M S) → Type 0
+  IsNewPart v now = let u = one_part K.nothing v in (n : ℕ) × (n ≢ v.knows.number) × (now ≡ (record u { knows = record u.knows { named = true; number = n } }, []))

@@ -50,6 +50,7 @@ module _ {T B M S : Type 0} (K : Meaning T B M S) where
   pub record Fits (serving next : ℕ) (value : T) (v : View T B M S) : Type 0 where
     pub stage : FitsStage serving next value v.stage
     pub used_up : v.knows.parts ≡ 0 → v.stage ≡ Idle
+    pub spent : v.spent ≡ true → 4611686018427387904 ≤ next
 
   -- where the value is: at home, or out with the one view that has the turn
   abbrev pub Placed : State (Option T) (View T B M S) → T → Type 0

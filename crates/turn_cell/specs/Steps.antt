@@ -1,10 +1,12 @@
 -- What each step of a seat tells it.
-use Rattle.std.specs.Prelude.{◌≡◌, ℕ, ◌+◌, ◌≤◌, ◌==◌, Bool, true, false, nat_lt, List, [], ◌∷◌, Option, Some, MatchBool}
+use Rattle.std.specs.Prelude.{◌≡◌, ◌≢◌, ℕ, ◌+◌, ◌-◌, ◌++◌, ◌||◌, ◌≤◌, ◌==◌, Bool, true, false, nat_lt, List, [], ◌∷◌, Option, Some, MatchBool}
 use Rattle.atomic_table.specs.Table.{Step, Me, rest}
+use Rattle.history_spec.specs.declared.history.History.{History}
 use Rattle.history_spec.specs.declared.history.Ended.{Ended}
+use Rattle.history_spec.specs.Front.{longer}
 use Rattle.history_spec.specs.Pass.{mine_after, held_after}
 use Rattle.turn_cell.specs.Meaning.{Meaning}
-use Rattle.turn_cell.specs.Known.{IsBegun, HasMarks}
+use Rattle.turn_cell.specs.Known.{IsBegun, HasMarks, AreApart}
 use Rattle.turn_cell.specs.declared.view.Stage.{Stage}
 use Rattle.turn_cell.specs.declared.view.Stage.TheVariants.{Idle, Waiting, Holding, Published}
 use Rattle.turn_cell.specs.declared.view.Knows.{Knows}
@@ -44,6 +46,7 @@ module _ {T B M S : Type 0} (K : Meaning T B M S) where
     pub held : IsBegun K k.held k.seen
     pub own : k.named ≡ true → HasMarks K k.number k.mine k.seen
     pub ended : HasEnded value k.ended
+    pub apart : k.named ≡ true → AreApart k.number k.ended
 
   abbrev pub Takes : ℕ → Me (Option T) (View T B M S) → Me (Option T) (View T B M S) → Type 0
   Takes t me now = (value : T) × (now ≡ (with_stage me.0 (Holding t value), (0, Some value) ∷ me.1)) × Finds value t me.0.knows
@@ -73,3 +76,62 @@ module _ {T B M S : Type 0} (K : Meaning T B M S) where
   -- publishing: the value that was put into the slot is the one that counts
   abbrev pub publishes : Step (Option T) → Me (Option T) (View T B M S) → ℕ → Me (Option T) (View T B M S) → Type 0
   publishes st me found now = (value : T) → me.1 ≡ (0, Some value) ∷ [] → now ≡ (left_at me.0.stage me.0 value, me.1)
+
+-- cutting a part off
+module _ {T B M S : Type 0} where
+  abbrev pub one_fewer : View T B M S → View T B M S
+  one_fewer v = record v { knows = record v.knows { parts = v.knows.parts - 1 } }
+
+  -- the new view has no number yet, and bears that of the old one
+  abbrev pub one_part : S → View T B M S → View T B M S
+  one_part nothing v = record {
+    stage = Idle;
+    turns = 0;
+    spent = v.spent;
+    knows = record {
+      named = false;
+      number = v.knows.number;
+      parts = 1;
+      seen = v.knows.seen;
+      met = (v.knows.seen, v.knows.seen);
+      mine = [];
+      held = v.knows.seen;
+      share = nothing;
+      ended = [];
+    };
+  }
+
+  -- taking a number, which is another than that of the old view
+  abbrev pub is_named : Step (Option T) → Me (Option T) (View T B M S) → ℕ → Me (Option T) (View T B M S) → Type 0
+  is_named st me found now = (n : ℕ) × (n ≢ me.0.knows.number) × (now ≡ (record me.0 { knows = record me.0.knows { named = true; number = n } }, me.1))
+
+  -- putting two views together: the number and marks of the second are kept as ended
+  abbrev pub together : View T B M S → View T B M S → View T B M S
+  together v w = record v {
+    spent = v.spent || w.spent;
+    knows = record v.knows {
+      parts = v.knows.parts + w.knows.parts;
+      seen = longer v.knows.seen w.knows.seen;
+      met = (v.knows.seen, w.knows.seen);
+      ended = v.knows.ended ++ record { number = w.knows.number; mine = w.knows.mine } ∷ w.knows.ended;
+    };
+  }
+
+module _ {T B M S : Type 0} (K : Meaning T B M S) where
+  -- the view that is left behind
+  abbrev pub used_up : View T B M S
+  used_up = let h : History B M = record { chapter = 0; base = K.any_base; marks = [] } in record {
+    stage = Idle;
+    turns = 0;
+    spent = false;
+    knows = record { named = false; number = 0; parts = 0; seen = h; met = (h, h); mine = []; held = h; share = K.nothing; ended = [] };
+  }
+
+  -- what a view knows of the two that were put together: one history, and other numbers
+  pub record Meets (k : Knows B M S) : Type 0 where
+    pub one : IsBegun K k.met.0 k.seen
+    pub other : IsBegun K k.met.1 k.seen
+    pub apart : k.named ≡ true → AreApart k.number k.ended
+
+  abbrev pub meets : Step (Option T) → Me (Option T) (View T B M S) → ℕ → Me (Option T) (View T B M S) → Type 0
+  meets st me found now = (now ≡ me) × Meets me.0.knows

@@ -1,12 +1,12 @@
-ghost use Rattle.std.specs.Prelude.{◌≡◌, ◌≢◌, ℕ, ◌≤◌, ◌<◌, ◌+◌, ◌^◌, false, true, IfOk, IfErr};
+ghost use Rattle.std.specs.Prelude.{◌≡◌, ◌≢◌, ℕ, ◌≤◌, ◌<◌, ◌+◌, ◌-◌, ◌^◌, false, true, IfOk, IfErr};
 ghost use Rattle.history_spec.specs.Chapter.{GoesOn, added};
 ghost use Rattle.history_spec.specs.Pass.{AreOf};
-ghost use Rattle.turn_cell.specs.Known.{IsBegun, HasMarks};
-ghost use Rattle.turn_cell.specs.Passes.{IsFirst, Enters, left_by, SameShare, Closes, KeepsNothing};
+ghost use Rattle.turn_cell.specs.Known.{IsBegun, AreApart};
+ghost use Rattle.turn_cell.specs.Passes.{IsFirst, Enters, left_by, SameShare, Closes, KeepsNothing, IsCutOff, joined};
 
 use crate::kept::Kept;
 use crate::plays::{InTurns, ViewOf};
-use crate::steps::{draw, pass_on, wait_for};
+use crate::steps::{cut, draw, glue, pass_on, wait_for};
 use crate::turn::{Pass, PassOf, Turn, TurnOf};
 use atomic_table::{Refused, Table};
 use std::alloc::{AllocError, Global};
@@ -107,6 +107,42 @@ impl<T: Kept + Drop> TurnCell<T> {
         let Turn { mut seat, value } = turn;
         pass_on(&self.table.shared, &mut seat, value);
         Pass { seat, spent: false }
+    }
+
+    /// Cuts a part of the pass off, as a new pass that has seen as much and has another number.
+    pub fn split(&self, pass: PassOf<T>) -> (PassOf<T>, PassOf<T>)
+        requires own { pass.cell ≡ self.now }
+        requires parts { 1 < pass.parts }
+        ensures kept { result.0 ≡ record pass { parts = pass.parts - 1 } }
+        ensures new { IsCutOff T.meaning pass result.1 }
+    {
+        let Pass { mut seat, spent } = pass;
+        let part = cut(&self.table.shared, &mut seat);
+        (Pass { seat, spent }, Pass { seat: part, spent })
+    }
+
+    /// Puts two passes together, where the second keeps nothing in the value. The first goes on,
+    /// with the parts of both and the longer history of the two. Of the second its number and marks
+    /// are kept.
+    pub fn join(&self, one: PassOf<T>, other: PassOf<T>) -> PassOf<T>
+        requires one { one.cell ≡ self.now }
+        requires other { other.cell ≡ self.now }
+        requires empty { other.share ≡ T.meaning.nothing }
+        ensures both { result ≡ joined one other }
+        ensures one_seen { IsBegun T.meaning one.seen result.seen }
+        ensures other_seen { IsBegun T.meaning other.seen result.seen }
+        ensures apart { AreApart result.number result.ended }
+    {
+        let Pass { mut seat, spent } = one;
+        let Pass {
+            seat: part,
+            spent: spent_too,
+        } = other;
+        glue(&self.table.shared, &mut seat, part);
+        Pass {
+            seat,
+            spent: spent || spent_too,
+        }
     }
 
     /// Takes the value back out, with the last pass.

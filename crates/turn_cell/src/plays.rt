@@ -1,7 +1,7 @@
 //! The rule of the table, and what each step tells.
 use crate::kept::Kept;
 use crate::view::View;
-use atomic_table::{Play, TableRule};
+use atomic_table::{Join, Play, Split, TableRule};
 use std::marker::PhantomData;
 use std::snapshot::Snapshot;
 
@@ -57,4 +57,50 @@ impl<T, B, M, S> Play<Option<T>, View<T, B, M, S>> for PassOn {
     ghost use Rattle.turn_cell.specs.Steps.{passes_on};
 
     ghost then = { passes_on };
+}
+
+/// Cutting one part off a pass.
+pub(crate) struct Cut<T> {
+    of: PhantomData<T>,
+}
+
+impl<T: Kept> Split<ViewOf<T>> for Cut<T> {
+    ghost use Rattle.turn_cell.specs.Steps.{one_fewer, one_part};
+
+    ghost left = { one_fewer };
+
+    ghost right = { one_part T.meaning.nothing };
+}
+
+/// Taking a number, of a pass that was cut off.
+pub(crate) struct Name;
+
+impl<T, B, M, S> Play<Option<T>, View<T, B, M, S>> for Name {
+    ghost use Rattle.turn_cell.specs.Steps.{is_named};
+
+    ghost then = { is_named };
+}
+
+/// Putting two passes together.
+pub(crate) struct Glue<T> {
+    of: PhantomData<T>,
+}
+
+impl<T: Kept> Join<ViewOf<T>> for Glue<T> {
+    ghost use Rattle.turn_cell.specs.Steps.{together, used_up};
+
+    ghost both = { together };
+
+    ghost spent = { used_up T.meaning };
+}
+
+/// Learning what a pass has in common with the one that was joined into it.
+pub(crate) struct Meet<T> {
+    of: PhantomData<T>,
+}
+
+impl<T: Kept> Play<Option<T>, ViewOf<T>> for Meet<T> {
+    ghost use Rattle.turn_cell.specs.Steps.{meets};
+
+    ghost then = { meets T.meaning };
 }

@@ -1,11 +1,11 @@
 //! The steps of a turn, each on a table's shared part.
 ghost use Rattle.std.specs.Prelude.{◌≡◌, ◌<◌, true, false, [], ◌∷◌, MatchBool, None};
 ghost use Rattle.turn_cell.specs.declared.view.Stage.TheVariants.{Idle, Waiting, Holding};
-ghost use Rattle.turn_cell.specs.Steps.{drawn, Takes, left_at, with_stage};
-ghost use Rattle.turn_cell.specs.Passes.{HasTurn, Leaves};
+ghost use Rattle.turn_cell.specs.Steps.{drawn, Takes, left_at, with_stage, one_fewer, one_part, is_named, together, Meets};
+ghost use Rattle.turn_cell.specs.Passes.{HasTurn, Leaves, CanPart, CanJoin, IsNewPart};
 
 use crate::kept::Kept;
-use crate::plays::{Draw, InTurns, Look, PassOn, Publish, ViewOf};
+use crate::plays::{Cut, Draw, Glue, InTurns, Look, Meet, Name, PassOn, Publish, ViewOf};
 use atomic_table::{Seat, Shared};
 use std::snapshot::Snapshot;
 use std::sync::Wait;
@@ -77,4 +77,31 @@ pub(crate) fn pass_on<T: Kept + Drop>(board: &Board<T>, seat: &mut Place<T>, val
     drop(board.exchange(seat, 0, Some(value)));
     board.store::<Publish<T>>(seat, FRONT, marks);
     board.fetch_add::<PassOn>(seat, SERVING, 1);
+}
+
+/// Cuts one part off, as a seat with a number of its own.
+pub(crate) fn cut<T: Kept>(board: &Board<T>, seat: &mut Place<T>) -> Place<T>
+    requires own { (seat.old.table_id ≡ board.now.table_id) × (board.now.table_id.words ≡ 3) }
+    requires parts { CanPart seat.old.me }
+    ensures seat { (seat.new.table_id ≡ seat.old.table_id) × (seat.new.id ≡ seat.old.id) }
+    ensures kept { seat.new.me ≡ (one_fewer seat.old.me.0, seat.old.me.1) }
+    ensures part { result.table_id ≡ seat.old.table_id }
+    ensures new { IsNewPart T.meaning seat.old.me.0 result.me }
+{
+    let mut part = board.split_seat::<Cut<T>>(seat);
+    board.load::<Name>(&mut part, NEXT);
+    part
+}
+
+/// Puts two seats together.
+pub(crate) fn glue<T: Kept>(board: &Board<T>, seat: &mut Place<T>, other: Place<T>)
+    requires own { (seat.old.table_id ≡ board.now.table_id) × (board.now.table_id.words ≡ 3) }
+    requires other { other.table_id ≡ board.now.table_id }
+    requires passes { CanJoin T.meaning seat.old.me other.me }
+    ensures seat { (seat.new.table_id ≡ seat.old.table_id) × (seat.new.id ≡ seat.old.id) }
+    ensures both { seat.new.me ≡ (together seat.old.me.0 other.me.0, seat.old.me.1) }
+    ensures meets { Meets T.meaning seat.new.me.0.knows }
+{
+    board.join_seat::<Glue<T>>(seat, other);
+    board.load::<Meet<T>>(seat, NEXT);
 }
