@@ -1,6 +1,9 @@
-//! Histories in chapters, their fronts, and what a pass keeps of its own marks. Contracts alone use them.
+//! Histories in chapters, their fronts, what a pass keeps of its own marks, and the stamps by which
+//! marks bear the number of a pass. Contracts alone see them.
 #![tactic(auto)]
 
 mod history;
+mod stamp;
 
 pub use history::{Ended, History};
+pub use stamp::Stamp;
