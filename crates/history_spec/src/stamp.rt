@@ -15,6 +15,11 @@ impl Model for Stamp {
     ghost also_owns = { λ _. ftrue };
 }
 
+// It owns nothing.
+unsafe impl Send for Stamp {}
+
+unsafe impl Sync for Stamp {}
+
 impl Stamp {
     /// The stamp of the number that the caller names.
     pub fn named() -> Stamp

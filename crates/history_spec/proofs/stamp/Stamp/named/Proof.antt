@@ -1,33 +1,23 @@
 -- `named` makes the struct without bytes, with the number that the caller names. Assumes `Logic`.
-use Rattle.std.proofs.Common.{List, [], ◌∷◌, ◌++◌, refl}
-use seplogic.Ra.Ura.{Ura}
-use mir.Syntax.{Fn, Args, a_type}
-use mir.Val.{Val, vstruct, vcons, vnil}
-use base.Logic.{SProp, ent}
-use prog.Memory.{Memory}
-use prog.Routine.{Routine}
-use prog.Wp.{Calls, Loops, WpFn, Tables}
-use contract.Monad.{Fun}
-use contract.Running.{tables, tables_of}
-use sound.WpLaws.{WpFn-mono}
-use types.Logic.{Logic}
+use Rattle.std.proofs.Common.{[], ◌∷◌, refl}
+use mir.Syntax.{Fn}
+use mir.Val.{Val}
+use base.Logic.{SProp}
+use contract.Running.{tables}
 use types.Kit.{‵, raw, ◌⊛◌, ◌$◌, ◌∵◌, !, qed, move, keep, split, fjoin, suffices, done}
 use types.Part.{agg}
 use types.Run.{enter, returns, and_then, no_more}
 use types.ByLocal.{alloc_all, pass_all, free_all, look_at, get, sets}
-use denote.RattleType.{RattleType, owns}
+use denote.RattleType.{owns}
 use denote.Laws.{Is}
 use denote.Signature.{types_at}
 use denote.Steps.{nothing, owned}
 use denote.Struct.Laws.{makes}
-use denote.Triple.Clauses.{Clauses, Ended, closing}
 use denote.Triple.Entry.{alive}
-use denote.Triple.Spec.{Meets, triple_of}
-use denote.Triple.Table.{entered}
-use denote.Triple.Walked.{says, Stays, walk_of, ends_at, walk_Meets}
+use denote.Triple.Walked.{says, Stays, walk_of, ends_at}
 use Rattle.std.specs.contracts.marker.PhantomData as Mark
 use Rattle.std.specs.Borrow.{u64}
-use Rattle.std.proofs.raw_atomic.Walks.{proved_at, leaves}
+use Rattle.std.proofs.raw_atomic.Walks.{proved_at}
 use Rattle.bytes.proofs.Walks.{none, one, one_made}
 use Rattle.history_spec.specs.contracts.stamp.Stamp as Stamp
 use Rattle.history_spec.specs.contracts.stamp.Stamp.named as F

@@ -1,0 +1,14 @@
+//! A counter in a turn cell, whose marks are the amounts that were added: an example.
+#![tactic(auto)]
+
+mod counter;
+mod kept;
+mod turns;
+mod two;
+
+#[cfg(test)]
+mod tests;
+
+pub use counter::{AddFault, Amount, Counter};
+pub use turns::{CounterPass, CounterTurn, NotAdded, add_in, add_once};
+pub use two::{add_by_two, add_many, count_by_two};
