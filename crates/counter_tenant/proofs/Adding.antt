@@ -1,5 +1,5 @@
 -- One turn more.
-use Rattle.std.proofs.Common.{◌≡◌, ℕ, ◌+◌, List, [], ◌∷◌, ◌++◌, length, refl, sym, ap, ◌∙◌, subst, append_assoc, length-append, append-nil, arith}
+use Rattle.std.proofs.Common.{◌≡◌, ℕ, ◌+◌, List, [], ◌∷◌, ◌++◌, refl, sym, ap, ◌∙◌, append_assoc, length-append, append-nil, arith}
 use Rattle.turn_cell.specs.Passes.{Passed}
 use Rattle.history_spec.proofs.Beginnings.{begins_itself, begins_through}
 use Rattle.counter_tenant.specs.declared.counter.Amount.{Amount}

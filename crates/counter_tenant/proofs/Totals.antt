@@ -1,11 +1,11 @@
 -- The total of what passes added is the total of the counter.
-use Rattle.std.proofs.Common.{◌≡◌, ◌≢◌, ◌⊎◌, ℕ, ◌+◌, ◌*◌, Bool, true, false, cond, eqb, List, [], ◌∷◌, ◌++◌, length, refl, sym, ap, ◌∙◌, subst, ⊎_elim, inl, inr, eq-eqb, ne_eqb, suc, suc-mul, map, arith}
-use Rattle.std.specs.Prelude.{sum_by, filter}
+use Rattle.std.proofs.Common.{◌≡◌, ◌≢◌, ◌⊎◌, ℕ, ◌+◌, ◌*◌, Bool, cond, eqb, List, [], ◌∷◌, ◌++◌, length, refl, sym, ap, ◌∙◌, subst, ⊎_elim, inl, eq-eqb, ne_eqb, suc, suc-mul, map, arith}
+use Rattle.std.specs.Prelude.{filter}
 use Rattle.std.proofs.lemmas.List.Sums.{sum_by-cons}
 use Rattle.history_spec.specs.declared.history.Ended.{Ended}
 use Rattle.history_spec.specs.Chapter.{in_chapter}
 use Rattle.history_spec.specs.Pass.{own}
-use Rattle.turn_cell.specs.Known.{AreApart, HasMarks}
+use Rattle.turn_cell.specs.Known.{AreApart}
 use Rattle.turn_cell.specs.Steps.{HasEnded}
 use Rattle.turn_cell.specs.Passes.{Passed, IsFirst, IsCutOff, joined, Closes, AreAmong}
 use Rattle.counter_tenant.specs.declared.counter.Amount.{Amount}

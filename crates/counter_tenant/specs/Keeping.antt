@@ -1,5 +1,5 @@
 -- What a turn cell sees in a counter: one chapter, whose marks are the amounts.
-use Rattle.std.specs.Prelude.{◌≡◌, ℕ, ◌+◌, ◌≤◌, ◌++◌, List, [], ◌∷◌, Some}
+use Rattle.std.specs.Prelude.{◌≡◌, ℕ, ◌+◌, ◌++◌, List, [], ◌∷◌, Some}
 use Rattle.std.proofs.Common.{le_refl}
 use Rattle.history_spec.specs.declared.stamp.Stamp.{Stamp}
 use Rattle.turn_cell.specs.Meaning.{Meaning, NoMarkLowers, NewBaseKeeps}

@@ -1,5 +1,5 @@
 -- Many turns of one pass.
-use Rattle.std.specs.Prelude.{◌≡◌, ℕ, ◌+◌, ◌++◌, List, [], ◌∷◌, length}
+use Rattle.std.specs.Prelude.{◌≡◌, ℕ, ◌++◌, List, [], ◌∷◌, length}
 use Rattle.turn_cell.specs.Known.{IsBegun}
 use Rattle.turn_cell.specs.Passes.{Passed}
 use Rattle.counter_tenant.specs.declared.counter.Amount.{Amount}

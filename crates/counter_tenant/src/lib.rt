@@ -3,11 +3,10 @@
 
 mod counter;
 mod kept;
-mod turns;
-mod two;
-
 #[cfg(test)]
 mod tests;
+mod turns;
+mod two;
 
 pub use counter::{AddFault, Amount, Counter};
 pub use turns::{CounterPass, CounterTurn, NotAdded, add_in, add_once};

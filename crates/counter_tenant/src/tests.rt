@@ -1,27 +1,37 @@
+ghost use Rattle.std.specs.Prelude.{◌≡◌, IfSome, true};
+
 use super::*;
+use std::sync::Wait;
 use std::test::Fail;
 use turn_cell::TurnCell;
 
 const LAST: u64 = 4_611_686_018_427_387_904;
+
+// The ticket that a spent pass is told.
+fn told<R: Wait>(rt: &R, cell: &TurnCell<Counter>, pass: CounterPass) -> Option<(CounterPass, u64)>
+    requires { pass.cell ≡ cell.now }
+    ensures { IfSome result (λ r. r.0 ≡ record pass { spent = true }) }
+{
+    match cell.enter(rt, pass) {
+        Ok(turn) => {
+            cell.leave(turn);
+            None
+        }
+        Err((pass, spent)) => Some((pass, spent.ticket)),
+    }
+}
 
 #[test]
 fn the_last_ticket_is_served_and_then_no_more(rt: HostRuntime) -> Result<(), Fail> {
     let Ok((cell, pass)) = TurnCell::new_at(rt.alloc(), Counter::new(rt.alloc()), LAST - 1) else {
         return Err("memory".into());
     };
-    let mut pass = add_once(&rt, &cell, pass, 5).ok().ok_or("spent")?;
-    for _ in 0..3 {
-        match cell.enter(&rt, pass) {
-            Ok(turn) => {
-                cell.leave(turn);
-                panic!(rt; "a ticket was left")
-            }
-            Err((same, spent)) => {
-                assert!(rt; spent.ticket == LAST);
-                pass = same;
-            }
-        }
-    }
+    let Ok(pass) = add_once(&rt, &cell, pass, 5) else {
+        return Err("spent".into());
+    };
+    let (pass, first) = told(&rt, &cell, pass).ok_or("a ticket was left")?;
+    let (pass, second) = told(&rt, &cell, pass).ok_or("a ticket was left")?;
+    assert!(rt; first == LAST && second == LAST);
     assert!(rt; cell.close(pass).total() == 5);
     Ok(())
 }
@@ -39,7 +49,9 @@ fn a_total_that_would_not_fit_is_refused(rt: HostRuntime) -> Result<(), Fail> {
     let Ok((cell, pass)) = TurnCell::new_at(rt.alloc(), Counter::new(rt.alloc()), 0) else {
         return Err("memory".into());
     };
-    let pass = add_once(&rt, &cell, pass, u64::MAX).ok().ok_or("spent")?;
+    let Ok(pass) = add_once(&rt, &cell, pass, u64::MAX) else {
+        return Err("spent".into());
+    };
     let Err((pass, fault)) = add_once(&rt, &cell, pass, 1) else {
         panic!(rt; "the total has wrapped")
     };
