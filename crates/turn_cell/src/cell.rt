@@ -6,7 +6,7 @@ ghost use Rattle.turn_cell.specs.Passes.{IsFirst, Enters, left_by, SameShare, Cl
 
 use crate::kept::Kept;
 use crate::plays::{InTurns, ViewOf};
-use crate::steps::{cut, draw, glue, pass_on, wait_for};
+use crate::steps::{cut, draw, glue, pass_on, rest, wait_for};
 use crate::turn::{Pass, PassOf, Turn, TurnOf};
 use atomic_table::{Refused, Table};
 use std::alloc::{AllocError, Global};
@@ -107,6 +107,15 @@ impl<T: Kept + Drop> TurnCell<T> {
         let Turn { mut seat, value } = turn;
         pass_on(&self.table.shared, &mut seat, value);
         Pass { seat, spent: false }
+    }
+
+    /// Rests. It returns after some turn was left, or without a reason, and teaches nothing.
+    pub fn rest<R: Wait>(&self, rt: &R, pass: PassOf<T>) -> PassOf<T>
+        requires { pass.cell ≡ self.now }
+        ensures { result ≡ pass }
+    {
+        rest(rt, &self.table.shared);
+        pass
     }
 
     /// Cuts a part of the pass off, as a new pass that has seen as much and has another number.

@@ -10,6 +10,7 @@ use atomic_table::{Seat, Shared};
 use std::snapshot::Snapshot;
 use std::sync::Wait;
 use std::thread::yield_now;
+use std::time::Duration;
 
 /// The word that gives the tickets.
 const NEXT: usize = 0;
@@ -23,6 +24,10 @@ const FRONT: usize = 2;
 pub(crate) type Board<T> = Shared<Option<T>, ViewOf<T>, Snapshot<T>, InTurns<T>>;
 
 pub(crate) type Place<T> = Seat<Option<T>, ViewOf<T>>;
+
+/// How many milliseconds a rest takes at most. Nobody wakes a pass that rests, so that leaving costs no call of
+/// the system.
+const REST_MILLIS: u64 = 1;
 
 /// Draws a ticket.
 pub(crate) fn draw<T: Kept>(board: &Board<T>, seat: &mut Place<T>) -> u64
@@ -77,6 +82,19 @@ pub(crate) fn pass_on<T: Kept + Drop>(board: &Board<T>, seat: &mut Place<T>, val
     drop(board.exchange(seat, 0, Some(value)));
     board.store::<Publish<T>>(seat, FRONT, marks);
     board.fetch_add::<PassOn>(seat, SERVING, 1);
+}
+
+/// Sleeps for a while, or not at all where a turn is passed on meanwhile.
+pub(crate) fn rest<T: Kept, R: Wait>(rt: &R, board: &Board<T>)
+    requires { board.now.table_id.words ≡ 3 }
+{
+    let served = board.peek(SERVING) % (1 << 32);
+    board.park_timeout(
+        rt,
+        SERVING,
+        served as u32,
+        Duration::from_millis(REST_MILLIS),
+    );
 }
 
 /// Cuts one part off, as a seat with a number of its own.
