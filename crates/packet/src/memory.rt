@@ -66,48 +66,20 @@ impl MemorySource {
     }
 
     /// The same with at most so many bytes a read.
-    pub fn at_most(self, most: usize) -> MemorySource
+    pub fn at_most(mut self, most: usize) -> MemorySource
         requires { 0 < most }
         ensures { result ≡ record self { most = most } }
     {
-        let MemorySource {
-            bytes,
-            taken,
-            most: _,
-            failing,
-            calls,
-            faults,
-        } = self;
-        MemorySource {
-            bytes,
-            taken,
-            most,
-            failing,
-            calls,
-            faults,
-        }
+        self.most = most;
+        self
     }
 
     /// The same with reads that fail.
-    pub fn failing(self, failing: Failing) -> MemorySource
+    pub fn failing(mut self, failing: Failing) -> MemorySource
         ensures { result ≡ record self { failing = failing } }
     {
-        let MemorySource {
-            bytes,
-            taken,
-            most,
-            failing: _,
-            calls,
-            faults,
-        } = self;
-        MemorySource {
-            bytes,
-            taken,
-            most,
-            failing,
-            calls,
-            faults,
-        }
+        self.failing = failing;
+        self
     }
 
     /// The bytes that are left.
@@ -198,44 +170,20 @@ impl MemorySink {
     }
 
     /// The same with at most so many bytes a write.
-    pub fn at_most(self, most: usize) -> MemorySink
+    pub fn at_most(mut self, most: usize) -> MemorySink
         requires { 0 < most }
         ensures { result ≡ record self { most = most } }
     {
-        let MemorySink {
-            bytes,
-            most: _,
-            failing,
-            calls,
-            faults,
-        } = self;
-        MemorySink {
-            bytes,
-            most,
-            failing,
-            calls,
-            faults,
-        }
+        self.most = most;
+        self
     }
 
     /// The same with writes that fail.
-    pub fn failing(self, failing: Failing) -> MemorySink
+    pub fn failing(mut self, failing: Failing) -> MemorySink
         ensures { result ≡ record self { failing = failing } }
     {
-        let MemorySink {
-            bytes,
-            most,
-            failing: _,
-            calls,
-            faults,
-        } = self;
-        MemorySink {
-            bytes,
-            most,
-            failing,
-            calls,
-            faults,
-        }
+        self.failing = failing;
+        self
     }
 
     /// What was put so far.
