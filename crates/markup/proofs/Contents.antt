@@ -1,5 +1,5 @@
 -- What stands inside an element, a step at a time.
-use Rattle.std.proofs.Common.{◌≡◌, ℕ, zero, suc, ◌+◌, ◌-◌, ◌<◌, ◌≤◌, List, [], ◌∷◌, ◌++◌, length, Result, Ok, Err, refl, sym, ◌∙◌, ap, ap₂, arith, append_assoc, append-nil}
+use Rattle.std.proofs.Common.{◌≡◌, ℕ, zero, suc, ◌-◌, ◌<◌, List, [], ◌∷◌, ◌++◌, Result, Ok, Err, refl, sym, ◌∙◌, ap, ap₂, arith, append_assoc, append-nil}
 use Rattle.text_spec.specs.declared.ahead.Ahead.{Ahead}
 use Rattle.text_spec.specs.declared.ahead.Ahead.TheVariants as ahead
 use Rattle.text_spec.specs.declared.fault.Flaw.{Flaw}
@@ -63,7 +63,7 @@ module _ (child : ElementReading) (front : List ℕ) (kids : List Tree) (m room 
   child_read e g h =
       step ahead.Element e
       ∙ rw h (after_after front [] kids (g.tree ∷ []) (content_at child m g.room g.rest)
-          ∙ ap (λ xs. after_inside xs (kids ++ g.tree ∷ []) (content_at child m g.room g.rest)) (append-nil front))
+      ∙ ap (λ xs. after_inside xs (kids ++ g.tree ∷ []) (content_at child m g.room g.rest)) (append-nil front))
 
   module _ (a : Ahead) (text : IsText a) (begins : ahead_of rest ≡ a) where
     pub piece_flawed : (f : Flaw) → piece_at a rest ≡ Err f → whole ≡ Err f
@@ -74,8 +74,8 @@ module _ (child : ElementReading) (front : List ℕ) (kids : List Tree) (m room 
     piece_read piece following h =
         step a begins
         ∙ rw (inside_text a child (content_at child m) room rest text, h)
-            (after_after front piece kids [] (content_at child m room following)
-            ∙ ap (λ xs. after_inside (front ++ piece) xs (content_at child m room following)) (append-nil kids))
+        (after_after front piece kids [] (content_at child m room following)
+        ∙ ap (λ xs. after_inside (front ++ piece) xs (content_at child m room following)) (append-nil kids))
 
 -- an element below so many levels
 pub element_step : (depth room : ℕ) (cs : List ℕ) → 0 < depth → 0 < room

@@ -7,3 +7,4 @@ mod NameSets
 mod Runs
 mod Values
 mod Whole
+mod Writing

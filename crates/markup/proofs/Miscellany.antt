@@ -1,5 +1,5 @@
 -- What stands around the root element, a step at a time.
-use Rattle.std.proofs.Common.{◌≡◌, ℕ, suc, ◌+◌, List, length, Result, Ok, Err, refl, sym, ◌∙◌, ap, ap₂}
+use Rattle.std.proofs.Common.{◌≡◌, ℕ, suc, List, Result, Ok, Err, refl, sym, ◌∙◌, ap}
 use Rattle.std.specs.Prelude.{false}
 use Rattle.text_spec.specs.declared.ahead.Ahead.{Ahead}
 use Rattle.text_spec.specs.declared.ahead.Ahead.TheVariants as ahead

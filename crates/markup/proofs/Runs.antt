@@ -1,9 +1,8 @@
 -- A run of text has a character at least. The blanks at the end of a text, one by one.
-use Rattle.std.proofs.Common.{◌≡◌, ℕ, suc, ◌+◌, ◌<◌, ◌≤◌, List, [], ◌∷◌, length, take, drop, Bool, true, false, true≢false, cond, Ok, Err, refl, ap, ◌∙◌, sym, arith, length-drop, Result, Bor, ap₂, ◌++◌}
+use Rattle.std.proofs.Common.{◌≡◌, ℕ, ◌+◌, ◌<◌, List, [], ◌∷◌, length, take, drop, Bool, true, false, true≢false, cond, Ok, Err, refl, ap, ◌∙◌, sym, arith, length-drop, Result, Bor, ap₂, ◌++◌}
 use Rattle.std.specs.Prelude.{◌&&◌, ◌||◌, not, ◌==◌, IfOk, reverse}
 use Rattle.std.proofs.lemmas.List.{reverse-append, reverse-reverse}
 use Rattle.std.specs.List.{prefix_len}
-use Rattle.text_spec.specs.declared.ahead.Ahead.{Ahead}
 use Rattle.text_spec.specs.declared.ahead.Ahead.TheVariants as ahead
 use Rattle.text_spec.specs.declared.fault.Flaw.{Flaw}
 use Rattle.text_spec.specs.Character.{less, ampersand, slash, bang, question, is_char, is_run_char, is_blank, after_blanks}
@@ -53,7 +52,7 @@ further_by told c cs run rest true is begins e =
 further_by told c cs run rest false is begins e =
     let none : prefix_len is_run_char (c ∷ cs) ≡ 0 = ap (λ b. cond b (1 + prefix_len is_run_char cs) 0) is in
     let whole : run_then told (take 0 (c ∷ cs)) (drop 0 (c ∷ cs)) ≡ Ok (run, rest) =
-        ap (λ n. run_then told (take n (c ∷ cs)) (drop n (c ∷ cs))) (sym none) ∙ e in
+    ap (λ n. run_then told (take n (c ∷ cs)) (drop n (c ∷ cs))) (sym none) ∙ e in
     absurd (true≢false (sym (plain c cs begins (chosen (is_char c) _ _ told whole).0) ∙ is))
 
 pub run_further : (told : Flaw) (cs : List ℕ) (run rest : List ℕ) → ahead_of cs ≡ ahead.Run

@@ -1,5 +1,5 @@
 -- The value of an attribute, a step at a time.
-use Rattle.std.proofs.Common.{◌≡◌, ℕ, zero, suc, ◌+◌, ◌≤◌, List, [], ◌∷◌, ◌++◌, length, Ok, Err, refl, sym, ◌∙◌, ap, arith, append_assoc, append-nil, eq-eqb, ne_eqb}
+use Rattle.std.proofs.Common.{◌≡◌, ℕ, zero, suc, ◌≤◌, List, [], ◌∷◌, ◌++◌, length, Ok, Err, refl, sym, ap, arith, append_assoc, append-nil, eq-eqb, ne_eqb}
 use Rattle.text_spec.specs.declared.fault.Flaw.{Flaw}
 use Rattle.text_spec.specs.Reading.{Reading, ended}
 use Rattle.text_spec.specs.Tag.{behind, value_char_at, value_at}

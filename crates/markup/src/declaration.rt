@@ -8,11 +8,7 @@ use text_spec::{Flaw, TextKind};
 
 /// What follows this word of small letters, which may stand as capitals.
 #[tactic(auto, unfolding(text_spec::specs::Declaration::expect_in_any_case))]
-fn expect_in_any_case<'a>(
-    told: Flaw,
-    word: &[char],
-    chars: &'a [char],
-) -> Result<&'a [char], Flaw>
+fn expect_in_any_case<'a>(told: Flaw, word: &[char], chars: &'a [char]) -> Result<&'a [char], Flaw>
     ensures reads { Tells (λ r. r.now) result (spec.expect_in_any_case told word.now chars.now) }
     ensures within { IfOk result (λ r. length r.now ≤ length chars.now) }
 {

@@ -14,6 +14,7 @@ use std::alloc::Global;
 use text_spec::{Ahead, Flaw, TextKind, Tree};
 
 const MOST_LEVELS: usize = 32;
+
 const MOST_ELEMENTS: usize = 4096;
 
 /// Nothing, where nothing follows; otherwise a `<` stands at the end.
@@ -78,7 +79,11 @@ pub(crate) fn document(alloc: Global, chars: &[char]) -> Result<Tree, Stop>
 {
     let prolog = after_declaration(chars)?;
     let start = misc_at(prolog)?;
-    let Grown { tree, room: _, rest } = root_at(alloc, start)?;
+    let Grown {
+        tree,
+        room: _,
+        rest,
+    } = root_at(alloc, start)?;
     let rest = misc_at(rest)?;
     all_read(tree, rest)
 }

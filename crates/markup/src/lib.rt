@@ -12,9 +12,11 @@ mod reference;
 mod scan;
 mod stop;
 mod tag;
+mod write;
 
 pub use read::read_tree;
 pub use text_spec::{Pair, PairList, TextFault, TextKind, Tree, TreeList};
+pub use write::write_tree;
 
 #[cfg(test)]
 mod tests;

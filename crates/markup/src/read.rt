@@ -12,6 +12,7 @@ use text_spec::{Flaw, TextFault, TextKind, Tree};
 use virt_types::{NoMemory, OrNoMemory};
 
 const MOST_BYTES: usize = 65536;
+
 const BYTE_ORDER_MARK: char = '\u{FEFF}';
 
 /// The characters behind the mark that may stand in front.
@@ -52,7 +53,7 @@ fn fault_of(chars: &[char], flaw: Flaw) -> TextFault
 }
 
 /// The characters of a text.
-fn characters(alloc: Global, text: &str) -> Result<Vec<char>, NoMemory>
+pub(crate) fn characters(alloc: Global, text: &str) -> Result<Vec<char>, NoMemory>
     ensures value { IfOk result (λ v. v.items ≡ chars_of text.now) }
     ensures within { IfOk result (λ v. length v.items ≤ length text.now) }
 {

@@ -6,7 +6,7 @@ use Rattle.std.specs.Char.{to_ascii_lowercase}
 use Rattle.text_spec.specs.declared.fault.Flaw.{Flaw}
 use Rattle.text_spec.specs.declared.fault.TextKind.TheVariants as kind
 use Rattle.text_spec.specs.Reading.{Reading, ◌>>=◌, flaw, ended, expect}
-use Rattle.text_spec.specs.Character.{hyphen, bang, question, greater, open_bracket, close_bracket, is_blank, is_char, is_run_char}
+use Rattle.text_spec.specs.Character.{hyphen, question, greater, open_bracket, close_bracket, is_blank, is_char, is_run_char}
 use Rattle.text_spec.specs.Name.{name_at}
 
 -- Comment (15), after its `<!--`: two hyphens stand only before the `>` that ends it

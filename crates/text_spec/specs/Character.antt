@@ -1,42 +1,59 @@
 -- Characters of XML 1.0 (fifth edition), productions 2, 3, 4 and 4a.
-use Rattle.std.specs.Prelude.{ℕ, List, [], ◌∷◌, ◌++◌, Bool, false, not, ◌&&◌, ◌||◌, ◌==◌, nat_le, if◌then◌else◌}
+use Rattle.std.specs.Prelude.{ℕ, List, [], ◌∷◌, Bool, false, not, ◌&&◌, ◌||◌, ◌==◌, nat_le, if◌then◌else◌}
 use Rattle.std.specs.List.{list_any}
 
 -- ---- the characters that mark up a text
 abbrev pub tab : ℕ
 tab = 9
+
 abbrev pub line_feed : ℕ
 line_feed = 10
+
 abbrev pub carriage_return : ℕ
 carriage_return = 13
+
 abbrev pub space : ℕ
 space = 32
+
 abbrev pub bang : ℕ
 bang = 33
+
 abbrev pub quote : ℕ
 quote = 34
+
 abbrev pub hash : ℕ
 hash = 35
+
 abbrev pub ampersand : ℕ
 ampersand = 38
+
 abbrev pub apostrophe : ℕ
 apostrophe = 39
+
 abbrev pub hyphen : ℕ
 hyphen = 45
+
 abbrev pub slash : ℕ
 slash = 47
+
 abbrev pub semicolon : ℕ
 semicolon = 59
+
 abbrev pub less : ℕ
 less = 60
+
 abbrev pub equals : ℕ
 equals = 61
+
 abbrev pub greater : ℕ
 greater = 62
+
 abbrev pub question : ℕ
 question = 63
+
 abbrev pub open_bracket : ℕ
 open_bracket = 91
+
 abbrev pub close_bracket : ℕ
 close_bracket = 93
 

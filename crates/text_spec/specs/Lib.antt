@@ -8,3 +8,4 @@ pub mod Tag
 pub mod Tree
 pub mod Element
 pub mod Text
+pub mod Written

@@ -1,5 +1,5 @@
 -- Reading from left to right, with the first flaw that is met.
-use Rattle.std.specs.Prelude.{ℕ, List, [], ◌∷◌, length, drop, Result, Ok, Err, ◌==◌, if◌then◌else◌}
+use Rattle.std.specs.Prelude.{ℕ, List, [], ◌∷◌, length, Result, Ok, Err, ◌==◌, if◌then◌else◌}
 use Rattle.text_spec.specs.declared.fault.Flaw.{Flaw}
 use Rattle.text_spec.specs.declared.fault.TextKind.{TextKind}
 use Rattle.text_spec.specs.declared.fault.TextKind.TheVariants as kind

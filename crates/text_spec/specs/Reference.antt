@@ -1,6 +1,6 @@
 -- References of XML 1.0 (fifth edition), productions 66 to 68 and section 4.6: a number of a
 -- character in decimal or hexadecimal digits, or one of the five names.
-use Rattle.std.specs.Prelude.{ℕ, ◌+◌, ◌*◌, List, [], ◌∷◌, Bool, true, false, ◌&&◌, Result, Ok, Err, nat_lt, ◌==◌, if◌then◌else◌, codes}
+use Rattle.std.specs.Prelude.{ℕ, ◌+◌, ◌*◌, List, [], ◌∷◌, Bool, true, false, ◌&&◌, Ok, Err, nat_lt, ◌==◌, if◌then◌else◌, codes}
 use Rattle.std.specs.Char.{digit_value}
 use Rattle.text_spec.specs.declared.fault.Flaw.{Flaw}
 use Rattle.text_spec.specs.declared.fault.TextKind.TheVariants as kind
@@ -21,8 +21,8 @@ unfoldable pub number_at : ℕ → Flaw → ℕ → Bool → List ℕ → Readin
 number_at base told so_far some [] = Err ended
 number_at base told so_far some (c ∷ cs) =
     if nat_lt (digit_value c) base then
-      (if nat_lt greatest (base * so_far + digit_value c) then Err told
-       else number_at base told (base * so_far + digit_value c) true cs)
+    (if nat_lt greatest (base * so_far + digit_value c) then Err told
+    else number_at base told (base * so_far + digit_value c) true cs)
     else number_end told so_far some c cs
 
 -- after `&#`

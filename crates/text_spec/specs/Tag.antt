@@ -75,7 +75,7 @@ abbrev pub in_tag : (List (List ℕ) → List ℕ → Reading Attributes) → Li
 in_tag more start names blank cs (Some end) = Ok (([], end.0), end.1)
 in_tag more start names blank cs None =
     if blank then (attribute_at (flaw kind.Attribute start) names cs
-        >>= λ a. after_attributes (attribute_of a.0 ∷ []) (more (a.0.0 ∷ names) a.1))
+    >>= λ a. after_attributes (attribute_of a.0 ∷ []) (more (a.0.0 ∷ names) a.1))
     else Err (flaw kind.Tag start)
 
 -- (S Attribute)* S? and the end of the tag, in at most so many steps

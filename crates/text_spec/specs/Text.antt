@@ -18,8 +18,10 @@ use Rattle.text_spec.specs.Element.{ahead_of, Grown, element_at}
 -- the limits of a text
 abbrev pub most_bytes : ℕ
 most_bytes = 65536
+
 abbrev pub most_levels : ℕ
 most_levels = 32
+
 abbrev pub most_elements : ℕ
 most_elements = 4096
 
@@ -91,5 +93,5 @@ unfoldable pub read_of : List ℕ → Result Tree TextFault
 read_of bytes =
     if nat_lt most_bytes (length bytes) then Err (record { at = most_bytes; kind = kind.TooLong })
     else (if nat_lt (utf8_valid_len bytes) (length bytes)
-      then cut_short (utf8_valid_len bytes) (tree_of_characters (chars (take (utf8_valid_len bytes) bytes)))
-      else tree_of_characters (chars bytes))
+    then cut_short (utf8_valid_len bytes) (tree_of_characters (chars (take (utf8_valid_len bytes) bytes)))
+    else tree_of_characters (chars bytes))

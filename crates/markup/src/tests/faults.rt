@@ -33,7 +33,11 @@ const FAULTS: [(&[u8], u64, TextKind); 44] = [
     (b"<a><?xml ?></a>", 3, TextKind::Tag),
     (b" <?xml version='1.0'?><a/>", 1, TextKind::Tag),
     (b"<?xml version='1.1'?><a/>", 0, TextKind::Tag),
-    (b"<?xml version='1.0' encoding='latin-1'?><a/>", 0, TextKind::Tag),
+    (
+        b"<?xml version='1.0' encoding='latin-1'?><a/>",
+        0,
+        TextKind::Tag,
+    ),
     (b"<a b/>", 0, TextKind::Attribute),
     (b"<a b=1/>", 0, TextKind::Attribute),
     (b"<a b='<'/>", 0, TextKind::Attribute),

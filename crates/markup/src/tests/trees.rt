@@ -2,7 +2,8 @@
 use crate::{Tree, read_tree};
 use std::test::*;
 
-const TEXT: &[u8] = b"\xEF\xBB\xBF<?xml version=\"1.0\" encoding='Utf-8' standalone=\"yes\" ?>\r\n<!-- made by a tool --><?style x?>\r\n<domain xmlns:q = \"http://a/b\" id=\"&lt;&#x41;&#66;'\">\r\n  <name>web<!-- no name -->1</name>\r\n  <title> &amp;<![CDATA[<b>&amp;]]]]><![CDATA[>]]>&#10; x </title><q:a/>\n  two\n</domain>\r\n<!-- end -->\n";
+const TEXT: &[u8] =
+    b"\xEF\xBB\xBF<?xml version=\"1.0\" encoding='Utf-8' standalone=\"yes\" ?>\r\n<!-- made by a tool --><?style x?>\r\n<domain xmlns:q = \"http://a/b\" id=\"&lt;&#x41;&#66;'\">\r\n  <name>web<!-- no name -->1</name>\r\n  <title> &amp;<![CDATA[<b>&amp;]]]]><![CDATA[>]]>&#10; x </title><q:a/>\n  two\n</domain>\r\n<!-- end -->\n";
 
 fn is(tree: &Tree, name: &str, text: &str) -> bool {
     tree.name.as_str() == name && tree.text.as_str() == text
@@ -27,7 +28,9 @@ fn a_text_with_all_that_may_stand_in_it_is_read(rt: HostRuntime) -> Result<(), F
 #[test]
 fn names_and_texts_of_other_scripts_are_read(rt: HostRuntime) -> Result<(), Fail> {
     let text = "<größe 高='&#x1F600;'>ä</größe>";
-    let tree = read_tree(rt.alloc(), text.as_bytes()).ok().ok_or("the text is read")?;
+    let tree = read_tree(rt.alloc(), text.as_bytes())
+        .ok()
+        .ok_or("the text is read")?;
     assert!(rt; is(&tree, "größe", "ä"));
     let pairs = tree.attributes.as_slice();
     assert_eq!(rt; pairs.len(), 1);

@@ -1,6 +1,4 @@
-use Rattle.std.proofs.Common.{◌≡◌, ◌≤◌, ◌+◌, length, false}
-use Rattle.std.specs.List.{prefix_len}
-use Rattle.text_spec.specs.Character.{is_run_char}
+use Rattle.std.proofs.Common.{◌≡◌, ◌≤◌, length, false}
 use Rattle.text_spec.specs.Aside as spec
 use Rattle.markup.proofs.aside.comment_at.Given as goal
 

@@ -1,7 +1,6 @@
-use Rattle.std.proofs.Common.{◌≡◌, ◌≤◌, ◌+◌, length, false}
+use Rattle.std.proofs.Common.{◌≡◌, ◌+◌, length}
 use Rattle.std.specs.List.{prefix_len}
 use Rattle.text_spec.specs.Character.{is_run_char}
-use Rattle.text_spec.specs.Aside as spec
 use Rattle.markup.proofs.aside.run_length.Given as goal
 
 abbrev pub invariant-loop-c : goal.invariant-loop-c

@@ -1,4 +1,4 @@
-use Rattle.std.proofs.Common.{◌≡◌, ◌<◌, ◌≤◌, length, ap, ◌∙◌, sym, arith}
+use Rattle.std.proofs.Common.{◌<◌, length, ap, ◌∙◌, sym, arith}
 use Rattle.text_spec.specs.Text.{misc_at}
 use Rattle.markup.proofs.Attributes.{one_less}
 use Rattle.markup.proofs.Miscellany.{misc_ends, misc_flawed, misc_more, misc_stops}

@@ -1,7 +1,6 @@
-use Rattle.std.proofs.Common.{◌≡◌, ℕ, suc, ◌+◌, ◌<◌, ◌≤◌, List, [], ◌∷◌, ◌++◌, length, ap, ◌∙◌, arith, rules, sym, Ok, Err}
+use Rattle.std.proofs.Common.{◌≡◌, suc, ◌<◌, [], ◌∷◌, ◌++◌, length, ap, ◌∙◌, arith, rules, sym, Err}
 use Rattle.std.specs.Prelude.{map}
 use Rattle.std.proofs.lemmas.List.{map-append}
-use Rattle.text_spec.specs.declared.ahead.Ahead.TheVariants as ahead
 use Rattle.text_spec.specs.Tree.{seen}
 use Rattle.text_spec.specs.Element.{ahead_of, element_at, content_at, after_inside}
 use Rattle.markup.specs.View.{IsText, grown_view, piece_text}
@@ -32,17 +31,17 @@ content_at-content-preserved-in-Element t c =
     let i = c.content.invariant in
     let g = c.in-Ok.grown in
     let read = child_read (element_at c.args.depth) c.content.text.items (map seen c.content.children.items) i.0 _ _ _ i.3 (sym c.in-Element.ensures)
-        (grown_view g) c.in-Ok.ensures.reads in
+    (grown_view g) c.in-Ok.ensures.reads in
     let within : length g.rest.now < length c.content.rest.now = c.in-Ok.ensures.within in
     let fewer = one_less (length g.rest.now) i.0 (omega (arith, within, i.1)) in
     let pushed : map seen c.push.new.self.items ≡ map seen c.content.children.items ++ seen g.tree ∷ [] =
-        ap (map seen) c.in_ok-push-in-Element.ensures.items ∙ map-append seen c.content.children.items (g.tree ∷ []) in
-    ( fewer.0
-    , fewer.2
-    , omega (arith, within, i.2)
-    , read
-        ∙ ap (λ k. after_inside c.content.text.items (map seen c.content.children.items ++ seen g.tree ∷ []) (content_at (element_at c.args.depth) k g.room g.rest.now)) (sym fewer.1)
-        ∙ ap (λ ts. after_inside c.content.text.items ts (content_at (element_at c.args.depth) (suc fewer.0) g.room g.rest.now)) (sym pushed)
+    ap (map seen) c.in_ok-push-in-Element.ensures.items ∙ map-append seen c.content.children.items (g.tree ∷ []) in (
+      fewer.0,
+      fewer.2,
+      omega (arith, within, i.2),
+      read
+          ∙ ap (λ k. after_inside c.content.text.items (map seen c.content.children.items ++ seen g.tree ∷ []) (content_at (element_at c.args.depth) k g.room g.rest.now)) (sym fewer.1)
+          ∙ ap (λ ts. after_inside c.content.text.items ts (content_at (element_at c.args.depth) (suc fewer.0) g.room g.rest.now)) (sym pushed),
     )
 
 pub content_at-returns-in-Err-piece_at-clause-reads :
@@ -61,16 +60,16 @@ content_at-content-preserved t c =
     let begins : ahead_of c.content.rest.now ≡ c.ahead_of.result = sym c.ahead_of.ensures in
     let text : IsText c.ahead_of.result = search rules in
     let read = piece_read (element_at c.args.depth) c.content.text.items (map seen c.content.children.items) i.0 _ _ _ i.3
-        c.ahead_of.result text begins (piece_text p.0) p.1.now c.in-Ok-piece_at.ensures.reads in
+    c.ahead_of.result text begins (piece_text p.0) p.1.now c.in-Ok-piece_at.ensures.reads in
     let within : length p.1.now < length c.content.rest.now = c.in-Ok-piece_at.ensures.within in
     let fewer = one_less (length p.1.now) i.0 (omega (arith, within, i.1)) in
-    let added : c.add_piece.new.text.items ≡ c.content.text.items ++ piece_text p.0 = c.in_ok-add_piece-in_default.ensures in
-    ( fewer.0
-    , fewer.2
-    , omega (arith, within, i.2)
-    , read
-        ∙ ap (λ k. after_inside (c.content.text.items ++ piece_text p.0) (map seen c.content.children.items) (content_at (element_at c.args.depth) k c.content.room p.1.now)) (sym fewer.1)
-        ∙ ap (λ xs. after_inside xs (map seen c.content.children.items) (content_at (element_at c.args.depth) (suc fewer.0) c.content.room p.1.now)) (sym added)
+    let added : c.add_piece.new.text.items ≡ c.content.text.items ++ piece_text p.0 = c.in_ok-add_piece-in_default.ensures in (
+      fewer.0,
+      fewer.2,
+      omega (arith, within, i.2),
+      read
+          ∙ ap (λ k. after_inside (c.content.text.items ++ piece_text p.0) (map seen c.content.children.items) (content_at (element_at c.args.depth) k c.content.room p.1.now)) (sym fewer.1)
+          ∙ ap (λ xs. after_inside xs (map seen c.content.children.items) (content_at (element_at c.args.depth) (suc fewer.0) c.content.room p.1.now)) (sym added),
     )
 
 pub element_at-returns-clause-reads : goal.element_at-returns-clause-reads

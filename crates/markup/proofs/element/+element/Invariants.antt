@@ -17,7 +17,7 @@ abbrev pub invariant-content_at-content : goal.invariant-content_at-content
 invariant-content_at-content l =
     (m : ℕ) × (length l.rest ≤ m) × (length l.rest ≤ length l.chars)
     × (content_at (element_at l.depth) (length l.chars + 1) l.initial.room l.chars
-        ≡ after_inside l.text.items (map seen l.children.items) (content_at (element_at l.depth) (suc m) l.room l.rest))
+    ≡ after_inside l.text.items (map seen l.children.items) (content_at (element_at l.depth) (suc m) l.room l.rest))
 
 abbrev pub decreases-content_at-content : goal.decreases-content_at-content
 decreases-content_at-content l = length l.rest

@@ -1,5 +1,5 @@
-use Rattle.std.proofs.Common.{◌≡◌, List, [], ◌∷◌, ◌++◌, length, ◌∙◌, sym, arith, false, true}
-use Rattle.text_spec.specs.Character.{after_blanks, is_blank}
+use Rattle.std.proofs.Common.{◌≡◌, [], ◌∷◌, ◌++◌, length, ◌∙◌, sym, arith, false, true}
+use Rattle.text_spec.specs.Character.{is_blank}
 use Rattle.text_spec.specs.Element.{trimmed}
 use Rattle.markup.proofs.Runs.{trim_more, trim_stops, trim_none}
 use Rattle.markup.proofs.element.trimmed.Goals as goal

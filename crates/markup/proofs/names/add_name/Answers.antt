@@ -1,4 +1,3 @@
-use Rattle.std.specs.contracts.prelude.CharOrd.TheImpl as char_order
 use Rattle.markup.proofs.NameSets.{one_more_name}
 use Rattle.markup.proofs.names.add_name.Goals as goal
 

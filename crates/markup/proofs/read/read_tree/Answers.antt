@@ -1,4 +1,4 @@
-use Rattle.std.proofs.Common.{arith, ap, ◌∙◌}
+use Rattle.std.proofs.Common.{arith, ap}
 use Rattle.std.specs.Prelude.{chars}
 use Rattle.text_spec.specs.Text.{tree_of_characters}
 use Rattle.markup.proofs.Whole.{read_whole}

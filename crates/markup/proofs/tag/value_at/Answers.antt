@@ -1,4 +1,4 @@
-use Rattle.std.proofs.Common.{◌≡◌, ◌≤◌, ◌∷◌, [], length, ap, ◌∙◌, arith, sym, Ok, Err}
+use Rattle.std.proofs.Common.{◌≡◌, ◌∷◌, length, ap, ◌∙◌, arith, sym, Ok, Err}
 use Rattle.text_spec.specs.Tag.{value_char_at, value_at, behind}
 use Rattle.markup.proofs.Values.{value_ended, value_closed, value_stops, value_more}
 use Rattle.markup.proofs.tag.value_at.Goals as goal
@@ -21,11 +21,11 @@ loop-c-preserved c =
     let i = c.loop-c.invariant in
     let next : value_char_at c.args.told c.loop-c.rest.now ≡ Ok (c.in-Ok.read.0, c.in-Ok.read.1.now) = c.in-Ok.ensures.reads in
     let more = value_more c.args.told c.args.quote c.loop-c.found.items i.0 _ _ _ _ _ begins i.1 c.if-c-quote.false next in
-    let within = c.in-Ok.ensures.within in
-    ( more.0
-    , omega (arith, more.1, within)
-    , omega (arith, within, i.2)
-    , i.3 ∙ more.2 ∙ ap (λ front. behind front (value_at more.0 c.args.told c.args.quote c.in-Ok.read.1.now)) (sym c.in_ok-push.ensures.items)
+    let within = c.in-Ok.ensures.within in (
+      more.0,
+      omega (arith, more.1, within),
+      omega (arith, within, i.2),
+      i.3 ∙ more.2 ∙ ap (λ front. behind front (value_at more.0 c.args.told c.args.quote c.in-Ok.read.1.now)) (sym c.in_ok-push.ensures.items),
     )
 
 pub returns-clause-reads : goal.returns-clause-reads
