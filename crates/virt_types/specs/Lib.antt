@@ -1,2 +1,4 @@
 pub mod Name
+pub mod Numbers
+pub mod Refusal
 pub mod Room

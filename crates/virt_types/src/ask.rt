@@ -1,8 +1,14 @@
 // What a call asks of others before it is done: of the guest's monitor, or of the desk.
+ghost use Rattle.std.specs.Prelude.{◌≡◌, ◌≢◌, IfNone, IfSome};
+ghost use Rattle.virt_types.specs.declared.ask.ImageKind.{ImageKind as TheImageKind};
+ghost use Rattle.virt_types.specs.Numbers.{image_number};
+
 use crate::bytes::Bytes;
+use crate::copy::TryCopy;
 use crate::device_def::DeviceDef;
 use crate::domain_def::DomainDef;
 use crate::mac::Mac;
+use crate::memory::NoMemory;
 use crate::name::Name;
 use crate::text::Text;
 use uuid::Uuid;
@@ -60,6 +66,38 @@ pub enum Command {
     Kick(u32),
 }
 
+impl TryCopy for Command {
+    fn copy(&self) -> Result<Command, NoMemory> {
+        Ok(match self {
+            Command::QueryStatus => Command::QueryStatus,
+            Command::QueryMemory => Command::QueryMemory,
+            Command::Cont => Command::Cont,
+            Command::Stop => Command::Stop,
+            Command::Powerdown => Command::Powerdown,
+            Command::Reset => Command::Reset,
+            Command::Quit => Command::Quit,
+            Command::SetMemory(it) => Command::SetMemory(*it),
+            Command::SetVcpus(it) => Command::SetVcpus(*it),
+            Command::AddBackend { slot, device } => Command::AddBackend {
+                slot: *slot,
+                device: device.copy()?,
+            },
+            Command::AddDevice { slot, device } => Command::AddDevice {
+                slot: *slot,
+                device: device.copy()?,
+            },
+            Command::RemoveDevice(it) => Command::RemoveDevice(*it),
+            Command::RemoveBackend(it) => Command::RemoveBackend(*it),
+            Command::CopyBegin => Command::CopyBegin,
+            Command::CopyPoll => Command::CopyPoll,
+            Command::CopyTake => Command::CopyTake,
+            Command::CopyCancel => Command::CopyCancel,
+            Command::LoadState(it) => Command::LoadState(it.copy()?),
+            Command::Kick(it) => Command::Kick(*it),
+        })
+    }
+}
+
 /// What an image holds, with its number in the image's file.
 #[derive(Clone, Copy, Debug, PartialEq, Eq)]
 pub enum ImageKind {
@@ -67,6 +105,25 @@ pub enum ImageKind {
     Save = 1,
     /// A guest that was written out and goes on.
     Dump = 2,
+}
+
+const KINDS: [ImageKind; 2] = [ImageKind::Save, ImageKind::Dump];
+
+impl ImageKind {
+    /// Its number.
+    pub fn number(self) -> u32
+        ensures { result ≡ image_number self }
+    {
+        self as u32
+    }
+
+    /// The kind with this number.
+    pub fn of_number(number: u32) -> Option<ImageKind>
+        ensures some { IfSome result (λ kind. image_number kind ≡ number) }
+        ensures none { IfNone result ((kind : TheImageKind) → image_number kind ≢ number) }
+    {
+        KINDS.iter().copied().find(|kind| kind.number() == number)
+    }
 }
 
 /// What a call asks: a command of the guest's monitor, or one of the five asks of the desk.
@@ -110,6 +167,43 @@ pub enum Ask {
         /// The state of the guest.
         bytes: Bytes,
     },
+}
+
+impl TryCopy for Ask {
+    fn copy(&self) -> Result<Ask, NoMemory> {
+        Ok(match self {
+            Ask::Command(it) => Ask::Command(it.copy()?),
+            Ask::Make { definition, boot } => Ask::Make {
+                definition: definition.copy()?,
+                boot: *boot,
+            },
+            Ask::Put {
+                definition,
+                autostart,
+            } => Ask::Put {
+                definition: definition.copy()?,
+                autostart: *autostart,
+            },
+            Ask::Drop(it) => Ask::Drop(*it),
+            Ask::Lease { network, mac } => Ask::Lease {
+                network: network.copy()?,
+                mac: *mac,
+            },
+            Ask::WriteImage {
+                name,
+                kind,
+                definition,
+                running,
+                bytes,
+            } => Ask::WriteImage {
+                name: name.copy()?,
+                kind: *kind,
+                definition: definition.copy()?,
+                running: *running,
+                bytes: bytes.copy()?,
+            },
+        })
+    }
 }
 
 /// What a guest tells of itself.

@@ -1,6 +1,7 @@
 // Bytes: a `Vec<u8>` that contracts see as its list.
 ghost use Rattle.std.specs.Prelude.{◌≡◌, ◌==◌, IfOk, length};
 
+use crate::copy::TryCopy;
 use crate::memory::NoMemory;
 use std::alloc::Global;
 use std::marker::Model;
@@ -63,11 +64,10 @@ impl Bytes {
     {
         self.bytes.is_empty()
     }
+}
 
-    /// Equal bytes.
-    pub fn copy(&self) -> Result<Bytes, NoMemory>
-        ensures { IfOk result (λ b. b ≡ self.now) }
-    {
+impl TryCopy for Bytes {
+    fn copy(&self) -> Result<Bytes, NoMemory> {
         Ok(Bytes {
             bytes: Vec::from_slice(*self.bytes.allocator(), self.bytes.as_slice())?,
         })

@@ -1,8 +1,10 @@
 // What is asked of a domain's cell: calls, which leave marks, and queries, which read.
 use crate::bytes::Bytes;
+use crate::copy::TryCopy;
 use crate::device_def::DeviceDef;
 use crate::domain::SnapInfo;
 use crate::domain_def::DomainDef;
+use crate::memory::NoMemory;
 use crate::name::Name;
 
 /// A call on a domain's cell. The last seven begin an operation.
@@ -68,6 +70,47 @@ pub enum Call {
     Revert(Name),
 }
 
+impl TryCopy for Call {
+    fn copy(&self) -> Result<Call, NoMemory> {
+        Ok(match self {
+            Call::Suspend => Call::Suspend,
+            Call::Resume => Call::Resume,
+            Call::Shutdown => Call::Shutdown,
+            Call::Reboot => Call::Reboot,
+            Call::Destroy => Call::Destroy,
+            Call::Define(it) => Call::Define(it.copy()?),
+            Call::Undefine => Call::Undefine,
+            Call::SetAutostart(it) => Call::SetAutostart(*it),
+            Call::SetMemory(it) => Call::SetMemory(*it),
+            Call::SetVcpus(it) => Call::SetVcpus(*it),
+            Call::Attach(it) => Call::Attach(it.copy()?),
+            Call::Detach(it) => Call::Detach(it.copy()?),
+            Call::MemoryStats => Call::MemoryStats,
+            Call::Kick(it) => Call::Kick(*it),
+            Call::Abort => Call::Abort,
+            Call::SnapDelete { name, children } => Call::SnapDelete {
+                name: name.copy()?,
+                children: *children,
+            },
+            Call::Start => Call::Start,
+            Call::Create(it) => Call::Create(it.copy()?),
+            Call::Restore {
+                definition,
+                running,
+                saved,
+            } => Call::Restore {
+                definition: definition.copy()?,
+                running: *running,
+                saved: saved.copy()?,
+            },
+            Call::Save(it) => Call::Save(it.copy()?),
+            Call::Dump(it) => Call::Dump(it.copy()?),
+            Call::Snapshot(it) => Call::Snapshot(it.copy()?),
+            Call::Revert(it) => Call::Revert(it.copy()?),
+        })
+    }
+}
+
 /// What is read of a domain's cell.
 #[derive(Drop)]
 pub enum Query {
@@ -90,4 +133,19 @@ pub enum Query {
     SnapParent(Name),
     /// The snapshot of this name.
     SnapText(Name),
+}
+
+impl TryCopy for Query {
+    fn copy(&self) -> Result<Query, NoMemory> {
+        Ok(match self {
+            Query::Reference => Query::Reference,
+            Query::Text { stored } => Query::Text { stored: *stored },
+            Query::Autostart => Query::Autostart,
+            Query::Info => Query::Info,
+            Query::JobInfo => Query::JobInfo,
+            Query::SnapNames => Query::SnapNames,
+            Query::SnapParent(it) => Query::SnapParent(it.copy()?),
+            Query::SnapText(it) => Query::SnapText(it.copy()?),
+        })
+    }
 }

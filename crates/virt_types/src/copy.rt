@@ -1,5 +1,5 @@
 // Copies of values that hold collections, each equal to the value that it was made of.
-ghost use Rattle.std.specs.Prelude.{◌≡◌, IfOk};
+ghost use Rattle.std.specs.Prelude.{◌≡◌, IfOk, Ok};
 
 use crate::memory::NoMemory;
 
@@ -12,11 +12,31 @@ pub trait TryCopy {
         ensures { IfOk result (λ it. it ≡ self.now) };
 }
 
+impl TryCopy for u32 {
+    fn copy(&self) -> Result<u32, NoMemory> {
+        Ok(*self)
+    }
+}
+
 impl<T: TryCopy> TryCopy for Option<T> {
     fn copy(&self) -> Result<Option<T>, NoMemory> {
         match self {
             Some(it) => Ok(Some(it.copy()?)),
             None => Ok(None),
         }
+    }
+}
+
+/// Both of two results, where both are there. A value of many large parts is put together by it: a
+/// `?` after each part would have the parts before it dropped in as many ways as there are parts.
+pub fn both<A: Drop, B: Drop>(
+    one: Result<A, NoMemory>,
+    other: Result<B, NoMemory>,
+) -> Result<(A, B), NoMemory>
+    ensures { IfOk result (λ pair. (one ≡ Ok pair.0) × (other ≡ Ok pair.1)) }
+{
+    match (one, other) {
+        (Ok(one), Ok(other)) => Ok((one, other)),
+        _ => Err(NoMemory),
     }
 }

@@ -1,6 +1,8 @@
 // Devices that a definition describes and that are attached and detached: disks and interfaces.
+use crate::copy::TryCopy;
 use crate::list::ListOf;
 use crate::mac::Mac;
+use crate::memory::NoMemory;
 use crate::text::Text;
 
 /// What a disk's source is: the attribute `type`.
@@ -36,6 +38,15 @@ pub struct DiskDriver {
     pub kind: Option<Text>,
 }
 
+impl TryCopy for DiskDriver {
+    fn copy(&self) -> Result<DiskDriver, NoMemory> {
+        Ok(DiskDriver {
+            name: self.name.copy()?,
+            kind: self.kind.copy()?,
+        })
+    }
+}
+
 /// `source`: where the disk's content lies.
 #[derive(Drop)]
 pub struct DiskSource {
@@ -49,6 +60,17 @@ pub struct DiskSource {
     pub volume: Option<Text>,
 }
 
+impl TryCopy for DiskSource {
+    fn copy(&self) -> Result<DiskSource, NoMemory> {
+        Ok(DiskSource {
+            file: self.file.copy()?,
+            dev: self.dev.copy()?,
+            pool: self.pool.copy()?,
+            volume: self.volume.copy()?,
+        })
+    }
+}
+
 /// `target`: where the guest sees the disk.
 #[derive(Drop)]
 pub struct DiskTarget {
@@ -56,6 +78,15 @@ pub struct DiskTarget {
     pub dev: Text,
     /// The attribute `bus`.
     pub bus: Option<Text>,
+}
+
+impl TryCopy for DiskTarget {
+    fn copy(&self) -> Result<DiskTarget, NoMemory> {
+        Ok(DiskTarget {
+            dev: self.dev.copy()?,
+            bus: self.bus.copy()?,
+        })
+    }
 }
 
 /// `disk`: a disk of a domain (libvirt's domain XML, "Hard drives, floppy disks, CDROMs").
@@ -73,6 +104,19 @@ pub struct Disk {
     pub target: DiskTarget,
     /// Whether the element `readonly` stands.
     pub readonly: bool,
+}
+
+impl TryCopy for Disk {
+    fn copy(&self) -> Result<Disk, NoMemory> {
+        Ok(Disk {
+            kind: self.kind,
+            device: self.device,
+            driver: self.driver.copy()?,
+            source: self.source.copy()?,
+            target: self.target.copy()?,
+            readonly: self.readonly,
+        })
+    }
 }
 
 /// What an interface is joined to: the attribute `type`.
@@ -95,11 +139,28 @@ pub struct InterfaceSource {
     pub bridge: Option<Text>,
 }
 
+impl TryCopy for InterfaceSource {
+    fn copy(&self) -> Result<InterfaceSource, NoMemory> {
+        Ok(InterfaceSource {
+            network: self.network.copy()?,
+            bridge: self.bridge.copy()?,
+        })
+    }
+}
+
 /// `model`: what card the guest sees.
 #[derive(Drop)]
 pub struct InterfaceModel {
     /// The attribute `type`.
     pub kind: Option<Text>,
+}
+
+impl TryCopy for InterfaceModel {
+    fn copy(&self) -> Result<InterfaceModel, NoMemory> {
+        Ok(InterfaceModel {
+            kind: self.kind.copy()?,
+        })
+    }
 }
 
 /// `interface`: a network interface of a domain (libvirt's domain XML, "Network interfaces").
@@ -115,6 +176,17 @@ pub struct Interface {
     pub model: Option<InterfaceModel>,
 }
 
+impl TryCopy for Interface {
+    fn copy(&self) -> Result<Interface, NoMemory> {
+        Ok(Interface {
+            kind: self.kind,
+            mac: self.mac,
+            source: self.source.copy()?,
+            model: self.model.copy()?,
+        })
+    }
+}
+
 /// A device that is attached or detached by itself.
 #[derive(Drop)]
 pub enum DeviceDef {
@@ -122,6 +194,15 @@ pub enum DeviceDef {
     Disk(Disk),
     /// A network interface.
     Interface(Interface),
+}
+
+impl TryCopy for DeviceDef {
+    fn copy(&self) -> Result<DeviceDef, NoMemory> {
+        Ok(match self {
+            DeviceDef::Disk(it) => DeviceDef::Disk(it.copy()?),
+            DeviceDef::Interface(it) => DeviceDef::Interface(it.copy()?),
+        })
+    }
 }
 
 /// Disks in order.

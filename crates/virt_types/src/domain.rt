@@ -1,7 +1,9 @@
 // What a cell of a domain holds: the domain's definitions, its live guest, its snapshots.
 use crate::bytes::Bytes;
+use crate::copy::{TryCopy, both};
 use crate::domain_def::DomainDef;
 use crate::list::ListOf;
+use crate::memory::NoMemory;
 use crate::name::Name;
 use crate::operation::Op;
 use crate::run_state::{EndReason, RunState};
@@ -25,6 +27,17 @@ pub struct Live {
     pub slots: SlotList,
 }
 
+impl TryCopy for Live {
+    fn copy(&self) -> Result<Live, NoMemory> {
+        Ok(Live {
+            boot: self.boot,
+            run: self.run,
+            def: self.def.copy()?,
+            slots: self.slots.copy()?,
+        })
+    }
+}
+
 /// What a snapshot is to be, as a caller describes it (libvirt's snapshot XML format).
 #[derive(Drop)]
 pub struct SnapInfo {
@@ -32,6 +45,15 @@ pub struct SnapInfo {
     pub name: Option<Name>,
     /// `description`.
     pub description: Option<Text>,
+}
+
+impl TryCopy for SnapInfo {
+    fn copy(&self) -> Result<SnapInfo, NoMemory> {
+        Ok(SnapInfo {
+            name: self.name.copy()?,
+            description: self.description.copy()?,
+        })
+    }
 }
 
 /// A snapshot.
@@ -49,6 +71,19 @@ pub struct Snap {
     pub def: DomainDef,
     /// The state of the guest, at most 4,096 bytes; empty where there was no guest.
     pub saved: Bytes,
+}
+
+impl TryCopy for Snap {
+    fn copy(&self) -> Result<Snap, NoMemory> {
+        Ok(Snap {
+            name: self.name.copy()?,
+            description: self.description.copy()?,
+            parent: self.parent.copy()?,
+            run: self.run,
+            def: self.def.copy()?,
+            saved: self.saved.copy()?,
+        })
+    }
 }
 
 /// Snapshots, by rising name.
@@ -80,6 +115,30 @@ pub struct Domain {
     pub last: Option<(u64, EndReason)>,
 }
 
+impl TryCopy for Domain {
+    fn copy(&self) -> Result<Domain, NoMemory> {
+        let definitions = both(self.stored.copy(), self.live.copy());
+        let snapshots = both(self.snaps.copy(), self.current.copy());
+        let others = both(self.name.copy(), self.op.copy());
+        let ((stored, live), ((snaps, current), (name, op))) = both(
+            definitions,
+            both(snapshots, others),
+        )?;
+        Ok(Domain {
+            uuid: self.uuid,
+            name,
+            stored,
+            live,
+            autostart: self.autostart,
+            snaps,
+            current,
+            op,
+            boots: self.boots,
+            last: self.last,
+        })
+    }
+}
+
 /// What a cell holds. It serves one domain after another.
 #[derive(Drop)]
 pub enum State {
@@ -90,4 +149,13 @@ pub enum State {
     },
     /// A domain.
     Held(Domain),
+}
+
+impl TryCopy for State {
+    fn copy(&self) -> Result<State, NoMemory> {
+        Ok(match self {
+            State::Vacant { boots } => State::Vacant { boots: *boots },
+            State::Held(it) => State::Held(it.copy()?),
+        })
+    }
 }

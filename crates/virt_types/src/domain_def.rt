@@ -1,6 +1,8 @@
 // The definition of a domain, with one field for each row of its element table.
+use crate::copy::TryCopy;
 use crate::device_def::{DiskList, InterfaceList};
 use crate::list::ListOf;
+use crate::memory::NoMemory;
 use crate::name::Name;
 use crate::script::Script;
 use crate::text::Text;
@@ -28,6 +30,12 @@ pub enum BootDevice {
     Fd,
 }
 
+impl TryCopy for BootDevice {
+    fn copy(&self) -> Result<BootDevice, NoMemory> {
+        Ok(*self)
+    }
+}
+
 /// Boot devices in order of trial.
 pub type BootDeviceList = ListOf<BootDevice>;
 
@@ -42,6 +50,17 @@ pub struct Os {
     pub machine: Option<Text>,
     /// The elements `boot`.
     pub boot: BootDeviceList,
+}
+
+impl TryCopy for Os {
+    fn copy(&self) -> Result<Os, NoMemory> {
+        Ok(Os {
+            kind: self.kind.copy()?,
+            arch: self.arch.copy()?,
+            machine: self.machine.copy()?,
+            boot: self.boot.copy()?,
+        })
+    }
 }
 
 /// What is wanted when a guest powers off or reboots. It is kept and printed, and steers nothing.
@@ -81,6 +100,14 @@ pub struct CharacterDevice {
     pub kind: Option<Text>,
 }
 
+impl TryCopy for CharacterDevice {
+    fn copy(&self) -> Result<CharacterDevice, NoMemory> {
+        Ok(CharacterDevice {
+            kind: self.kind.copy()?,
+        })
+    }
+}
+
 /// Character devices in order.
 pub type CharacterDeviceList = ListOf<CharacterDevice>;
 
@@ -93,6 +120,15 @@ pub struct Graphics {
     pub port: Option<Text>,
 }
 
+impl TryCopy for Graphics {
+    fn copy(&self) -> Result<Graphics, NoMemory> {
+        Ok(Graphics {
+            kind: self.kind.copy()?,
+            port: self.port.copy()?,
+        })
+    }
+}
+
 /// Elements `graphics` in order.
 pub type GraphicsList = ListOf<Graphics>;
 
@@ -101,6 +137,14 @@ pub type GraphicsList = ListOf<Graphics>;
 pub struct Memballoon {
     /// The attribute `model`.
     pub model: Option<Text>,
+}
+
+impl TryCopy for Memballoon {
+    fn copy(&self) -> Result<Memballoon, NoMemory> {
+        Ok(Memballoon {
+            model: self.model.copy()?,
+        })
+    }
 }
 
 /// The definition of a domain (libvirt's domain XML format, in this project's profile).
@@ -148,4 +192,32 @@ pub struct DomainDef {
     pub graphics: GraphicsList,
     /// `devices/memballoon`.
     pub memballoon: Option<Memballoon>,
+}
+
+impl TryCopy for DomainDef {
+    fn copy(&self) -> Result<DomainDef, NoMemory> {
+        Ok(DomainDef {
+            kind: self.kind,
+            name: self.name.copy()?,
+            uuid: self.uuid,
+            title: self.title.copy()?,
+            description: self.description.copy()?,
+            guest: self.guest.copy()?,
+            memory: self.memory,
+            current_memory: self.current_memory,
+            vcpus: self.vcpus,
+            current_vcpus: self.current_vcpus,
+            os: self.os.copy()?,
+            on_poweroff: self.on_poweroff,
+            on_reboot: self.on_reboot,
+            on_crash: self.on_crash,
+            emulator: self.emulator.copy()?,
+            disks: self.disks.copy()?,
+            interfaces: self.interfaces.copy()?,
+            serials: self.serials.copy()?,
+            consoles: self.consoles.copy()?,
+            graphics: self.graphics.copy()?,
+            memballoon: self.memballoon.copy()?,
+        })
+    }
 }

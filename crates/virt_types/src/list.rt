@@ -1,6 +1,7 @@
 // Lists: a `Vec` that contracts see as its list, so that what holds one is seen without its allocator.
 ghost use Rattle.std.specs.Prelude.{◌≡◌, ◌==◌, ◌++◌, ◌∷◌, [], length, OnOk, OnErr};
 
+use crate::copy::TryCopy;
 use crate::memory::NoMemory;
 use std::alloc::Global;
 use std::marker::Model;
@@ -72,5 +73,15 @@ impl<T> ListOf<T> {
         ensures err { OnErr result (self.new ≡ self.old) }
     {
         Ok(self.entries.push(entry)?)
+    }
+}
+
+impl<T: TryCopy + Drop> TryCopy for ListOf<T> {
+    fn copy(&self) -> Result<ListOf<T>, NoMemory> {
+        let mut entries = Vec::with_capacity(*self.entries.allocator(), self.entries.len())?;
+        for entry in self.entries.as_slice() {
+            entries.push(entry.copy()?)?;
+        }
+        Ok(ListOf { entries })
     }
 }

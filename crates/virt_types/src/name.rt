@@ -2,6 +2,7 @@
 ghost use Rattle.std.specs.Prelude.{◌≡◌, IfOk, IfErr, IfNone, IsUtf8, OnOk, None, position, length, ◌≤◌};
 ghost use Rattle.virt_types.specs.Name.{IsName, IsRefused, bad_place, first_forbidden, is_bad_whole, is_forbidden};
 
+use crate::copy::TryCopy;
 use crate::memory::{NoMemory, OrNoMemory};
 use std::alloc::Global;
 use std::marker::Model;
@@ -124,11 +125,10 @@ impl Name {
     {
         self.text.as_bytes()
     }
+}
 
-    /// An equal name.
-    pub fn copy(&self) -> Result<Name, NoMemory>
-        ensures { IfOk result (λ n. n ≡ self.now) }
-    {
+impl TryCopy for Name {
+    fn copy(&self) -> Result<Name, NoMemory> {
         Ok(Name {
             text: self.text.clone()?,
         })

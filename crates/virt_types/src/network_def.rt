@@ -1,6 +1,8 @@
 // The definition of a network, with one field for each row of its element table.
+use crate::copy::TryCopy;
 use crate::list::ListOf;
 use crate::mac::Mac;
+use crate::memory::NoMemory;
 use crate::name::Name;
 use crate::text::Text;
 use uuid::Uuid;
@@ -33,6 +35,12 @@ pub struct HostLine {
     pub address: u32,
 }
 
+impl TryCopy for HostLine {
+    fn copy(&self) -> Result<HostLine, NoMemory> {
+        Ok(*self)
+    }
+}
+
 /// Elements `host` in order.
 pub type HostLineList = ListOf<HostLine>;
 
@@ -45,6 +53,15 @@ pub struct Dhcp {
     pub hosts: HostLineList,
 }
 
+impl TryCopy for Dhcp {
+    fn copy(&self) -> Result<Dhcp, NoMemory> {
+        Ok(Dhcp {
+            range: self.range,
+            hosts: self.hosts.copy()?,
+        })
+    }
+}
+
 /// `ip`: the addresses of a network.
 #[derive(Drop)]
 pub struct NetIp {
@@ -55,6 +72,16 @@ pub struct NetIp {
     pub prefix: u32,
     /// The element `dhcp`.
     pub dhcp: Option<Dhcp>,
+}
+
+impl TryCopy for NetIp {
+    fn copy(&self) -> Result<NetIp, NoMemory> {
+        Ok(NetIp {
+            address: self.address,
+            prefix: self.prefix,
+            dhcp: self.dhcp.copy()?,
+        })
+    }
 }
 
 /// The definition of a network (libvirt's network XML format, in this project's profile).
@@ -70,4 +97,16 @@ pub struct NetDef {
     pub bridge: Option<Text>,
     /// `ip`.
     pub ip: Option<NetIp>,
+}
+
+impl TryCopy for NetDef {
+    fn copy(&self) -> Result<NetDef, NoMemory> {
+        Ok(NetDef {
+            name: self.name.copy()?,
+            uuid: self.uuid,
+            forward: self.forward,
+            bridge: self.bridge.copy()?,
+            ip: self.ip.copy()?,
+        })
+    }
 }

@@ -1,5 +1,12 @@
 // Operations: the long works on a domain, beside which other calls are served.
+ghost use Rattle.std.specs.Prelude.{◌≡◌, ◌==◌, ◌≢◌, IfNone, IfSome, find};
+ghost use Rattle.virt_types.specs.declared.operation.OpKind.{OpKind as TheOpKind};
+ghost use Rattle.virt_types.specs.declared.operation.Phase.{Phase as ThePhase};
+ghost use Rattle.virt_types.specs.Numbers.{op_number, op_word, phase_number};
+
 use crate::caller::Who;
+use crate::copy::TryCopy;
+use crate::memory::NoMemory;
 use crate::refusal::Refusal;
 
 /// What kind of operation it is. Its arguments stand in its call. The numbers are those by which
@@ -18,6 +25,46 @@ pub enum OpKind {
     Restore = 5,
     /// A snapshot is gone back to.
     Revert = 6,
+}
+
+const KINDS: [OpKind; 6] = [
+    OpKind::Start,
+    OpKind::Save,
+    OpKind::Dump,
+    OpKind::Snapshot,
+    OpKind::Restore,
+    OpKind::Revert,
+];
+
+impl OpKind {
+    /// Its number.
+    pub fn number(self) -> u32
+        ensures { result ≡ op_number self }
+    {
+        self as u32
+    }
+
+    /// The kind with this number.
+    pub fn of_number(number: u32) -> Option<OpKind>
+        ensures some { IfSome result (λ kind. op_number kind ≡ number) }
+        ensures none { IfNone result ((kind : TheOpKind) → op_number kind ≢ number) }
+    {
+        KINDS.iter().copied().find(|kind| kind.number() == number)
+    }
+
+    /// The word for it.
+    pub fn word(self) -> &'static str
+        ensures { result.now ≡ op_word self }
+    {
+        match self {
+            OpKind::Start => "start",
+            OpKind::Save => "save",
+            OpKind::Dump => "dump",
+            OpKind::Snapshot => "snapshot",
+            OpKind::Restore => "restore",
+            OpKind::Revert => "revert",
+        }
+    }
 }
 
 /// A step of an operation, with the numbers by which the wire and status files tell it.
@@ -44,6 +91,44 @@ pub enum Phase {
     Cancel = 8,
 }
 
+const PHASES: [Phase; 9] = [
+    Phase::Nothing,
+    Phase::Make,
+    Phase::Run,
+    Phase::Load,
+    Phase::Copy,
+    Phase::Poll,
+    Phase::Take,
+    Phase::Quit,
+    Phase::Cancel,
+];
+
+fn phase_numbered(number: u32) -> Option<Phase>
+    ensures { result ≡ find (λ phase. phase_number phase == number) PHASES }
+{
+    PHASES
+        .iter()
+        .copied()
+        .find(|phase| phase.number() == number)
+}
+
+impl Phase {
+    /// Its number.
+    pub fn number(self) -> u32
+        ensures { result ≡ phase_number self }
+    {
+        self as u32
+    }
+
+    /// The phase with this number.
+    pub fn of_number(number: u32) -> Option<Phase>
+        ensures some { IfSome result (λ phase. phase_number phase ≡ number) }
+        ensures none { IfNone result ((phase : ThePhase) → phase_number phase ≢ number) }
+    {
+        phase_numbered(number)
+    }
+}
+
 /// An operation that is under way.
 #[derive(Drop)]
 pub struct Op {
@@ -65,4 +150,20 @@ pub struct Op {
     pub remaining: Option<u64>,
     /// The refusal that led to the step that gives up, and with which it then ends.
     pub refusal: Option<Refusal>,
+}
+
+impl TryCopy for Op {
+    fn copy(&self) -> Result<Op, NoMemory> {
+        Ok(Op {
+            kind: self.kind,
+            who: self.who,
+            boot: self.boot,
+            phase: self.phase,
+            was_running: self.was_running,
+            abort: self.abort,
+            still: self.still,
+            remaining: self.remaining,
+            refusal: self.refusal.copy()?,
+        })
+    }
 }

@@ -1,4 +1,6 @@
 // How the wire refers to domains, networks and pools.
+use crate::copy::TryCopy;
+use crate::memory::NoMemory;
 use crate::name::Name;
 use crate::text::Text;
 use uuid::Uuid;
@@ -15,6 +17,16 @@ pub struct DomainRef {
     pub id: i32,
 }
 
+impl TryCopy for DomainRef {
+    fn copy(&self) -> Result<DomainRef, NoMemory> {
+        Ok(DomainRef {
+            name: self.name.copy()?,
+            uuid: self.uuid,
+            id: self.id,
+        })
+    }
+}
+
 /// A network as replies name it (`remote_nonnull_network`).
 #[derive(Drop)]
 pub struct NetworkRef {
@@ -24,6 +36,15 @@ pub struct NetworkRef {
     pub uuid: Uuid,
 }
 
+impl TryCopy for NetworkRef {
+    fn copy(&self) -> Result<NetworkRef, NoMemory> {
+        Ok(NetworkRef {
+            name: self.name.copy()?,
+            uuid: self.uuid,
+        })
+    }
+}
+
 /// A pool as replies name it (`remote_nonnull_storage_pool`).
 #[derive(Drop)]
 pub struct PoolRef {
@@ -31,6 +52,15 @@ pub struct PoolRef {
     pub name: Name,
     /// Its identifier.
     pub uuid: Uuid,
+}
+
+impl TryCopy for PoolRef {
+    fn copy(&self) -> Result<PoolRef, NoMemory> {
+        Ok(PoolRef {
+            name: self.name.copy()?,
+            uuid: self.uuid,
+        })
+    }
 }
 
 /// The domain that a call is for. The identifier alone says which; the rest is passed over, so
@@ -45,6 +75,16 @@ pub struct DomainTarget {
     pub id: i32,
 }
 
+impl TryCopy for DomainTarget {
+    fn copy(&self) -> Result<DomainTarget, NoMemory> {
+        Ok(DomainTarget {
+            name: self.name.copy()?,
+            uuid: self.uuid,
+            id: self.id,
+        })
+    }
+}
+
 /// The network that a call is for. The identifier alone says which.
 #[derive(Drop)]
 pub struct NetworkTarget {
@@ -54,6 +94,15 @@ pub struct NetworkTarget {
     pub uuid: Uuid,
 }
 
+impl TryCopy for NetworkTarget {
+    fn copy(&self) -> Result<NetworkTarget, NoMemory> {
+        Ok(NetworkTarget {
+            name: self.name.copy()?,
+            uuid: self.uuid,
+        })
+    }
+}
+
 /// The pool that a call is for. The identifier alone says which.
 #[derive(Drop)]
 pub struct PoolTarget {
@@ -61,4 +110,13 @@ pub struct PoolTarget {
     pub name: Text,
     /// Its identifier.
     pub uuid: Uuid,
+}
+
+impl TryCopy for PoolTarget {
+    fn copy(&self) -> Result<PoolTarget, NoMemory> {
+        Ok(PoolTarget {
+            name: self.name.copy()?,
+            uuid: self.uuid,
+        })
+    }
 }

@@ -1,5 +1,13 @@
 // Refusals: why a call was not done, as an error on the wire tells it.
+ghost use Rattle.std.specs.Prelude.{◌≡◌, ◌==◌, ◌≢◌, IfOk, IfNone, IfSome, IsCharBoundary, find, take};
+ghost use Rattle.std.specs.Str.Lossy.{utf8_valid_len};
+ghost use Rattle.virt_types.specs.declared.refusal.RefusalCode.{RefusalCode as Code};
+ghost use Rattle.virt_types.specs.Refusal.{kept_cut, refusal_message, refusal_number};
+
+use crate::copy::TryCopy;
+use crate::memory::NoMemory;
 use crate::text::Text;
+use std::alloc::Global;
 
 /// Why a call was refused, with the code of its error. The codes below 100 are libvirt's
 /// (`virErrorNumber` of `virterror.h`), those from 201 on this project's own.
@@ -67,12 +75,145 @@ pub enum RefusalCode {
     VolumeExists = 213,
 }
 
+// Each reason, so that a number can be looked up.
+const CODES: [RefusalCode; 30] = [
+    RefusalCode::NoMemory,
+    RefusalCode::UnknownProcedure,
+    RefusalCode::InvalidArgument,
+    RefusalCode::OperationFailed,
+    RefusalCode::BadDefinition,
+    RefusalCode::DomainExists,
+    RefusalCode::NetworkExists,
+    RefusalCode::StoreFailed,
+    RefusalCode::MalformedCall,
+    RefusalCode::NoDomain,
+    RefusalCode::NoNetwork,
+    RefusalCode::NoPool,
+    RefusalCode::NoVolume,
+    RefusalCode::OperationInvalid,
+    RefusalCode::OperationTimeout,
+    RefusalCode::NoSnapshot,
+    RefusalCode::OperationAborted,
+    RefusalCode::GuestEnded,
+    RefusalCode::MonitorLost,
+    RefusalCode::TooManyWaiting,
+    RefusalCode::ListFull,
+    RefusalCode::HistoryFull,
+    RefusalCode::NotBuilt,
+    RefusalCode::Stalled,
+    RefusalCode::SnapshotExists,
+    RefusalCode::NoFreeSlot,
+    RefusalCode::EventsLost,
+    RefusalCode::CountSpent,
+    RefusalCode::PoolExists,
+    RefusalCode::VolumeExists,
+];
+
+fn code_numbered(number: u32) -> Option<RefusalCode>
+    ensures { result ≡ find (λ code. refusal_number code == number) CODES }
+{
+    CODES.iter().copied().find(|code| code.number() == number)
+}
+
+impl RefusalCode {
+    /// The number of the error.
+    pub fn number(self) -> u32
+        ensures { result ≡ refusal_number self }
+    {
+        self as u32
+    }
+
+    /// The reason with this number.
+    pub fn of_number(number: u32) -> Option<RefusalCode>
+        ensures some { IfSome result (λ code. refusal_number code ≡ number) }
+        ensures none { IfNone result ((code : Code) → refusal_number code ≢ number) }
+    {
+        code_numbered(number)
+    }
+
+    /// The message of the error.
+    pub fn message(self) -> &'static str
+        ensures { result.now ≡ refusal_message self }
+    {
+        match self {
+            RefusalCode::NoMemory => "no memory",
+            RefusalCode::UnknownProcedure => "unknown procedure",
+            RefusalCode::InvalidArgument => "invalid argument",
+            RefusalCode::OperationFailed => "operation failed",
+            RefusalCode::BadDefinition => "bad definition",
+            RefusalCode::DomainExists => "domain exists",
+            RefusalCode::NetworkExists => "network exists",
+            RefusalCode::StoreFailed => "store failed",
+            RefusalCode::MalformedCall => "malformed call",
+            RefusalCode::NoDomain => "no domain",
+            RefusalCode::NoNetwork => "no network",
+            RefusalCode::NoPool => "no pool",
+            RefusalCode::NoVolume => "no volume",
+            RefusalCode::OperationInvalid => "operation invalid",
+            RefusalCode::OperationTimeout => "operation timeout",
+            RefusalCode::NoSnapshot => "no snapshot",
+            RefusalCode::OperationAborted => "operation aborted",
+            RefusalCode::GuestEnded => "guest ended",
+            RefusalCode::MonitorLost => "monitor lost",
+            RefusalCode::TooManyWaiting => "too many waiting",
+            RefusalCode::ListFull => "list full",
+            RefusalCode::HistoryFull => "history full",
+            RefusalCode::NotBuilt => "not built",
+            RefusalCode::Stalled => "stalled",
+            RefusalCode::SnapshotExists => "snapshot exists",
+            RefusalCode::NoFreeSlot => "no free slot",
+            RefusalCode::EventsLost => "events lost",
+            RefusalCode::CountSpent => "count spent",
+            RefusalCode::PoolExists => "pool exists",
+            RefusalCode::VolumeExists => "volume exists",
+        }
+    }
+}
+
 /// Why a call was not done.
 #[derive(Drop)]
 pub struct Refusal {
     /// The reason.
     pub code: RefusalCode,
-    /// What it is about, at most 1,024 bytes: a name, a number, a place. Empty where nothing is to
-    /// be said.
+    /// What it is about: a name, a number, a place. Empty where nothing is to be said.
     pub kept: Text,
+}
+
+impl TryCopy for Refusal {
+    fn copy(&self) -> Result<Refusal, NoMemory> {
+        Ok(Refusal {
+            code: self.code,
+            kept: self.kept.copy()?,
+        })
+    }
+}
+
+// The most bytes that a refusal keeps of a text.
+const KEPT_MOST: usize = 1024;
+
+// How much of the text a refusal keeps.
+fn cut_place(text: &str) -> usize
+    ensures place { result ≡ utf8_valid_len (take 1024 text.now) }
+    ensures boundary { IsCharBoundary text.now result }
+{
+    let bytes = text.as_bytes();
+    let front = &bytes[..KEPT_MOST.min(bytes.len())];
+    match str::from_utf8(front) {
+        Ok(_) => front.len(),
+        Err(fault) => fault.valid_up_to(),
+    }
+}
+
+impl Refusal {
+    /// A refusal for this reason. Of the text it keeps the longest front of whole characters within
+    /// 1,024 bytes.
+    pub fn new(alloc: Global, code: RefusalCode, kept: &str) -> Result<Refusal, NoMemory>
+        ensures code { IfOk result (λ refusal. refusal.code ≡ code) }
+        ensures kept { IfOk result (λ refusal. refusal.kept ≡ kept_cut kept.now) }
+    {
+        Ok(Refusal {
+            code,
+            kept: Text::copy_of(alloc, &kept[..cut_place(kept)])?,
+        })
+    }
 }

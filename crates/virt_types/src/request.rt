@@ -1,12 +1,15 @@
 // Requests: what a session is asked, one variant for each procedure of the two programs' tables.
+use crate::copy::TryCopy;
 use crate::list::ListOf;
+use crate::memory::NoMemory;
+use crate::object_request::{DomainRequest, NetworkRequest, PoolRequest};
 use crate::reference::{DomainTarget, NetworkTarget, PoolTarget};
 use crate::text::Text;
 use uuid::Uuid;
 
-/// What a session is asked: the procedures of the first program, as in libvirt's
-/// `remote_protocol.x`, and then those of this project's own program. Numbers and texts are as the
-/// wire has them; whether they are in their range is tested where the request is served.
+/// What a session is asked. The procedures that are for one domain, network or pool stand in an enum
+/// of their own, behind the reference that is the first argument of each. Numbers and texts are as the
+/// wire has them: whether they are in their range is tested where the request is served.
 #[derive(Drop)]
 pub enum Request {
     /// `CONNECT_OPEN`, 1.
@@ -18,18 +21,6 @@ pub enum Request {
     },
     /// `CONNECT_CLOSE`, 2.
     ConnectClose,
-    /// `DOMAIN_ATTACH_DEVICE`, 8.
-    DomainAttachDevice {
-        /// The domain.
-        domain: DomainTarget,
-        /// The device's text.
-        xml: Text,
-    },
-    /// `DOMAIN_CREATE`, 9.
-    DomainCreate {
-        /// The domain.
-        domain: DomainTarget,
-    },
     /// `DOMAIN_CREATE_XML`, 10.
     DomainCreateXml {
         /// The definition's text.
@@ -42,37 +33,8 @@ pub enum Request {
         /// The definition's text.
         xml: Text,
     },
-    /// `DOMAIN_DESTROY`, 12.
-    DomainDestroy {
-        /// The domain.
-        domain: DomainTarget,
-    },
-    /// `DOMAIN_DETACH_DEVICE`, 13.
-    DomainDetachDevice {
-        /// The domain.
-        domain: DomainTarget,
-        /// The device's text.
-        xml: Text,
-    },
-    /// `DOMAIN_GET_XML_DESC`, 14.
-    DomainGetXmlDesc {
-        /// The domain.
-        domain: DomainTarget,
-        /// The bit of value 2: the stored definition is wanted.
-        flags: u32,
-    },
-    /// `DOMAIN_GET_AUTOSTART`, 15.
-    DomainGetAutostart {
-        /// The domain.
-        domain: DomainTarget,
-    },
-    /// `DOMAIN_GET_INFO`, 16.
-    DomainGetInfo {
-        /// The domain.
-        domain: DomainTarget,
-    },
     /// `CONNECT_LIST_DEFINED_DOMAINS`, 21.
-    ConnectListDefinedDomains {
+    ListDefinedDomains {
         /// How many names are wanted at most, 0 to 1,024.
         most: i32,
     },
@@ -86,224 +48,37 @@ pub enum Request {
         /// What is looked for.
         uuid: Uuid,
     },
-    /// `DOMAIN_REBOOT`, 27.
-    DomainReboot {
-        /// The domain.
-        domain: DomainTarget,
-        /// Passed over.
-        flags: u32,
-    },
-    /// `DOMAIN_RESUME`, 28.
-    DomainResume {
-        /// The domain.
-        domain: DomainTarget,
-    },
-    /// `DOMAIN_SET_AUTOSTART`, 29.
-    DomainSetAutostart {
-        /// The domain.
-        domain: DomainTarget,
-        /// 0 for no, 1 for yes.
-        autostart: i32,
-    },
-    /// `DOMAIN_SET_MEMORY`, 31.
-    DomainSetMemory {
-        /// The domain.
-        domain: DomainTarget,
-        /// The memory, in KiB.
-        memory: u64,
-    },
-    /// `DOMAIN_SET_VCPUS`, 32.
-    DomainSetVcpus {
-        /// The domain.
-        domain: DomainTarget,
-        /// The processors.
-        vcpus: u32,
-    },
-    /// `DOMAIN_SHUTDOWN`, 33.
-    DomainShutdown {
-        /// The domain.
-        domain: DomainTarget,
-    },
-    /// `DOMAIN_SUSPEND`, 34.
-    DomainSuspend {
-        /// The domain.
-        domain: DomainTarget,
-    },
-    /// `DOMAIN_UNDEFINE`, 35.
-    DomainUndefine {
-        /// The domain.
-        domain: DomainTarget,
-    },
     /// `CONNECT_LIST_DEFINED_NETWORKS`, 36.
-    ConnectListDefinedNetworks {
+    ListDefinedNetworks {
         /// How many names are wanted at most, 0 to 1,024.
         most: i32,
     },
     /// `CONNECT_LIST_NETWORKS`, 38.
-    ConnectListNetworks {
+    ListNetworks {
         /// How many names are wanted at most, 0 to 1,024.
         most: i32,
-    },
-    /// `NETWORK_CREATE`, 39.
-    NetworkCreate {
-        /// The network.
-        network: NetworkTarget,
     },
     /// `NETWORK_DEFINE_XML`, 41.
     NetworkDefineXml {
         /// The definition's text.
         xml: Text,
     },
-    /// `NETWORK_DESTROY`, 42.
-    NetworkDestroy {
-        /// The network.
-        network: NetworkTarget,
-    },
-    /// `NETWORK_GET_XML_DESC`, 43.
-    NetworkGetXmlDesc {
-        /// The network.
-        network: NetworkTarget,
-        /// Passed over.
-        flags: u32,
-    },
     /// `NETWORK_LOOKUP_BY_NAME`, 46.
     NetworkLookupByName {
         /// What is looked for.
         name: Text,
-    },
-    /// `NETWORK_SET_AUTOSTART`, 48.
-    NetworkSetAutostart {
-        /// The network.
-        network: NetworkTarget,
-        /// 0 for no, 1 for yes.
-        autostart: i32,
-    },
-    /// `NETWORK_UNDEFINE`, 49.
-    NetworkUndefine {
-        /// The network.
-        network: NetworkTarget,
-    },
-    /// `DOMAIN_CORE_DUMP`, 53.
-    DomainCoreDump {
-        /// The domain.
-        domain: DomainTarget,
-        /// The name of the file.
-        to: Text,
-        /// Passed over.
-        flags: u32,
     },
     /// `DOMAIN_RESTORE`, 54.
     DomainRestore {
         /// The name of the file.
         from: Text,
     },
-    /// `DOMAIN_SAVE`, 55.
-    DomainSave {
-        /// The domain.
-        domain: DomainTarget,
-        /// The name of the file.
-        to: Text,
-    },
     /// `LIST_ALL`, 1 of the second program.
     ListAll,
-    /// `JOB_INFO`, 2 of the second program.
-    JobInfo {
-        /// The domain.
-        domain: DomainTarget,
-    },
-    /// `JOB_ABORT`, 3 of the second program.
-    JobAbort {
-        /// The domain.
-        domain: DomainTarget,
-    },
-    /// `SNAP_CREATE`, 4 of the second program.
-    SnapCreate {
-        /// The domain.
-        domain: DomainTarget,
-        /// The snapshot's text.
-        xml: Text,
-    },
-    /// `SNAP_LIST`, 5 of the second program.
-    SnapList {
-        /// The domain.
-        domain: DomainTarget,
-    },
-    /// `SNAP_PARENT`, 6 of the second program.
-    SnapParent {
-        /// The domain.
-        domain: DomainTarget,
-        /// The snapshot's name.
-        snapshot: Text,
-    },
-    /// `SNAP_DELETE`, 7 of the second program.
-    SnapDelete {
-        /// The domain.
-        domain: DomainTarget,
-        /// The snapshot's name.
-        snapshot: Text,
-        /// 1 where its children go with it, else 0.
-        children: i32,
-    },
-    /// `SNAP_REVERT`, 8 of the second program.
-    SnapRevert {
-        /// The domain.
-        domain: DomainTarget,
-        /// The snapshot's name.
-        snapshot: Text,
-    },
-    /// `SNAP_XML`, 9 of the second program.
-    SnapXml {
-        /// The domain.
-        domain: DomainTarget,
-        /// The snapshot's name.
-        snapshot: Text,
-    },
-    /// `EVENT_REGISTER`, 10 of the second program.
-    EventRegister {
-        /// The domain.
-        domain: DomainTarget,
-    },
-    /// `EVENT_DEREGISTER`, 11 of the second program.
-    EventDeregister {
-        /// The domain.
-        domain: DomainTarget,
-    },
-    /// `MEMORY_STATS`, 14 of the second program.
-    MemoryStats {
-        /// The domain.
-        domain: DomainTarget,
-    },
-    /// `KICK`, 15 of the second program.
-    Kick {
-        /// The domain.
-        domain: DomainTarget,
-        /// What it does, 1 to 5.
-        action: i32,
-    },
     /// `POOL_DEFINE`, 20 of the second program.
     PoolDefine {
         /// The definition's text.
         xml: Text,
-    },
-    /// `POOL_CREATE`, 21 of the second program.
-    PoolCreate {
-        /// The pool.
-        pool: PoolTarget,
-    },
-    /// `POOL_DESTROY`, 22 of the second program.
-    PoolDestroy {
-        /// The pool.
-        pool: PoolTarget,
-    },
-    /// `POOL_UNDEFINE`, 23 of the second program.
-    PoolUndefine {
-        /// The pool.
-        pool: PoolTarget,
-    },
-    /// `POOL_XML`, 24 of the second program.
-    PoolXml {
-        /// The pool.
-        pool: PoolTarget,
     },
     /// `POOL_LOOKUP`, 25 of the second program.
     PoolLookup {
@@ -312,45 +87,75 @@ pub enum Request {
     },
     /// `POOL_LIST`, 26 of the second program.
     PoolList,
-    /// `POOL_AUTOSTART`, 27 of the second program.
-    PoolAutostart {
-        /// The pool.
-        pool: PoolTarget,
-        /// 0 for no, 1 for yes.
-        autostart: i32,
+    /// A procedure for one domain.
+    OnDomain {
+        /// The domain.
+        domain: DomainTarget,
+        /// What is asked of it.
+        request: DomainRequest,
     },
-    /// `VOL_CREATE`, 30 of the second program.
-    VolCreate {
-        /// The pool.
-        pool: PoolTarget,
-        /// The volume's text.
-        xml: Text,
-    },
-    /// `VOL_DELETE`, 31 of the second program.
-    VolDelete {
-        /// The pool.
-        pool: PoolTarget,
-        /// The volume's name.
-        volume: Text,
-    },
-    /// `VOL_LIST`, 32 of the second program.
-    VolList {
-        /// The pool.
-        pool: PoolTarget,
-    },
-    /// `VOL_XML`, 33 of the second program.
-    VolXml {
-        /// The pool.
-        pool: PoolTarget,
-        /// The volume's name.
-        volume: Text,
-    },
-    /// `LEASES`, 40 of the second program.
-    Leases {
+    /// A procedure for one network.
+    OnNetwork {
         /// The network.
         network: NetworkTarget,
+        /// What is asked of it.
+        request: NetworkRequest,
+    },
+    /// A procedure for one pool.
+    OnPool {
+        /// The pool.
+        pool: PoolTarget,
+        /// What is asked of it.
+        request: PoolRequest,
     },
 }
 
 /// Requests in order.
 pub type RequestList = ListOf<Request>;
+
+impl TryCopy for Request {
+    fn copy(&self) -> Result<Request, NoMemory> {
+        match self {
+            Request::ConnectOpen { name, flags } => Ok(Request::ConnectOpen {
+                name: name.copy()?,
+                flags: *flags,
+            }),
+            Request::ConnectClose => Ok(Request::ConnectClose),
+            Request::DomainCreateXml { xml, flags } => Ok(Request::DomainCreateXml {
+                xml: xml.copy()?,
+                flags: *flags,
+            }),
+            Request::DomainDefineXml { xml } => Ok(Request::DomainDefineXml { xml: xml.copy()? }),
+            Request::ListDefinedDomains { most } => Ok(Request::ListDefinedDomains { most: *most }),
+            Request::DomainLookupByName { name } => Ok(Request::DomainLookupByName {
+                name: name.copy()?,
+            }),
+            Request::DomainLookupByUuid { uuid } => Ok(Request::DomainLookupByUuid { uuid: *uuid }),
+            Request::ListDefinedNetworks { most } => Ok(Request::ListDefinedNetworks {
+                most: *most,
+            }),
+            Request::ListNetworks { most } => Ok(Request::ListNetworks { most: *most }),
+            Request::NetworkDefineXml { xml } => Ok(Request::NetworkDefineXml { xml: xml.copy()? }),
+            Request::NetworkLookupByName { name } => Ok(Request::NetworkLookupByName {
+                name: name.copy()?,
+            }),
+            Request::DomainRestore { from } => Ok(Request::DomainRestore { from: from.copy()? }),
+            Request::ListAll => Ok(Request::ListAll),
+            Request::PoolDefine { xml } => Ok(Request::PoolDefine { xml: xml.copy()? }),
+            Request::PoolLookup { name } => Ok(Request::PoolLookup { name: name.copy()? }),
+            Request::PoolList => Ok(Request::PoolList),
+            Request::OnDomain { domain, request } => Ok(Request::OnDomain {
+                domain: domain.copy()?,
+                request: request.copy()?,
+            }),
+            Request::OnNetwork { network, request } => Ok(Request::OnNetwork {
+                network: network.copy()?,
+                request: *request,
+            }),
+            Request::OnPool { pool, request } => Ok(Request::OnPool {
+                pool: pool.copy()?,
+                request: request.copy()?,
+            }),
+        }
+    }
+}

@@ -1,4 +1,7 @@
 // Whether a guest runs, why it stopped or ended, and the state of a domain as the wire tells it.
+ghost use Rattle.std.specs.Prelude.{◌≡◌, ◌≢◌, IfNone, IfSome};
+ghost use Rattle.virt_types.specs.declared.run_state.DomainState.{DomainState as TheDomainState};
+ghost use Rattle.virt_types.specs.Numbers.{state_number, state_word};
 
 /// Why a guest that is live stands still.
 #[derive(Clone, Copy, Debug, PartialEq, Eq)]
@@ -53,4 +56,43 @@ pub enum DomainState {
     ShutOff = 5,
     /// Its guest crashed.
     Crashed = 6,
+}
+
+const STATES: [DomainState; 4] = [
+    DomainState::Running,
+    DomainState::Paused,
+    DomainState::ShutOff,
+    DomainState::Crashed,
+];
+
+impl DomainState {
+    /// Its number.
+    pub fn number(self) -> u32
+        ensures { result ≡ state_number self }
+    {
+        self as u32
+    }
+
+    /// The state with this number.
+    pub fn of_number(number: u32) -> Option<DomainState>
+        ensures some { IfSome result (λ state. state_number state ≡ number) }
+        ensures none { IfNone result ((state : TheDomainState) → state_number state ≢ number) }
+    {
+        STATES
+            .iter()
+            .copied()
+            .find(|state| state.number() == number)
+    }
+
+    /// The word for it.
+    pub fn word(self) -> &'static str
+        ensures { result.now ≡ state_word self }
+    {
+        match self {
+            DomainState::Running => "running",
+            DomainState::Paused => "paused",
+            DomainState::ShutOff => "shut off",
+            DomainState::Crashed => "crashed",
+        }
+    }
 }

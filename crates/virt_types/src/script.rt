@@ -1,5 +1,7 @@
 // The script of a modelled guest: what the guest does at which command.
+use crate::copy::TryCopy;
 use crate::list::ListOf;
+use crate::memory::NoMemory;
 use crate::text::Text;
 
 /// What a guest does in place of an answer.
@@ -31,6 +33,12 @@ pub enum ScriptEntry {
     Stall,
 }
 
+impl TryCopy for ScriptEntry {
+    fn copy(&self) -> Result<ScriptEntry, NoMemory> {
+        Ok(*self)
+    }
+}
+
 /// Entries of a script in order.
 pub type ScriptEntryList = ListOf<ScriptEntry>;
 
@@ -41,4 +49,13 @@ pub struct Script {
     pub text: Text,
     /// What the text says.
     pub entries: ScriptEntryList,
+}
+
+impl TryCopy for Script {
+    fn copy(&self) -> Result<Script, NoMemory> {
+        Ok(Script {
+            text: self.text.copy()?,
+            entries: self.entries.copy()?,
+        })
+    }
 }

@@ -1,4 +1,6 @@
 // What a status file says of a boot that was live when it was written.
+use crate::copy::TryCopy;
+use crate::memory::NoMemory;
 use crate::name::Name;
 use crate::operation::{OpKind, Phase};
 use crate::run_state::DomainState;
@@ -19,4 +21,17 @@ pub struct Status {
     pub op: Option<OpKind>,
     /// Its phase.
     pub phase: Phase,
+}
+
+impl TryCopy for Status {
+    fn copy(&self) -> Result<Status, NoMemory> {
+        Ok(Status {
+            uuid: self.uuid,
+            name: self.name.copy()?,
+            boot: self.boot,
+            state: self.state,
+            op: self.op,
+            phase: self.phase,
+        })
+    }
 }

@@ -1,4 +1,6 @@
 // The definitions of a storage pool and of a volume, with one field for each row of their element tables.
+use crate::copy::TryCopy;
+use crate::memory::NoMemory;
 use crate::name::Name;
 use crate::text::Text;
 use uuid::Uuid;
@@ -25,6 +27,18 @@ pub struct PoolDef {
     pub path: Text,
 }
 
+impl TryCopy for PoolDef {
+    fn copy(&self) -> Result<PoolDef, NoMemory> {
+        Ok(PoolDef {
+            kind: self.kind,
+            name: self.name.copy()?,
+            uuid: self.uuid,
+            capacity: self.capacity,
+            path: self.path.copy()?,
+        })
+    }
+}
+
 /// The definition of a volume (libvirt's storage volume XML format, in this project's profile).
 #[derive(Drop)]
 pub struct VolDef {
@@ -36,4 +50,15 @@ pub struct VolDef {
     pub allocation: u64,
     /// `target/format` with `type`, by default `raw`.
     pub format: Text,
+}
+
+impl TryCopy for VolDef {
+    fn copy(&self) -> Result<VolDef, NoMemory> {
+        Ok(VolDef {
+            name: self.name.copy()?,
+            capacity: self.capacity,
+            allocation: self.allocation,
+            format: self.format.copy()?,
+        })
+    }
 }

@@ -2,6 +2,7 @@
 ghost use Rattle.std.specs.Prelude.{◌≡◌, ◌==◌, IfOk, IsUtf8, length};
 ghost use Rattle.std.specs.String.{string_bytes};
 
+use crate::copy::TryCopy;
 use crate::memory::NoMemory;
 use std::alloc::Global;
 use std::marker::Model;
@@ -75,11 +76,10 @@ impl Text {
     {
         self.text.is_empty()
     }
+}
 
-    /// An equal text.
-    pub fn copy(&self) -> Result<Text, NoMemory>
-        ensures { IfOk result (λ t. t ≡ self.now) }
-    {
+impl TryCopy for Text {
+    fn copy(&self) -> Result<Text, NoMemory> {
         Ok(Text {
             text: self.text.clone()?,
         })

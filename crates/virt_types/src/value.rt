@@ -1,8 +1,10 @@
 // What is answered: values, replies and notes.
+use crate::copy::TryCopy;
 use crate::domain::{Live, Snap};
 use crate::domain_def::DomainDef;
 use crate::list::ListOf;
 use crate::mac::Mac;
+use crate::memory::NoMemory;
 use crate::name::Name;
 use crate::operation::{OpKind, Phase};
 use crate::reference::{DomainRef, NetworkRef, PoolRef};
@@ -31,6 +33,15 @@ pub struct DomainRow {
     pub state: DomainState,
 }
 
+impl TryCopy for DomainRow {
+    fn copy(&self) -> Result<DomainRow, NoMemory> {
+        Ok(DomainRow {
+            domain: self.domain.copy()?,
+            state: self.state,
+        })
+    }
+}
+
 /// Domains with their states, in order.
 pub type DomainRowList = ListOf<DomainRow>;
 
@@ -45,6 +56,16 @@ pub struct PoolRow {
     pub active: bool,
 }
 
+impl TryCopy for PoolRow {
+    fn copy(&self) -> Result<PoolRow, NoMemory> {
+        Ok(PoolRow {
+            name: self.name.copy()?,
+            uuid: self.uuid,
+            active: self.active,
+        })
+    }
+}
+
 /// Pools in order.
 pub type PoolRowList = ListOf<PoolRow>;
 
@@ -55,6 +76,12 @@ pub struct LeaseRow {
     pub mac: Mac,
     /// An IPv4 address as a number, its first byte the highest.
     pub address: u32,
+}
+
+impl TryCopy for LeaseRow {
+    fn copy(&self) -> Result<LeaseRow, NoMemory> {
+        Ok(*self)
+    }
 }
 
 /// Leases in order.
@@ -128,6 +155,32 @@ pub enum Value {
     Snapshot(Snap),
 }
 
+impl TryCopy for Value {
+    fn copy(&self) -> Result<Value, NoMemory> {
+        Ok(match self {
+            Value::Nothing => Value::Nothing,
+            Value::Domain(it) => Value::Domain(it.copy()?),
+            Value::Network(it) => Value::Network(it.copy()?),
+            Value::Pool(it) => Value::Pool(it.copy()?),
+            Value::Text(it) => Value::Text(it.copy()?),
+            Value::Autostart(it) => Value::Autostart(*it),
+            Value::Info(it) => Value::Info(*it),
+            Value::Names(it) => Value::Names(it.copy()?),
+            Value::Domains(it) => Value::Domains(it.copy()?),
+            Value::Pools(it) => Value::Pools(it.copy()?),
+            Value::Job(it) => Value::Job(*it),
+            Value::Name(it) => Value::Name(it.copy()?),
+            Value::Parent(it) => Value::Parent(it.copy()?),
+            Value::Memory(it) => Value::Memory(*it),
+            Value::Leases(it) => Value::Leases(it.copy()?),
+            Value::Reference(it) => Value::Reference(it.copy()?),
+            Value::Definition(it) => Value::Definition(it.copy()?),
+            Value::Live(it) => Value::Live(it.copy()?),
+            Value::Snapshot(it) => Value::Snapshot(it.copy()?),
+        })
+    }
+}
+
 /// What a call is answered.
 #[derive(Drop)]
 pub enum Reply {
@@ -135,6 +188,15 @@ pub enum Reply {
     Ok(Value),
     /// It was not done.
     No(Refusal),
+}
+
+impl TryCopy for Reply {
+    fn copy(&self) -> Result<Reply, NoMemory> {
+        Ok(match self {
+            Reply::Ok(it) => Reply::Ok(it.copy()?),
+            Reply::No(it) => Reply::No(it.copy()?),
+        })
+    }
 }
 
 /// A message that no call asked for.
@@ -156,6 +218,26 @@ pub enum Note {
         /// Its identifier.
         uuid: Uuid,
     },
+}
+
+impl TryCopy for Note {
+    fn copy(&self) -> Result<Note, NoMemory> {
+        Ok(match self {
+            Note::Event {
+                name,
+                uuid,
+                transition,
+            } => Note::Event {
+                name: name.copy()?,
+                uuid: *uuid,
+                transition: *transition,
+            },
+            Note::Lost { name, uuid } => Note::Lost {
+                name: name.copy()?,
+                uuid: *uuid,
+            },
+        })
+    }
 }
 
 /// Notes in order.

@@ -1,0 +1,251 @@
+// Procedures that are for one domain, network or pool.
+use crate::copy::TryCopy;
+use crate::memory::NoMemory;
+use crate::text::Text;
+
+/// What is asked of a domain: the procedures of the first program, as in libvirt's
+/// `remote_protocol.x`, and those of this project's own program.
+#[derive(Drop)]
+pub enum DomainRequest {
+    /// `DOMAIN_ATTACH_DEVICE`, 8.
+    AttachDevice {
+        /// The device's text.
+        xml: Text,
+    },
+    /// `DOMAIN_CREATE`, 9.
+    Create,
+    /// `DOMAIN_DESTROY`, 12.
+    Destroy,
+    /// `DOMAIN_DETACH_DEVICE`, 13.
+    DetachDevice {
+        /// The device's text.
+        xml: Text,
+    },
+    /// `DOMAIN_GET_XML_DESC`, 14.
+    GetXmlDesc {
+        /// The bit of value 2: the stored definition is wanted.
+        flags: u32,
+    },
+    /// `DOMAIN_GET_AUTOSTART`, 15.
+    GetAutostart,
+    /// `DOMAIN_GET_INFO`, 16.
+    GetInfo,
+    /// `DOMAIN_REBOOT`, 27.
+    Reboot {
+        /// Passed over.
+        flags: u32,
+    },
+    /// `DOMAIN_RESUME`, 28.
+    Resume,
+    /// `DOMAIN_SET_AUTOSTART`, 29.
+    SetAutostart {
+        /// 0 for no, 1 for yes.
+        autostart: i32,
+    },
+    /// `DOMAIN_SET_MEMORY`, 31.
+    SetMemory {
+        /// The memory, in KiB.
+        memory: u64,
+    },
+    /// `DOMAIN_SET_VCPUS`, 32.
+    SetVcpus {
+        /// The processors.
+        vcpus: u32,
+    },
+    /// `DOMAIN_SHUTDOWN`, 33.
+    Shutdown,
+    /// `DOMAIN_SUSPEND`, 34.
+    Suspend,
+    /// `DOMAIN_UNDEFINE`, 35.
+    Undefine,
+    /// `DOMAIN_CORE_DUMP`, 53.
+    CoreDump {
+        /// The name of the file.
+        to: Text,
+        /// Passed over.
+        flags: u32,
+    },
+    /// `DOMAIN_SAVE`, 55.
+    Save {
+        /// The name of the file.
+        to: Text,
+    },
+    /// `JOB_INFO`, 2 of the second program.
+    JobInfo,
+    /// `JOB_ABORT`, 3 of the second program.
+    JobAbort,
+    /// `SNAP_CREATE`, 4 of the second program.
+    SnapCreate {
+        /// The snapshot's text.
+        xml: Text,
+    },
+    /// `SNAP_LIST`, 5 of the second program.
+    SnapList,
+    /// `SNAP_PARENT`, 6 of the second program.
+    SnapParent {
+        /// The snapshot's name.
+        snapshot: Text,
+    },
+    /// `SNAP_DELETE`, 7 of the second program.
+    SnapDelete {
+        /// The snapshot's name.
+        snapshot: Text,
+        /// 1 where its children go with it, else 0.
+        children: i32,
+    },
+    /// `SNAP_REVERT`, 8 of the second program.
+    SnapRevert {
+        /// The snapshot's name.
+        snapshot: Text,
+    },
+    /// `SNAP_XML`, 9 of the second program.
+    SnapXml {
+        /// The snapshot's name.
+        snapshot: Text,
+    },
+    /// `EVENT_REGISTER`, 10 of the second program.
+    EventRegister,
+    /// `EVENT_DEREGISTER`, 11 of the second program.
+    EventDeregister,
+    /// `MEMORY_STATS`, 14 of the second program.
+    MemoryStats,
+    /// `KICK`, 15 of the second program.
+    Kick {
+        /// What it does, 1 to 5.
+        action: i32,
+    },
+}
+
+impl TryCopy for DomainRequest {
+    fn copy(&self) -> Result<DomainRequest, NoMemory> {
+        match self {
+            DomainRequest::AttachDevice { xml } => Ok(DomainRequest::AttachDevice {
+                xml: xml.copy()?,
+            }),
+            DomainRequest::Create => Ok(DomainRequest::Create),
+            DomainRequest::Destroy => Ok(DomainRequest::Destroy),
+            DomainRequest::DetachDevice { xml } => Ok(DomainRequest::DetachDevice {
+                xml: xml.copy()?,
+            }),
+            DomainRequest::GetXmlDesc { flags } => Ok(DomainRequest::GetXmlDesc { flags: *flags }),
+            DomainRequest::GetAutostart => Ok(DomainRequest::GetAutostart),
+            DomainRequest::GetInfo => Ok(DomainRequest::GetInfo),
+            DomainRequest::Reboot { flags } => Ok(DomainRequest::Reboot { flags: *flags }),
+            DomainRequest::Resume => Ok(DomainRequest::Resume),
+            DomainRequest::SetAutostart { autostart } => Ok(DomainRequest::SetAutostart {
+                autostart: *autostart,
+            }),
+            DomainRequest::SetMemory { memory } => Ok(DomainRequest::SetMemory { memory: *memory }),
+            DomainRequest::SetVcpus { vcpus } => Ok(DomainRequest::SetVcpus { vcpus: *vcpus }),
+            DomainRequest::Shutdown => Ok(DomainRequest::Shutdown),
+            DomainRequest::Suspend => Ok(DomainRequest::Suspend),
+            DomainRequest::Undefine => Ok(DomainRequest::Undefine),
+            DomainRequest::CoreDump { to, flags } => Ok(DomainRequest::CoreDump {
+                to: to.copy()?,
+                flags: *flags,
+            }),
+            DomainRequest::Save { to } => Ok(DomainRequest::Save { to: to.copy()? }),
+            DomainRequest::JobInfo => Ok(DomainRequest::JobInfo),
+            DomainRequest::JobAbort => Ok(DomainRequest::JobAbort),
+            DomainRequest::SnapCreate { xml } => Ok(DomainRequest::SnapCreate { xml: xml.copy()? }),
+            DomainRequest::SnapList => Ok(DomainRequest::SnapList),
+            DomainRequest::SnapParent { snapshot } => Ok(DomainRequest::SnapParent {
+                snapshot: snapshot.copy()?,
+            }),
+            DomainRequest::SnapDelete { snapshot, children } => Ok(DomainRequest::SnapDelete {
+                snapshot: snapshot.copy()?,
+                children: *children,
+            }),
+            DomainRequest::SnapRevert { snapshot } => Ok(DomainRequest::SnapRevert {
+                snapshot: snapshot.copy()?,
+            }),
+            DomainRequest::SnapXml { snapshot } => Ok(DomainRequest::SnapXml {
+                snapshot: snapshot.copy()?,
+            }),
+            DomainRequest::EventRegister => Ok(DomainRequest::EventRegister),
+            DomainRequest::EventDeregister => Ok(DomainRequest::EventDeregister),
+            DomainRequest::MemoryStats => Ok(DomainRequest::MemoryStats),
+            DomainRequest::Kick { action } => Ok(DomainRequest::Kick { action: *action }),
+        }
+    }
+}
+
+/// What is asked of a network.
+#[derive(Clone, Copy, Debug, PartialEq, Eq)]
+pub enum NetworkRequest {
+    /// `NETWORK_CREATE`, 39.
+    Create,
+    /// `NETWORK_DESTROY`, 42.
+    Destroy,
+    /// `NETWORK_GET_XML_DESC`, 43.
+    GetXmlDesc {
+        /// Passed over.
+        flags: u32,
+    },
+    /// `NETWORK_SET_AUTOSTART`, 48.
+    SetAutostart {
+        /// 0 for no, 1 for yes.
+        autostart: i32,
+    },
+    /// `NETWORK_UNDEFINE`, 49.
+    Undefine,
+    /// `LEASES`, 40 of the second program.
+    Leases,
+}
+
+/// What is asked of a pool or of one of its volumes.
+#[derive(Drop)]
+pub enum PoolRequest {
+    /// `POOL_CREATE`, 21 of the second program.
+    Create,
+    /// `POOL_DESTROY`, 22 of the second program.
+    Destroy,
+    /// `POOL_UNDEFINE`, 23 of the second program.
+    Undefine,
+    /// `POOL_XML`, 24 of the second program.
+    Xml,
+    /// `POOL_AUTOSTART`, 27 of the second program.
+    SetAutostart {
+        /// 0 for no, 1 for yes.
+        autostart: i32,
+    },
+    /// `VOL_CREATE`, 30 of the second program.
+    VolCreate {
+        /// The volume's text.
+        xml: Text,
+    },
+    /// `VOL_DELETE`, 31 of the second program.
+    VolDelete {
+        /// The volume's name.
+        volume: Text,
+    },
+    /// `VOL_LIST`, 32 of the second program.
+    VolList,
+    /// `VOL_XML`, 33 of the second program.
+    VolXml {
+        /// The volume's name.
+        volume: Text,
+    },
+}
+
+impl TryCopy for PoolRequest {
+    fn copy(&self) -> Result<PoolRequest, NoMemory> {
+        match self {
+            PoolRequest::Create => Ok(PoolRequest::Create),
+            PoolRequest::Destroy => Ok(PoolRequest::Destroy),
+            PoolRequest::Undefine => Ok(PoolRequest::Undefine),
+            PoolRequest::Xml => Ok(PoolRequest::Xml),
+            PoolRequest::SetAutostart { autostart } => Ok(PoolRequest::SetAutostart {
+                autostart: *autostart,
+            }),
+            PoolRequest::VolCreate { xml } => Ok(PoolRequest::VolCreate { xml: xml.copy()? }),
+            PoolRequest::VolDelete { volume } => Ok(PoolRequest::VolDelete {
+                volume: volume.copy()?,
+            }),
+            PoolRequest::VolList => Ok(PoolRequest::VolList),
+            PoolRequest::VolXml { volume } => Ok(PoolRequest::VolXml {
+                volume: volume.copy()?,
+            }),
+        }
+    }
+}
