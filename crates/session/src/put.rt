@@ -19,7 +19,8 @@ pub(crate) enum Stop {
 /// Puts all the bytes, piece by piece as the sink takes them.
 fn put_all<K: Sink>(sink: &mut K, bytes: &[u8]) -> Result<(), Failed>
     ensures ok { OnOk result (Appends (K.held sink.old) (K.held sink.new) bytes.now) }
-    ensures err { OnErr result ((n : ℕ) × (n < length bytes.now) × Appends (K.held sink.old) (K.held sink.new) (take n bytes.now)) }
+    ensures err { OnErr result ((n : ℕ) × (n < length bytes.now)
+        × Appends (K.held sink.old) (K.held sink.new) (take n bytes.now)) }
     ensures cause { HasCause (K.faults sink.old) (K.faults sink.new) result }
 {
     let mut sent = 0;

@@ -168,7 +168,8 @@ fn find(alloc: Global, domain: &DomainRef, call: &Header, name: &[u8]) -> Result
 }
 
 fn refuse_malformed(alloc: Global, call: &Header, at: u64) -> Result<Packet, NoMemory>
-    ensures reply { IfOk result (λ reply. reply ≡ refused call.now 39 (codes "malformed call") (codes "at " ++ decimal at)) }
+    ensures reply { IfOk result (λ reply. reply
+        ≡ refused call.now 39 (codes "malformed call") (codes "at " ++ decimal at)) }
     ensures ready { IfOk result IsReady }
 {
     let place = format!(in alloc; "at {at}")?;
@@ -182,7 +183,8 @@ fn refuse_malformed(alloc: Global, call: &Header, at: u64) -> Result<Packet, NoM
 }
 
 fn refuse_not_built(alloc: Global, call: &Header) -> Result<Packet, NoMemory>
-    ensures reply { IfOk result (λ reply. reply ≡ refused call.now 206 (codes "not built") (decimal call.now.procedure)) }
+    ensures reply { IfOk result (λ reply. reply
+        ≡ refused call.now 206 (codes "not built") (decimal call.now.procedure)) }
     ensures ready { IfOk result IsReady }
 {
     let number = call.procedure.to_string(alloc)?;

@@ -46,10 +46,12 @@ fn serve_ready<K: Sink>(
     feed: &mut Feed,
     sink: &mut K,
 ) -> Result<(), Stop>
-    ensures ok { OnOk result (Serves domain.now feed.old.ready [] (K.held sink.old) (K.held sink.new)) }
+    ensures ok { OnOk result (Serves domain.now feed.old.ready []
+        (K.held sink.old) (K.held sink.new)) }
     ensures ready { OnOk result (feed.new.ready ≡ []) }
     ensures rest { feed.new.rest ≡ feed.old.rest }
-    ensures err { IfErr result (Stopped domain.now feed.old.ready (K.held sink.old) (K.held sink.new)) }
+    ensures err { IfErr result (Stopped domain.now feed.old.ready
+        (K.held sink.old) (K.held sink.new)) }
     ensures cause { HasSinkCause (K.faults sink.old) (K.faults sink.new) result }
 {
     while let Some(packet) = feed.next() {
@@ -85,9 +87,11 @@ fn serve_taken<K: Sink>(
 ) -> Option<End>
     requires split { IsSplit feed.old }
     requires bad { bad ≡ fault feed.old.rest }
-    ensures none { IfNone result (PieceDone domain.now (bytes_of feed.old) feed.new.rest (K.held sink.old) (K.held sink.new)) }
+    ensures none { IfNone result (PieceDone domain.now (bytes_of feed.old) feed.new.rest
+        (K.held sink.old) (K.held sink.new)) }
     ensures ready { IfNone result (feed.new.ready ≡ []) }
-    ensures some { IfSome result (PieceEnds domain.now (bytes_of feed.old) (K.held sink.old) (K.held sink.new)) }
+    ensures some { IfSome result (PieceEnds domain.now (bytes_of feed.old)
+        (K.held sink.old) (K.held sink.new)) }
     ensures later { K.faults sink.old ≤ K.faults sink.new }
     ensures cause { result ≡ Some End.SinkFault → Rose (K.faults sink.old) (K.faults sink.new) }
 {
@@ -112,9 +116,11 @@ fn serve_piece<K: Sink>(
 ) -> Option<End>
     requires ready { feed.old.ready ≡ [] }
     requires sound { fault feed.old.rest ≡ None }
-    ensures none { IfNone result (PieceDone domain.now (feed.old.rest ++ piece.now) feed.new.rest (K.held sink.old) (K.held sink.new)) }
+    ensures none { IfNone result (PieceDone domain.now (feed.old.rest ++ piece.now) feed.new.rest
+        (K.held sink.old) (K.held sink.new)) }
     ensures ready { IfNone result (feed.new.ready ≡ []) }
-    ensures some { IfSome result (PieceEnds domain.now (feed.old.rest ++ piece.now) (K.held sink.old) (K.held sink.new)) }
+    ensures some { IfSome result (PieceEnds domain.now (feed.old.rest ++ piece.now)
+        (K.held sink.old) (K.held sink.new)) }
     ensures later { K.faults sink.old ≤ K.faults sink.new }
     ensures cause { result ≡ Some End.SinkFault → Rose (K.faults sink.old) (K.faults sink.new) }
 {
@@ -161,11 +167,14 @@ fn serve_pieces<S: Source, K: Sink>(
 ) -> End
     requires ready { feed.old.ready ≡ [] }
     requires rest { feed.old.rest ≡ [] }
-    ensures course { Course domain.now (S.left source.old) (S.left source.new) (K.held sink.old) (K.held sink.new) result }
+    ensures course { Course domain.now (S.left source.old) (S.left source.new)
+        (K.held sink.old) (K.held sink.new) result }
     ensures source_count { S.faults source.old ≤ S.faults source.new }
     ensures sink_count { K.faults sink.old ≤ K.faults sink.new }
-    ensures source_fault { result ≡ End.SourceFault → Rose (S.faults source.old) (S.faults source.new) }
-    ensures sink_fault { result ≡ End.SinkFault → Rose (K.faults sink.old) (K.faults sink.new) }
+    ensures source_fault { result ≡ End.SourceFault
+        → Rose (S.faults source.old) (S.faults source.new) }
+    ensures sink_fault { result ≡ End.SinkFault
+        → Rose (K.faults sink.old) (K.faults sink.new) }
 {
     let mut chunk = [0u8; PIECE];
     let mut taken = 0;
@@ -190,11 +199,14 @@ fn serve_all<S: Source, K: Sink>(
     source: &mut S,
     sink: &mut K,
 ) -> End
-    ensures course { Course domain.now (S.left source.old) (S.left source.new) (K.held sink.old) (K.held sink.new) result }
+    ensures course { Course domain.now (S.left source.old) (S.left source.new)
+        (K.held sink.old) (K.held sink.new) result }
     ensures source_count { S.faults source.old ≤ S.faults source.new }
     ensures sink_count { K.faults sink.old ≤ K.faults sink.new }
-    ensures source_fault { result ≡ End.SourceFault → Rose (S.faults source.old) (S.faults source.new) }
-    ensures sink_fault { result ≡ End.SinkFault → Rose (K.faults sink.old) (K.faults sink.new) }
+    ensures source_fault { result ≡ End.SourceFault
+        → Rose (S.faults source.old) (S.faults source.new) }
+    ensures sink_fault { result ≡ End.SinkFault
+        → Rose (K.faults sink.old) (K.faults sink.new) }
 {
     match Feed::new(alloc) {
         Ok(mut feed) => serve_pieces(alloc, domain, &mut feed, source, sink),
@@ -211,13 +223,17 @@ pub fn serve_fixed<S: Source, K: Sink>(
     source: &mut S,
     mut sink: K,
 ) -> (K, End)
-    ensures course { Course domain.now (S.left source.old) (S.left source.new) (K.held sink) (K.held result.0) result.1 }
+    ensures course { Course domain.now (S.left source.old) (S.left source.new)
+        (K.held sink) (K.held result.0) result.1 }
     ensures source_count { S.faults source.old ≤ S.faults source.new }
     ensures sink_count { K.faults sink ≤ K.faults result.0 }
-    ensures source_fault { result.1 ≡ End.SourceFault → Rose (S.faults source.old) (S.faults source.new) }
-    ensures sink_fault { result.1 ≡ End.SinkFault → Rose (K.faults sink) (K.faults result.0) }
+    ensures source_fault { result.1 ≡ End.SourceFault
+        → Rose (S.faults source.old) (S.faults source.new) }
+    ensures sink_fault { result.1 ≡ End.SinkFault
+        → Rose (K.faults sink) (K.faults result.0) }
     // Whole packets are served whole where nothing of the outside failed.
-    ensures complete { IsWhole (S.left source.old) → ¬ Rose (S.faults source.old) (S.faults source.new)
+    ensures complete { IsWhole (S.left source.old)
+        → ¬ Rose (S.faults source.old) (S.faults source.new)
         → ¬ Rose (K.faults sink) (K.faults result.0) → IsServedWhole result.1 }
 {
     let end = serve_all(alloc, domain, source, &mut sink);

@@ -2,7 +2,6 @@
 use Rattle.std.specs.Prelude.{◌≡◌, ℕ, ◌^◌, ◌<◌, ◌⊎◌, List, [], ◌++◌, length, take, Option, None, Some}
 use Rattle.std.specs.List.{AllByRecursion}
 use Rattle.std.specs.Io.KnownBytes.{Appends, Consumes, IsAtEnd}
-use Rattle.outside_spec.specs.Faults.{Rose}
 use Rattle.session_spec.specs.Replies.{Answered, Answers, text}
 use Rattle.session_spec.specs.declared.end.End.{End}
 use Rattle.session_spec.specs.declared.end.End.TheVariants.{BadPacket, Eof, NoMemory, SinkFault, SourceFault, Truncated}
@@ -61,14 +60,6 @@ abbrev pub IsWhole : Option (List ℕ) → Type 0
 IsWhole None = ⊥
 IsWhole (Some bytes) = (packets : List Packet) × AllByRecursion IsPacket packets × (bytes ≡ stream packets []) × (length bytes < 2 ^ 62)
 
--- a fault of an object is told only where the object's count rose in this call
-abbrev pub OnlyWhereRose : End → End → ℕ → ℕ → Type 0
-OnlyWhereRose end fault before now = end ≡ fault → Rose before now
-
 -- the input was served to its end, unless memory was wanting
 abbrev pub IsServedWhole : End → Type 0
 IsServedWhole end = (end ≡ Eof) ⊎ (end ≡ NoMemory)
-
--- whole packets are served whole where nothing of the outside failed
-abbrev pub IsComplete : Option (List ℕ) → Type 0 → Type 0 → End → Type 0
-IsComplete left source_rose sink_rose end = IsWhole left → ¬ source_rose → ¬ sink_rose → IsServedWhole end

@@ -33,7 +33,8 @@ fn status_of(end: &End) -> u8
 /// Serves the domain over standard input and output.
 fn serve_stdio<W: World>(alloc: Global, domain: &DomainRef, world: &mut W) -> u8
     requires { domain.now ≡ demo }
-    ensures { ServesStdio W.S.left W.S.faults W.K.held W.K.faults (W.made world.new) (W.back world.new) result }
+    ensures { ServesStdio W.S.left W.S.faults W.K.held W.K.faults
+        (W.made world.new) (W.back world.new) result }
 {
     let (mut source, sink) = world.stdio();
     let (sink, end) = serve_fixed(alloc, domain, &mut source, sink);
@@ -45,7 +46,8 @@ fn serve_stdio<W: World>(alloc: Global, domain: &DomainRef, world: &mut W) -> u8
 /// There was no memory before anything was made.
 pub(crate) fn out_of_memory<W: World>(world: &mut W) -> u8
     ensures status { result ≡ 12 }
-    ensures nothing { MakesNothing (W.made world.old) (W.back world.old) (W.made world.new) (W.back world.new) }
+    ensures nothing { MakesNothing (W.made world.old) (W.back world.old)
+        (W.made world.new) (W.back world.new) }
 {
     say_out_of_memory(world);
     OUT_OF_MEMORY
@@ -53,8 +55,8 @@ pub(crate) fn out_of_memory<W: World>(world: &mut W) -> u8
 
 /// `virtd demo`
 fn serve_demo<W: World>(alloc: Global, world: &mut W) -> u8
-    ensures { ServesDemo W.S.left W.S.faults W.K.held W.K.faults (W.made world.old) (W.back world.old)
-        (W.made world.new) (W.back world.new) result }
+    ensures { ServesDemo W.S.left W.S.faults W.K.held W.K.faults
+        (W.made world.old) (W.back world.old) (W.made world.new) (W.back world.new) result }
 {
     match demo_domain(alloc) {
         Ok(domain) => serve_stdio(alloc, &domain, world),
@@ -77,8 +79,10 @@ fn is_demo(words: &[String]) -> bool
 /// line on standard error.
 pub fn virtd<W: World>(alloc: Global, words: &[String], world: &mut W) -> u8
     ensures usage { (result ≡ 2) ↔ (map string_bytes words.now ≢ demo_words) }
-    ensures nothing { result ≡ 2 → MakesNothing (W.made world.old) (W.back world.old) (W.made world.new) (W.back world.new) }
-    ensures demo { map string_bytes words.now ≡ demo_words → ServesDemo W.S.left W.S.faults W.K.held W.K.faults
+    ensures nothing { result ≡ 2 → MakesNothing (W.made world.old) (W.back world.old)
+        (W.made world.new) (W.back world.new) }
+    ensures demo { map string_bytes words.now ≡ demo_words
+        → ServesDemo W.S.left W.S.faults W.K.held W.K.faults
         (W.made world.old) (W.back world.old) (W.made world.new) (W.back world.new) result }
 {
     if is_demo(words) {

@@ -1,0 +1,6 @@
+// The program over a world in memory.
+mod faults;
+mod hex;
+mod memory_world;
+mod rows;
+mod words;
