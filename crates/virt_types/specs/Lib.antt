@@ -1,4 +1,6 @@
+pub mod Front
 pub mod Name
 pub mod Numbers
 pub mod Refusal
 pub mod Room
+pub mod Transition

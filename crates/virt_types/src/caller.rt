@@ -1,4 +1,6 @@
 // Who calls, and where in a history a call stands.
+ghost use Rattle.std.specs.Prelude.{◌≡◌};
+ghost use Rattle.virt_types.specs.Front.{is_longer, longer};
 
 /// Which call of the program this is. No two calls have one.
 #[derive(Clone, Copy, Debug, PartialEq, Eq)]
@@ -19,6 +21,22 @@ pub struct Front {
     pub chapter: u64,
     /// How many marks of that chapter stand before the place.
     pub marks: u64,
+}
+
+impl Front {
+    /// Whether this front is the longer one.
+    pub fn is_longer(self, other: Front) -> bool
+        ensures { result ≡ is_longer self other }
+    {
+        self > other
+    }
+
+    /// The longer of the two.
+    pub fn longer(self, other: Front) -> Front
+        ensures { result ≡ longer self other }
+    {
+        if other > self { other } else { self }
+    }
 }
 
 /// Which cell an outcome rests on.

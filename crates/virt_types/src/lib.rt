@@ -139,6 +139,7 @@ pub use transition::STOPPED_SHUTDOWN;
 pub use transition::SUSPENDED_PAUSED;
 pub use transition::Transition;
 pub use transition::UNDEFINED_REMOVED;
+pub use transition::transition_numbers;
 pub use uuid::Uuid;
 pub use value::DomainInfo;
 pub use value::DomainRow;

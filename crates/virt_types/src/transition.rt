@@ -1,4 +1,6 @@
 // What is told of a domain to those who registered for its events.
+ghost use Rattle.std.specs.Prelude.{◌≡◌};
+ghost use Rattle.virt_types.specs.Transition.{transition};
 
 /// An event of a domain, with libvirt's numbers (`virDomainEventType` and the details of each type
 /// in `libvirt-domain.h`). A client gets any numbers; the daemon tells those of the constants.
@@ -117,3 +119,17 @@ pub const CRASHED_PANICKED: Transition = Transition {
     event: 8,
     detail: 0,
 };
+
+/// The numbers of the constants above, once more, so that none drifts.
+pub fn transition_numbers()
+    ensures defined { (DEFINED_ADDED ≡ transition 0 0) × (DEFINED_UPDATED ≡ transition 0 1) }
+    ensures undefined { UNDEFINED_REMOVED ≡ transition 1 0 }
+    ensures started { (STARTED_BOOTED ≡ transition 2 0) × (STARTED_MIGRATED ≡ transition 2 1) }
+    ensures restarted { (STARTED_RESTORED ≡ transition 2 2) × (STARTED_FROM_SNAPSHOT ≡ transition 2 3) }
+    ensures suspended { (SUSPENDED_PAUSED ≡ transition 3 0) × (RESUMED_UNPAUSED ≡ transition 4 0) }
+    ensures stopped { (STOPPED_SHUTDOWN ≡ transition 5 0) × (STOPPED_DESTROYED ≡ transition 5 1) }
+    ensures crashed { (STOPPED_CRASHED ≡ transition 5 2) × (STOPPED_MIGRATED ≡ transition 5 3) }
+    ensures saved { (STOPPED_SAVED ≡ transition 5 4) × (STOPPED_FAILED ≡ transition 5 5) }
+    ensures reverted { STOPPED_FROM_SNAPSHOT ≡ transition 5 6 }
+    ensures guest { (SHUTDOWN_FINISHED ≡ transition 6 0) × (CRASHED_PANICKED ≡ transition 8 0) }
+{}
