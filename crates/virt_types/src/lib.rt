@@ -1,6 +1,7 @@
 //! The words in which the whole system is said: names, texts, domains, calls and what they answer.
 #![tactic(auto)]
 
+mod answer;
 mod ask;
 mod bytes;
 mod call;
@@ -25,10 +26,18 @@ mod run_state;
 mod script;
 mod status;
 mod storage_def;
+#[cfg(test)]
+mod tests;
 mod text;
 mod transition;
 mod value;
 
+pub use answer::Answer;
+pub use answer::AnswerList;
+pub use answer::AnswerValue;
+pub use answer::AskList;
+pub use answer::Job;
+pub use answer::WhoList;
 pub use ask::Ask;
 pub use ask::Command;
 pub use ask::GuestEvent;

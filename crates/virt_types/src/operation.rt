@@ -138,6 +138,8 @@ pub struct Op {
     pub who: Who,
     /// The boot that it works on; none where it works on no guest.
     pub boot: Option<u64>,
+    /// Whether it makes that boot.
+    pub new_boot: bool,
     /// The step that is due or under way.
     pub phase: Phase,
     /// Whether the guest ran when it was begun.
@@ -158,6 +160,7 @@ impl TryCopy for Op {
             kind: self.kind,
             who: self.who,
             boot: self.boot,
+            new_boot: self.new_boot,
             phase: self.phase,
             was_running: self.was_running,
             abort: self.abort,

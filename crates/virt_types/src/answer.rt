@@ -1,0 +1,88 @@
+// What asks are answered, and the normal jobs under which calls make them.
+use crate::ask::Ask;
+use crate::bytes::Bytes;
+use crate::caller::{Front, Who};
+use crate::copy::TryCopy;
+use crate::list::ListOf;
+use crate::memory::NoMemory;
+use crate::run_state::EndReason;
+
+/// What an ask gives that was done.
+#[derive(Drop)]
+pub enum AnswerValue {
+    /// Nothing.
+    Nothing,
+    /// A number: the guest's memory in KiB, or how much of a copy is left.
+    Number(u64),
+    /// The bytes of a copy.
+    Bytes(Bytes),
+    /// The place of the store's history that ends with the mark of this change.
+    Front(Front),
+}
+
+impl TryCopy for AnswerValue {
+    fn copy(&self) -> Result<AnswerValue, NoMemory> {
+        match self {
+            AnswerValue::Nothing => Ok(AnswerValue::Nothing),
+            AnswerValue::Number(it) => Ok(AnswerValue::Number(*it)),
+            AnswerValue::Bytes(it) => Ok(AnswerValue::Bytes(it.copy()?)),
+            AnswerValue::Front(it) => Ok(AnswerValue::Front(*it)),
+        }
+    }
+}
+
+/// What an ask is answered.
+#[derive(Drop)]
+pub enum Answer {
+    /// It was done, and gives this.
+    Ok(AnswerValue),
+    /// It was refused, with this class: a guest's own are 1 to 9.
+    Refused(u32),
+    /// The guest has ended.
+    Ended(EndReason),
+    /// The link to the guest was lost.
+    Lost,
+    /// The store failed.
+    Device,
+    /// There was no memory for it.
+    NoMemory,
+}
+
+impl TryCopy for Answer {
+    fn copy(&self) -> Result<Answer, NoMemory> {
+        match self {
+            Answer::Ok(it) => Ok(Answer::Ok(it.copy()?)),
+            Answer::Refused(it) => Ok(Answer::Refused(*it)),
+            Answer::Ended(it) => Ok(Answer::Ended(*it)),
+            Answer::Lost => Ok(Answer::Lost),
+            Answer::Device => Ok(Answer::Device),
+            Answer::NoMemory => Ok(Answer::NoMemory),
+        }
+    }
+}
+
+/// Asks in order.
+pub type AskList = ListOf<Ask>;
+
+/// Answers in order.
+pub type AnswerList = ListOf<Answer>;
+
+/// Callers in order.
+pub type WhoList = ListOf<Who>;
+
+/// A normal job, of which at most one is held for a domain (libvirt's `src/qemu/THREADS.txt`).
+#[derive(Clone, Copy, Debug, PartialEq, Eq)]
+pub enum Job {
+    /// The guest is asked something.
+    Query,
+    /// The guest is ended.
+    Destroy,
+    /// The guest is stopped.
+    Suspend,
+    /// Anything else is changed.
+    Modify,
+    /// The operation under way is to be given up.
+    Abort,
+    /// A phase of the operation under way.
+    Nested,
+}

@@ -1,0 +1,4 @@
+mod copies;
+mod fixtures;
+mod names;
+mod numbers;
