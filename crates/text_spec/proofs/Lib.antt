@@ -1,0 +1,9 @@
+mod Blanks
+mod Elements
+mod Escapes
+mod Nested
+mod Scalars
+mod Tags
+mod Texts
+mod Whole
+mod Words

@@ -8,4 +8,5 @@ pub mod Tag
 pub mod Tree
 pub mod Element
 pub mod Text
+pub mod Writable
 pub mod Written

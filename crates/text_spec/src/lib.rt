@@ -3,11 +3,13 @@
 #![tactic(auto)]
 
 mod ahead;
+mod back;
 mod fault;
 mod pair;
 mod tree;
 
 pub use ahead::Ahead;
+pub use back::written_reads_back;
 pub use fault::{Flaw, TextFault, TextKind};
 pub use pair::{Pair, PairList};
 pub use tree::{Tree, TreeList};
