@@ -153,7 +153,8 @@ fn whole_comment_at(told: Flaw, chars: &[char]) -> Result<(&[char], &[char]), Fl
 /// The flaw of a document type, from behind its `<!D`.
 #[tactic(auto, unfolding(text_spec::specs::Aside::doctype_at))]
 fn doctype_at(told: Flaw, doctype: Flaw, chars: &[char]) -> Result<(&[char], &[char]), Flaw>
-    ensures reads { Tells (λ r. (r.0.now, r.1.now)) result (spec.doctype_at told doctype chars.now) }
+    ensures reads { Tells (λ r. (r.0.now, r.1.now)) result
+        (spec.doctype_at told doctype chars.now) }
     ensures within { IfOk result (λ r. length r.1.now ≤ length chars.now) }
 {
     expect(told, &['O', 'C', 'T', 'Y', 'P', 'E'], chars)?;
@@ -167,7 +168,8 @@ fn after_bang<'a>(
     start: &[char],
     chars: &'a [char],
 ) -> Result<(&'a [char], &'a [char]), Flaw>
-    ensures reads { Tells (λ r. (r.0.now, r.1.now)) result (spec.after_bang inside start.now chars.now) }
+    ensures reads { Tells (λ r. (r.0.now, r.1.now)) result
+        (spec.after_bang inside start.now chars.now) }
     ensures within { IfOk result (λ r. length r.1.now ≤ length chars.now) }
 {
     let told = flaw(TextKind::Tag, start);
@@ -182,7 +184,8 @@ fn after_bang<'a>(
 
 /// No text, and what follows an instruction, from behind its `<?`.
 fn whole_instruction_at(told: Flaw, chars: &[char]) -> Result<(&[char], &[char]), Flaw>
-    ensures reads { Tells (λ r. (r.0.now, r.1.now)) result (spec.without_text (spec.targeted told chars.now)) }
+    ensures reads { Tells (λ r. (r.0.now, r.1.now)) result
+        (spec.without_text (spec.targeted told chars.now)) }
     ensures within { IfOk result (λ r. length r.1.now ≤ length chars.now) }
 {
     let rest = targeted(told, chars)?;
@@ -195,7 +198,8 @@ fn after_less<'a>(
     start: &[char],
     chars: &'a [char],
 ) -> Result<(&'a [char], &'a [char]), Flaw>
-    ensures reads { Tells (λ r. (r.0.now, r.1.now)) result (spec.after_less inside start.now chars.now) }
+    ensures reads { Tells (λ r. (r.0.now, r.1.now)) result
+        (spec.after_less inside start.now chars.now) }
     ensures within { IfOk result (λ r. length r.1.now ≤ length chars.now) }
 {
     match chars {

@@ -110,7 +110,8 @@ pub(crate) struct Grown<'a> {
 
 /// The element of a tag.
 fn tree_of(alloc: Global, tag: Tag<'_>, text: &[char], children: TreeList) -> Result<Tree, NoMemory>
-    ensures { IfOk result (λ t. seen t ≡ spec.tree_of (tag_view tag.entry) text.now (all_seen children.items)) }
+    ensures { IfOk result (λ t. seen t
+        ≡ spec.tree_of (tag_view tag.entry) text.now (all_seen children.items)) }
 {
     let name = text_of(alloc, tag.name)?;
     let text = text_of(alloc, trimmed(text))?;

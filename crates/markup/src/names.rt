@@ -12,7 +12,8 @@ pub(crate) fn add_name<'a>(
     name: &'a [char],
 ) -> Result<bool, NoMemory>
     ensures fresh { IfOk result (λ fresh. fresh ≡ not (has names.old name.now)) }
-    ensures added { OnOk result ((other : List ℕ) → has names.new other ≡ (bytes_eq name.now other || has names.old other)) }
+    ensures added { OnOk result ((other : List ℕ) → has names.new other
+        ≡ (bytes_eq name.now other || has names.old other)) }
 {
     Ok(names.insert(name)?)
 }

@@ -79,7 +79,8 @@ fn cut_short(
     at: u64,
     read: Result<Tree, OrNoMemory<TextFault>>,
 ) -> Result<Tree, OrNoMemory<TextFault>>
-    ensures { (found : Result spec_tree.Tree TextFault) → Reads read found → Reads result (spec.cut_short at found) }
+    ensures { (found : Result spec_tree.Tree TextFault) → Reads read found
+        → Reads result (spec.cut_short at found) }
 {
     let cut = TextFault {
         at,

@@ -44,7 +44,8 @@ fn number_end<'a>(
 fn number_at(base: u32, told: Flaw, chars: &[char]) -> Result<(char, &[char]), Flaw>
     requires low { 2 ≤ base }
     requires high { base ≤ 16 }
-    ensures reads { Tells (λ r. (r.0, r.1.now)) result (spec_number_at base told 0 false chars.now) }
+    ensures reads { Tells (λ r. (r.0, r.1.now)) result
+        (spec_number_at base told 0 false chars.now) }
     ensures within { IfOk result (λ r. length r.1.now ≤ length chars.now) }
 {
     let mut number = 0u32;
@@ -84,7 +85,8 @@ fn named<'a>(
     name: &[char],
     chars: &'a [char],
 ) -> Result<(char, &'a [char]), Flaw>
-    ensures reads { Tells (λ r. (r.0, r.1.now)) result (spec_named told character name.now chars.now) }
+    ensures reads { Tells (λ r. (r.0, r.1.now)) result
+        (spec_named told character name.now chars.now) }
     ensures within { IfOk result (λ r. length r.1.now ≤ length chars.now) }
 {
     let rest = expect(told, name, chars)?;

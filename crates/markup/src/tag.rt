@@ -145,7 +145,8 @@ fn pair_of(alloc: Global, attribute: &Attribute<'_>) -> Result<Pair, NoMemory>
 /// The end of a tag, where it stands here: whether it is `/>`, and what follows it.
 #[tactic(auto, unfolding(text_spec::specs::Tag::tag_end_at))]
 fn tag_end_at(told: Flaw, chars: &[char]) -> Result<Option<(bool, &[char])>, Flaw>
-    ensures reads { Tells (λ end. option_map (λ e. (e.0, e.1.now)) end) result (spec.tag_end_at told chars.now) }
+    ensures reads { Tells (λ end. option_map (λ e. (e.0, e.1.now)) end) result
+        (spec.tag_end_at told chars.now) }
     ensures within { IfOk result (λ end. IfSome end (λ e. length e.1.now ≤ length chars.now)) }
 {
     match chars {

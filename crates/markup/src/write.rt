@@ -1,13 +1,15 @@
 // Writing a tree as a text.
 ghost use Rattle.std.specs.Prelude.{◌≡◌, ℕ, List, [], ◌∷◌, ◌++◌, IfOk, OnOk, chars as chars_of};
 ghost use Rattle.std.specs.List.{flat_map};
+ghost use Rattle.text_spec.specs.Text.{read_of};
+ghost use Rattle.text_spec.specs.Writable.{IsWritable};
 ghost use Rattle.text_spec.specs.Written as spec;
 ghost use Rattle.text_spec.specs.Tree.{seen, all_seen, trees as trees_of};
 
 use crate::read::characters;
 use crate::tag::text_of;
 use std::alloc::Global;
-use text_spec::{Pair, Tree};
+use text_spec::{Pair, Tree, written_reads_back};
 use virt_types::{NoMemory, Text};
 
 /// Adds a character of an element's text.
@@ -77,7 +79,8 @@ fn push_attribute(alloc: Global, out: &mut Vec<char>, pair: &Pair) -> Result<(),
 
 /// Adds attributes, each behind a blank.
 fn push_attributes(alloc: Global, out: &mut Vec<char>, pairs: &[Pair]) -> Result<(), NoMemory>
-    ensures { OnOk result (out.new.items ≡ out.old.items ++ flat_map spec.attribute_written pairs.now) }
+    ensures { OnOk result (out.new.items ≡ out.old.items
+        ++ flat_map spec.attribute_written pairs.now) }
 {
     for pair in pairs {
         push_attribute(alloc, out, pair)?;
@@ -93,7 +96,8 @@ fn push_opened(
     name: &[char],
     pairs: &[Pair],
 ) -> Result<(), NoMemory>
-    ensures { OnOk result (out.new.items ≡ out.old.items ++ spec.opened inset.now name.now pairs.now) }
+    ensures { OnOk result (out.new.items ≡ out.old.items
+        ++ spec.opened inset.now name.now pairs.now) }
 {
     out.extend_from_slice(inset)?;
     out.push('<')?;
@@ -118,7 +122,8 @@ fn push_without_children(
     name: &[char],
     text: &[char],
 ) -> Result<(), NoMemory>
-    ensures { OnOk result (out.new.items ≡ out.old.items ++ spec.without_children name.now (flat_map spec.in_text text.now)) }
+    ensures { OnOk result (out.new.items ≡ out.old.items
+        ++ spec.without_children name.now (flat_map spec.in_text text.now)) }
 {
     let mut escaped = Vec::new(alloc);
     push_text(&mut escaped, text)?;
@@ -139,7 +144,8 @@ fn push_trees(
     inset: &[char],
     trees: &[Tree],
 ) -> Result<(), NoMemory>
-    ensures { OnOk result (out.new.items ≡ out.old.items ++ spec.trees_written inset.now (all_seen trees.now)) }
+    ensures { OnOk result (out.new.items ≡ out.old.items
+        ++ spec.trees_written inset.now (all_seen trees.now)) }
 {
     for tree in trees {
         push_tree(alloc, out, inset, tree)?;
@@ -157,7 +163,8 @@ fn push_with_children(
     text: &[char],
     trees: &[Tree],
 ) -> Result<(), NoMemory>
-    ensures { OnOk result (out.new.items ≡ out.old.items ++ spec.with_children inset.now name.now (flat_map spec.in_text text.now)
+    ensures { OnOk result (out.new.items ≡ out.old.items
+        ++ spec.with_children inset.now name.now (flat_map spec.in_text text.now)
         (spec.trees_written (spec.deeper inset.now) (all_seen trees.now))) }
 {
     let mut deeper = Vec::from_slice(alloc, inset)?;
@@ -178,7 +185,8 @@ fn push_tree(
     inset: &[char],
     tree: &Tree,
 ) -> Result<(), NoMemory>
-    ensures { OnOk result (out.new.items ≡ out.old.items ++ spec.tree_written inset.now (seen tree.now)) }
+    ensures { OnOk result (out.new.items ≡ out.old.items
+        ++ spec.tree_written inset.now (seen tree.now)) }
 {
     let name = characters(alloc, tree.name.as_str())?;
     let text = characters(alloc, tree.text.as_str())?;
@@ -205,9 +213,14 @@ fn push_tree(
 
 /// The text of a tree: an element a line, two blanks a level, attributes in single quotes, an
 /// element without content as `<a/>`, a line feed at the end.
+///
+/// A tree that reading can give reads back from its text.
 pub fn write_tree(alloc: Global, tree: &Tree) -> Result<Text, NoMemory>
-    ensures { IfOk result (λ t. t ≡ spec.written (seen tree.now)) }
+    ensures spelling { IfOk result (λ t. t ≡ spec.written (seen tree.now)) }
+    ensures reads_back { IfOk result (λ t. IsWritable (seen tree.now)
+        → read_of t ≡ Ok (seen tree.now)) }
 {
+    written_reads_back();
     let mut out = Vec::new(alloc);
     push_tree(alloc, &mut out, &[], tree)?;
     text_of(alloc, out.as_slice())
