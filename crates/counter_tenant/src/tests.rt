@@ -1,6 +1,7 @@
 ghost use Rattle.std.specs.Prelude.{◌≡◌, IfSome, true};
 
 use super::*;
+use std::mem::size_of;
 use std::sync::Wait;
 use std::test::Fail;
 use turn_cell::TurnCell;
@@ -42,6 +43,11 @@ fn two_threads_count_to_two_thousand(rt: HostRuntime) -> Result<(), Fail> {
         assert!(rt; count_by_two(&rt, rt.alloc(), 1000) == Some(2000));
     }
     Ok(())
+}
+
+#[test]
+fn a_pass_is_small(rt: HostRuntime) {
+    assert!(rt; size_of::<CounterPass>() <= 16);
 }
 
 #[test]

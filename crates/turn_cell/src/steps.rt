@@ -7,6 +7,7 @@ ghost use Rattle.turn_cell.specs.Passes.{HasTurn, Leaves, CanPart, CanJoin, IsNe
 use crate::kept::Kept;
 use crate::plays::{Cut, Draw, Glue, InTurns, Look, Meet, Name, PassOn, Publish, ViewOf};
 use atomic_table::{Seat, Shared};
+use std::hint::spin_loop;
 use std::snapshot::Snapshot;
 use std::sync::Wait;
 use std::thread::yield_now;
@@ -24,6 +25,9 @@ const FRONT: usize = 2;
 pub(crate) type Board<T> = Shared<Option<T>, ViewOf<T>, Snapshot<T>, InTurns<T>>;
 
 pub(crate) type Place<T> = Seat<Option<T>, ViewOf<T>>;
+
+/// How often a pass that waits looks before it gives the processor up.
+const LOOKS: u32 = 32;
 
 /// How many milliseconds a rest takes at most. Nobody wakes a pass that rests, so that leaving costs no call of
 /// the system.
@@ -62,13 +66,25 @@ pub(crate) fn wait_for<T: Kept + Drop, R: Wait>(
     ensures seat { (seat.new.table_id ≡ seat.old.table_id) × (seat.new.id ≡ seat.old.id) }
     ensures turn { HasTurn T.meaning ticket seat.old.me seat.new.me result }
 {
+    let mut rounds: u32 = 0;
     for _ in rt.forever() {
         if look(board, seat, ticket) {
             return board.exchange(seat, 0, None).unwrap();
         }
-        yield_now();
+        rounds = rounds.wrapping_add(1);
+        pause(rounds);
     }
     unreachable!()
+}
+
+// A turn is mostly short, so a pass that waits looks again at once, and gives the processor up only
+// now and then.
+fn pause(rounds: u32) {
+    if rounds % LOOKS == 0 {
+        yield_now();
+    } else {
+        spin_loop();
+    }
 }
 
 /// Puts the value back, publishes it, and passes the turn on.
