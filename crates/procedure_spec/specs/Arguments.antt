@@ -1,11 +1,20 @@
 -- The arguments of calls, as their payloads spell them.
-use Rattle.std.specs.Prelude.{◌≡◌, ℕ, ◌^◌, ◌<◌, List, ◌++◌, Option, IfSome}
-use Rattle.wire_spec.specs.Xdr.{opaque, optional, word}
+use Rattle.std.specs.Prelude.{◌≡◌, ℕ, ◌^◌, ◌<◌, List, [], ◌++◌, length, Option, None, Some, IfSome}
+use Rattle.virt_types.specs.declared.reference.DomainTarget.{DomainTarget}
+use Rattle.virt_types.specs.declared.request.Request.{Request}
+use Rattle.virt_types.specs.declared.request.Request.TheVariants as request
+use Rattle.wire_spec.specs.Xdr.{IsInteger, IsWord, fixed, integer, opaque, optional, word}
 pub use Rattle.wire_spec.specs.Xdr.{IsString}
+use Rattle.procedure_spec.specs.declared.procedure.Procedure.{Procedure}
+use Rattle.procedure_spec.specs.declared.procedure.Procedure.TheVariants as procedure
 
 -- strings that nothing but the packet bounds: 4,194,304 bytes less the seven words before a payload
 abbrev pub packet_bound : ℕ
 packet_bound = 4194276
+
+-- the longest text of a definition
+abbrev pub definition_bound : ℕ
+definition_bound = 65536
 
 -- the payload is that of CONNECT_OPEN: a name, which may be absent, and flags
 pub record Opens (payload : List ℕ) : Type 0 where
@@ -19,3 +28,44 @@ pub record Opens (payload : List ℕ) : Type 0 where
 pub record LooksUp (payload name : List ℕ) : Type 0 where
   pub spelled : payload ≡ opaque name
   pub name_is : IsString packet_bound name
+
+-- the domain that a call is for: its name, its identifier and its number
+abbrev pub target : DomainTarget → List ℕ
+target d = opaque d.name ++ fixed d.uuid ++ integer d.id
+
+pub record IsTarget (d : DomainTarget) : Type 0 where
+  pub name : IsString packet_bound d.name
+  pub uuid : length d.uuid ≡ 16
+  pub id : IsInteger d.id
+
+-- the procedure that a request calls, of those that are built
+abbrev pub procedure_of : Request → Option Procedure
+procedure_of (request.ConnectOpen name flags) = Some procedure.ConnectOpen
+procedure_of request.ConnectClose = Some procedure.ConnectClose
+procedure_of (request.DomainDefineXml xml) = Some procedure.DomainDefineXml
+procedure_of (request.DomainGetXmlDesc domain flags) = Some procedure.DomainGetXmlDesc
+procedure_of (request.ConnectListDefinedDomains most) = Some procedure.ConnectListDefinedDomains
+procedure_of (request.DomainLookupByName name) = Some procedure.DomainLookupByName
+procedure_of (request.DomainLookupByUuid uuid) = Some procedure.DomainLookupByUuid
+procedure_of _ = None
+
+-- the payload of its call
+abbrev pub arguments : Request → List ℕ
+arguments (request.ConnectOpen name flags) = optional opaque name ++ word flags
+arguments (request.DomainDefineXml xml) = opaque xml
+arguments (request.DomainGetXmlDesc domain flags) = target domain ++ word flags
+arguments (request.ConnectListDefinedDomains most) = integer most
+arguments (request.DomainLookupByName name) = opaque name
+arguments (request.DomainLookupByUuid uuid) = fixed uuid
+arguments _ = []
+
+-- its arguments have a spelling
+abbrev pub HasArguments : Request → Type 0
+HasArguments (request.ConnectOpen name flags) = IfSome name (IsString packet_bound) × IsWord flags
+HasArguments request.ConnectClose = Unit {0}
+HasArguments (request.DomainDefineXml xml) = IsString definition_bound xml
+HasArguments (request.DomainGetXmlDesc domain flags) = IsTarget domain × IsWord flags
+HasArguments (request.ConnectListDefinedDomains most) = IsInteger most
+HasArguments (request.DomainLookupByName name) = IsString packet_bound name
+HasArguments (request.DomainLookupByUuid uuid) = length uuid ≡ 16
+HasArguments _ = ⊥

@@ -1,0 +1,47 @@
+-- The domain that a call is for is read where it is spelled, and what is read is spelled so.
+use Rattle.std.proofs.Common.{◌≡◌, ℕ, ◌+◌, ◌<◌, List, ◌++◌, length, Result, Ok, Err, refl, sym, ap, subst, ◌∙◌, append_assoc, arith, lit<}
+use Rattle.std.proofs.lemmas.List.{length-append}
+use Rattle.virt_types.specs.declared.reference.DomainTarget.{DomainTarget}
+use Rattle.wire_spec.specs.declared.fault.XdrFault.{XdrFault}
+use Rattle.wire_spec.specs.Xdr.{IsString, fixed, integer, opaque}
+use Rattle.wire_spec.specs.XdrAnswer.{Takes}
+use Rattle.wire_spec.specs.XdrReading.{IsBytes, Left, ◌>>=◌, first_fixed, first_integer, first_string}
+use Rattle.wire_spec.proofs.Items.{IsItem, taken}
+use Rattle.wire_spec.proofs.Seen.{IsItem-integer}
+use Rattle.wire_spec.proofs.Steps.{Takes-then, bind_ok, ok_is}
+use Rattle.wire_spec.proofs.Strings.{IsItem-fixed, IsItem-string}
+use Rattle.procedure_spec.specs.Arguments.{IsTarget, packet_bound, target}
+use Rattle.procedure_spec.specs.ArgumentsReading.{first_target}
+
+pub IsItem-name : IsItem (IsString packet_bound) opaque (first_string packet_bound)
+IsItem-name = IsItem-string packet_bound (lit< tt)
+
+target_found : (l : Left) (x : DomainTarget × Left) → IsBytes l.bytes → first_target l ≡ Ok x → IsTarget x.0 × Takes l (target x.0) x.1 × IsBytes x.1.bytes
+unfolding first_target
+target_found l x fits e =
+    let n = bind_ok (first_string packet_bound l) (λ name. first_fixed 16 name.1 >>= λ uuid. first_integer uuid.1 >>= λ id. Ok (record { name = name.0; uuid = uuid.0; id = id.0 }, id.1)) x e in
+    let u = bind_ok (first_fixed 16 n.0.1) (λ uuid. first_integer uuid.1 >>= λ id. Ok (record { name = n.0.0; uuid = uuid.0; id = id.0 }, id.1)) x n.2 in
+    let i = bind_ok (first_integer u.0.1) (λ id. Ok (record { name = n.0.0; uuid = u.0.0; id = id.0 }, id.1)) x u.2 in
+    let name = IsItem-name.found l n.0 fits n.1 in
+    let uuid = (IsItem-fixed 16).found n.0.1 u.0 name.2 u.1 in
+    let id = IsItem-integer.found u.0.1 i.0 uuid.2 i.1 in
+    let d : DomainTarget = record { name = n.0.0; uuid = u.0.0; id = i.0.0 } in
+    let both : Takes l (opaque n.0.0 ++ fixed u.0.0) u.0.1 = Takes-then l n.0.1 u.0.1 (opaque n.0.0) (fixed u.0.0) name.1 uuid.1 in
+    let all : Takes l (opaque n.0.0 ++ fixed u.0.0 ++ integer i.0.0) i.0.1 = Takes-then l u.0.1 i.0.1 (opaque n.0.0 ++ fixed u.0.0) (integer i.0.0) both id.1 in
+    let here : IsTarget d × Takes l (target d) i.0.1 × IsBytes i.0.1.bytes = (record { name = name.0; uuid = uuid.0; id = id.0 }, all, id.2) in
+    subst (λ (y : DomainTarget × Left). IsTarget y.0 × Takes l (target y.0) y.1 × IsBytes y.1.bytes) (ok_is (d, i.0.1) x i.2) here
+
+after_three : (a b c : List ℕ) (place : ℕ) → place + length a + length b + length c ≡ place + length (a ++ b ++ c)
+after_three a b c place = omega (arith, length-append (a ++ b) c, length-append a b)
+
+target_again : (l : Left) (d : DomainTarget) (rest : List ℕ) → IsTarget d → l.bytes ≡ target d ++ rest → first_target l ≡ Ok (taken l d (target d) rest)
+unfolding first_target
+target_again l d rest is e =
+    let parts : target d ++ rest ≡ opaque d.name ++ (fixed d.uuid ++ (integer d.id ++ rest)) = append_assoc (opaque d.name ++ fixed d.uuid) (integer d.id) rest ∙ append_assoc (opaque d.name) (fixed d.uuid) (integer d.id ++ rest) in
+    let n = IsItem-name.again l d.name (fixed d.uuid ++ (integer d.id ++ rest)) is.name (e ∙ parts) in
+    let u = (IsItem-fixed 16).again (taken l d.name (opaque d.name) (fixed d.uuid ++ (integer d.id ++ rest))).1 d.uuid (integer d.id ++ rest) is.uuid refl in
+    let i = IsItem-integer.again (taken (taken l d.name (opaque d.name) (fixed d.uuid ++ (integer d.id ++ rest))).1 d.uuid (fixed d.uuid) (integer d.id ++ rest)).1 d.id rest is.id refl in
+    rw (n, u, i, after_three (opaque d.name) (fixed d.uuid) (integer d.id) l.place) refl
+
+pub IsItem-target : IsItem IsTarget target first_target
+IsItem-target = record { found = target_found; again = target_again }

@@ -1,0 +1,12 @@
+-- What a reader of several items did.
+use Rattle.std.specs.Prelude.{◌≡◌, Result, Ok, Err}
+use Rattle.virt_types.specs.declared.memory.OrNoMemory.{OrNoMemory}
+use Rattle.virt_types.specs.declared.memory.OrNoMemory.TheVariants.{Fault, NoMemory}
+use Rattle.wire_spec.specs.declared.fault.XdrFault.{XdrFault}
+use Rattle.wire_spec.specs.XdrReading.{Left}
+
+-- the answer is what reading gives, and what it leaves is left, or there was no memory
+abbrev pub Walks : {A : Type 0} → (Left → Result (A × Left) XdrFault) → Left → Result A (OrNoMemory XdrFault) → Left → Type 0
+Walks first old (Ok v) new = first old ≡ Ok (v, new)
+Walks first old (Err (Fault f)) new = first old ≡ Err f
+Walks first old (Err NoMemory) new = Unit {0}
