@@ -4,9 +4,17 @@ use Rattle.virt_types.specs.declared.memory.OrNoMemory.{OrNoMemory}
 use Rattle.virt_types.specs.declared.memory.OrNoMemory.TheVariants.{Fault, NoMemory}
 use Rattle.wire_spec.specs.declared.fault.XdrFault.{XdrFault}
 use Rattle.wire_spec.specs.XdrReading.{Left}
+use Rattle.procedure_spec.specs.declared.fault.ArgFault.{ArgFault}
+use Rattle.procedure_spec.specs.declared.fault.ArgFault.TheVariants.{Xdr}
 
 -- the answer is what reading gives, and what it leaves is left, or there was no memory
 abbrev pub Walks : {A : Type 0} → (Left → Result (A × Left) XdrFault) → Left → Result A (OrNoMemory XdrFault) → Left → Type 0
 Walks first old (Ok v) new = first old ≡ Ok (v, new)
 Walks first old (Err (Fault f)) new = first old ≡ Err f
 Walks first old (Err NoMemory) new = Unit {0}
+
+-- a fault of an item is told as a fault of a call
+abbrev pub Lifts : {A : Type 0} → Result A (OrNoMemory XdrFault) → Result A (OrNoMemory ArgFault) → Type 0
+Lifts (Ok x) result = result ≡ Ok x
+Lifts (Err (Fault f)) result = result ≡ Err (Fault (Xdr f))
+Lifts (Err NoMemory) result = result ≡ Err NoMemory

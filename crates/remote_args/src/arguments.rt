@@ -2,10 +2,11 @@
 ghost use Rattle.std.specs.Prelude.{◌≡◌};
 ghost use Rattle.wire_spec.specs.XdrReading.{first_fixed, first_optional, first_string, whole};
 ghost use Rattle.procedure_spec.specs.Arguments.{packet_bound};
-ghost use Rattle.procedure_spec.specs.ArgumentsReading.{first_close, first_define, first_get_xml, first_list_defined, first_lookup_by_name, first_lookup_by_uuid, first_open, first_target};
+ghost use Rattle.procedure_spec.specs.ArgumentsReading.{first_close, first_define, first_get_xml, first_list_defined, first_lookup_by_name, first_lookup_by_uuid, first_open, first_target, request_in};
 ghost use Rattle.procedure_spec.specs.Calls.{Finds};
-ghost use Rattle.remote_args.specs.Steps.{Walks};
+ghost use Rattle.remote_args.specs.Steps.{Lifts, Walks};
 
+use procedure_spec::{ArgFault, Procedure};
 use std::alloc::Global;
 use virt_types::{DomainTarget, OrNoMemory, Request, Text, Uuid};
 use wire_spec::XdrFault;
@@ -51,4 +52,107 @@ fn target(alloc: Global, reader: &mut Reader<'_>) -> Result<DomainTarget, OrNoMe
     let uuid = identifier(alloc, reader)?;
     let id = reader.take_i32().map_err(OrNoMemory::Fault)?;
     Ok(DomainTarget { name, uuid, id })
+}
+
+// All of the payload, procedure by procedure.
+
+#[tactic(auto, unfolding(wire_spec::specs::XdrReading::whole, procedure_spec::specs::ArgumentsReading::first_open))]
+fn open(alloc: Global, payload: &[u8]) -> Result<Request, OrNoMemory<XdrFault>>
+    ensures { Finds result (whole first_open payload.now) }
+{
+    let mut reader = Reader::new(payload);
+    let name = optional_name(alloc, &mut reader)?;
+    let flags = reader.take_u32().map_err(OrNoMemory::Fault)?;
+    reader.end().map_err(OrNoMemory::Fault)?;
+    Ok(Request::ConnectOpen { name, flags })
+}
+
+#[tactic(auto, unfolding(wire_spec::specs::XdrReading::whole, procedure_spec::specs::ArgumentsReading::first_close))]
+fn close(payload: &[u8]) -> Result<Request, OrNoMemory<XdrFault>>
+    ensures { Finds result (whole first_close payload.now) }
+{
+    Reader::new(payload).end().map_err(OrNoMemory::Fault)?;
+    Ok(Request::ConnectClose)
+}
+
+#[tactic(auto, unfolding(wire_spec::specs::XdrReading::whole, procedure_spec::specs::ArgumentsReading::first_define))]
+fn define(alloc: Global, payload: &[u8]) -> Result<Request, OrNoMemory<XdrFault>>
+    ensures { Finds result (whole first_define payload.now) }
+{
+    let mut reader = Reader::new(payload);
+    let xml = reader.take_text(alloc, DEFINITION_BOUND)?;
+    reader.end().map_err(OrNoMemory::Fault)?;
+    Ok(Request::DomainDefineXml { xml })
+}
+
+#[tactic(auto, unfolding(wire_spec::specs::XdrReading::whole, procedure_spec::specs::ArgumentsReading::first_get_xml))]
+fn get_xml(alloc: Global, payload: &[u8]) -> Result<Request, OrNoMemory<XdrFault>>
+    ensures { Finds result (whole first_get_xml payload.now) }
+{
+    let mut reader = Reader::new(payload);
+    let domain = target(alloc, &mut reader)?;
+    let flags = reader.take_u32().map_err(OrNoMemory::Fault)?;
+    reader.end().map_err(OrNoMemory::Fault)?;
+    Ok(Request::DomainGetXmlDesc { domain, flags })
+}
+
+#[tactic(auto, unfolding(wire_spec::specs::XdrReading::whole, procedure_spec::specs::ArgumentsReading::first_list_defined))]
+fn list_defined(payload: &[u8]) -> Result<Request, OrNoMemory<XdrFault>>
+    ensures { Finds result (whole first_list_defined payload.now) }
+{
+    let mut reader = Reader::new(payload);
+    let most = reader.take_i32().map_err(OrNoMemory::Fault)?;
+    reader.end().map_err(OrNoMemory::Fault)?;
+    Ok(Request::ConnectListDefinedDomains { most })
+}
+
+#[tactic(auto, unfolding(wire_spec::specs::XdrReading::whole, procedure_spec::specs::ArgumentsReading::first_lookup_by_name))]
+fn lookup_by_name(alloc: Global, payload: &[u8]) -> Result<Request, OrNoMemory<XdrFault>>
+    ensures { Finds result (whole first_lookup_by_name payload.now) }
+{
+    let mut reader = Reader::new(payload);
+    let name = reader.take_text(alloc, PACKET_BOUND)?;
+    reader.end().map_err(OrNoMemory::Fault)?;
+    Ok(Request::DomainLookupByName { name })
+}
+
+#[tactic(auto, unfolding(wire_spec::specs::XdrReading::whole, procedure_spec::specs::ArgumentsReading::first_lookup_by_uuid))]
+fn lookup_by_uuid(alloc: Global, payload: &[u8]) -> Result<Request, OrNoMemory<XdrFault>>
+    ensures { Finds result (whole first_lookup_by_uuid payload.now) }
+{
+    let mut reader = Reader::new(payload);
+    let uuid = identifier(alloc, &mut reader)?;
+    reader.end().map_err(OrNoMemory::Fault)?;
+    Ok(Request::DomainLookupByUuid { uuid })
+}
+
+// A fault of an item as a fault of a call.
+fn lifted(read: Result<Request, OrNoMemory<XdrFault>>) -> Result<Request, OrNoMemory<ArgFault>>
+    ensures { Lifts read result }
+{
+    match read {
+        Ok(request) => Ok(request),
+        Err(OrNoMemory::Fault(fault)) => Err(OrNoMemory::Fault(ArgFault::Xdr(fault))),
+        Err(OrNoMemory::NoMemory) => Err(OrNoMemory::NoMemory),
+    }
+}
+
+/// The request that the payload of a call of this procedure spells.
+pub(crate) fn request(
+    alloc: Global,
+    procedure: Procedure,
+    payload: &[u8],
+) -> Result<Request, OrNoMemory<ArgFault>>
+    ensures { Finds result (request_in procedure payload.now) }
+{
+    match procedure {
+        Procedure::ConnectOpen => lifted(open(alloc, payload)),
+        Procedure::ConnectClose => lifted(close(payload)),
+        Procedure::DomainDefineXml => lifted(define(alloc, payload)),
+        Procedure::DomainGetXmlDesc => lifted(get_xml(alloc, payload)),
+        Procedure::ConnectListDefinedDomains => lifted(list_defined(payload)),
+        Procedure::DomainLookupByName => lifted(lookup_by_name(alloc, payload)),
+        Procedure::DomainLookupByUuid => lifted(lookup_by_uuid(alloc, payload)),
+        _ => Err(OrNoMemory::Fault(ArgFault::Procedure)),
+    }
 }

@@ -2,5 +2,7 @@
 #![tactic(auto)]
 
 mod arguments;
+mod call;
 
+pub use call::{is_known, read_call};
 pub use procedure_spec::ArgFault;
