@@ -3,6 +3,7 @@ use Rattle.std.specs.Prelude.{◌≡◌, ◌==◌, ℕ, ◌||◌, Bool, true, Li
 use Rattle.virt_types.specs.declared.memory.OrNoMemory.{OrNoMemory}
 use Rattle.virt_types.specs.declared.memory.OrNoMemory.TheVariants.{Fault, NoMemory}
 use Rattle.virt_types.specs.declared.request.Request.{Request}
+use Rattle.virt_types.specs.declared.request.Request.TheVariants as request
 use Rattle.wire_spec.specs.declared.message.Header.{Header}
 use Rattle.procedure_spec.specs.Arguments.{HasArguments, arguments, procedure_of}
 use Rattle.procedure_spec.specs.ArgumentsReading.{request_in}
@@ -43,3 +44,18 @@ abbrev pub Finds : {A F : Type 0} → Result A (OrNoMemory F) → Result A F →
 Finds (Ok x) read = read ≡ Ok x
 Finds (Err (Fault f)) read = read ≡ Err f
 Finds (Err NoMemory) read = Unit {0}
+
+-- the program and the number of a request's procedure, of those that are built
+abbrev pub call_numbers : Request → ℕ × ℕ
+call_numbers (request.ConnectOpen name flags) = (0x20008086, 1)
+call_numbers request.ConnectClose = (0x20008086, 2)
+call_numbers (request.DomainDefineXml xml) = (0x20008086, 11)
+call_numbers (request.DomainGetXmlDesc domain flags) = (0x20008086, 14)
+call_numbers (request.ConnectListDefinedDomains most) = (0x20008086, 21)
+call_numbers (request.DomainLookupByName name) = (0x20008086, 23)
+call_numbers (request.DomainLookupByUuid uuid) = (0x20008086, 24)
+call_numbers _ = (0, 0)
+
+-- the header of a call
+abbrev pub call_header : Request → ℕ → Header
+call_header asked serial = record { prog = (call_numbers asked).0; vers = 1; procedure = (call_numbers asked).1; kind = 0; serial = serial; status = 0 }

@@ -1,5 +1,7 @@
 -- The payload of an error (libvirt's `virNetMessageError`, src/rpc/virnetprotocol.x).
-use Rattle.std.specs.Prelude.{ℕ, List, [], ◌∷◌, ◌++◌, Option, None, Some}
+use Rattle.std.specs.Prelude.{ℕ, ◌<◌, ◌^◌, List, [], ◌∷◌, ◌++◌, length, Option, None, Some}
+use Rattle.virt_types.specs.Refusal.{refusal_message, refusal_number}
+use Rattle.virt_types.specs.declared.refusal.Refusal.{Refusal}
 use Rattle.wire_spec.specs.Xdr.{opaque, optional, word}
 
 -- a kept text stands there where it is not empty
@@ -7,7 +9,18 @@ abbrev pub kept_string : List ℕ → Option (List ℕ)
 kept_string [] = None
 kept_string (b ∷ bs) = Some (b ∷ bs)
 
--- the code, the part that speaks (10, the QEMU driver), the message, the level (2, an error), no domain,
--- the kept text and no other strings, two numbers that are not used, no network
+-- the code, the part that speaks (10, the QEMU driver), the message, the level (2, an error), no domain
+abbrev pub head : ℕ → List ℕ → List ℕ
+head code message = word code ++ word 10 ++ optional opaque (Some message) ++ word 2 ++ word 0
+
+-- no other strings, two numbers that are not used, no network
+abbrev pub tail : List ℕ
+tail = word 0 ++ word 0 ++ word 0 ++ word 0 ++ word 0
+
+-- the kept text is the first string
 abbrev pub error_payload : ℕ → List ℕ → List ℕ → List ℕ
-error_payload code message kept = word code ++ word 10 ++ optional opaque (Some message) ++ word 2 ++ word 0 ++ optional opaque (kept_string kept) ++ word 0 ++ word 0 ++ word 0 ++ word 0 ++ word 0
+error_payload code message kept = head code message ++ optional opaque (kept_string kept) ++ tail
+
+-- the payload of the error that tells a refusal
+abbrev pub refusal_payload : Refusal → List ℕ
+refusal_payload r = error_payload (refusal_number r.code) (refusal_message r.code) r.kept

@@ -1,1 +1,2 @@
 pub mod CallLines
+pub mod Written

@@ -1,0 +1,18 @@
+-- The call that is written for a request is a call of it.
+use Rattle.std.proofs.Common.{◌≡◌, ℕ, List, Option, Some, refl}
+use Rattle.virt_types.specs.declared.request.Request.{Request}
+use Rattle.virt_types.specs.declared.request.Request.TheVariants as request
+use Rattle.procedure_spec.specs.Arguments.{HasArguments, arguments, procedure_of}
+use Rattle.procedure_spec.specs.Calls.{IsCall, call_header}
+use Rattle.procedure_spec.specs.Procedures.{row_of}
+
+pub is_call : (asked : Request) (serial : ℕ) → HasArguments asked → IsCall (call_header asked serial) (arguments asked) asked
+unfolding row_of
+is_call (request.ConnectOpen name flags) serial has = record { program = refl; version = refl; row = _; line = refl; built = refl; procedure = refl; has = has; spelled = refl }
+is_call request.ConnectClose serial has = record { program = refl; version = refl; row = _; line = refl; built = refl; procedure = refl; has = has; spelled = refl }
+is_call (request.DomainDefineXml xml) serial has = record { program = refl; version = refl; row = _; line = refl; built = refl; procedure = refl; has = has; spelled = refl }
+is_call (request.DomainGetXmlDesc domain flags) serial has = record { program = refl; version = refl; row = _; line = refl; built = refl; procedure = refl; has = has; spelled = refl }
+is_call (request.ConnectListDefinedDomains most) serial has = record { program = refl; version = refl; row = _; line = refl; built = refl; procedure = refl; has = has; spelled = refl }
+is_call (request.DomainLookupByName name) serial has = record { program = refl; version = refl; row = _; line = refl; built = refl; procedure = refl; has = has; spelled = refl }
+is_call (request.DomainLookupByUuid uuid) serial has = record { program = refl; version = refl; row = _; line = refl; built = refl; procedure = refl; has = has; spelled = refl }
+is_call _ serial has = absurd has

@@ -1,0 +1,7 @@
+use Rattle.std.proofs.Common.{◌≡◌, ◌++◌, take}
+use Rattle.std.specs.List.{flat_map}
+use Rattle.wire_spec.specs.Xdr.{opaque}
+use Rattle.remote_args.proofs.result.put_each.Given as goal
+
+abbrev pub invariant-loop-name : goal.invariant-loop-name
+invariant-loop-name l = l.writer ≡ l.initial.writer ++ flat_map opaque (take l.name-index l.list)

@@ -1,0 +1,53 @@
+// Writing what replies carry.
+ghost use Rattle.std.specs.Prelude.{◌≡◌, ◌≤◌, ◌++◌, ◌<◌, ◌^◌, length, OnOk};
+ghost use Rattle.std.specs.List.{flat_map};
+ghost use Rattle.wire_spec.specs.Xdr.{opaque};
+ghost use Rattle.procedure_spec.specs.declared.procedure.ResultShape.{ResultShape};
+ghost use Rattle.procedure_spec.specs.Results.{HasShape, domain_reference, names, names_bound, result as spelled};
+
+use virt_types::{DomainRef, Name, NoMemory, Value};
+use xdr_codec::Writer;
+
+fn put_name(writer: &mut Writer, name: &Name) -> Result<(), NoMemory>
+    ensures { OnOk result (writer.new ≡ writer.old ++ opaque name.now) }
+{
+    writer.put_string(name.as_bytes())
+}
+
+fn put_reference(writer: &mut Writer, domain: &DomainRef) -> Result<(), NoMemory>
+    ensures { OnOk result (writer.new ≡ writer.old ++ domain_reference domain.now) }
+{
+    put_name(writer, &domain.name)?;
+    writer.put_fixed(domain.uuid.as_bytes())?;
+    writer.put_i32(domain.id)
+}
+
+fn put_each(writer: &mut Writer, list: &[Name]) -> Result<(), NoMemory>
+    ensures { OnOk result (writer.new ≡ writer.old ++ flat_map opaque list.now) }
+{
+    for name in list {
+        put_name(writer, name)?;
+    }
+    Ok(())
+}
+
+fn put_names(writer: &mut Writer, list: &[Name]) -> Result<(), NoMemory>
+    requires { length list.now ≤ names_bound }
+    ensures { OnOk result (writer.new ≡ writer.old ++ names list.now) }
+{
+    writer.put_u32(list.len() as u32)?;
+    put_each(writer, list)
+}
+
+/// Writes what a reply with this value carries.
+pub(crate) fn put_value(writer: &mut Writer, value: &Value) -> Result<(), NoMemory>
+    requires { (shape : ResultShape) × HasShape value.now shape }
+    ensures { OnOk result (writer.new ≡ writer.old ++ spelled value.now) }
+{
+    match value {
+        Value::Domain(domain) => put_reference(writer, domain),
+        Value::Text(text) => writer.put_string(text.as_str().as_bytes()),
+        Value::Names(list) => put_names(writer, list.as_slice()),
+        _ => Ok(()),
+    }
+}
