@@ -1,0 +1,117 @@
+-- The calls on a domain: which job each takes, and what it asks of the guest or of the store.
+use Rattle.std.specs.Prelude.{ℕ, List, [], ◌∷◌, ◌++◌, Bool, true, false, Option, None, Some, unsigned_abs}
+use Rattle.domain_spec.specs.Types.{Ask, Call, Command, DeviceDef, Domain, DomainDef, Interface, Job, Live, Mac, OpKind, State}
+use Rattle.domain_spec.specs.Types.ask
+use Rattle.domain_spec.specs.Types.call
+use Rattle.domain_spec.specs.Types.command
+use Rattle.domain_spec.specs.Types.device
+use Rattle.domain_spec.specs.Types.job
+use Rattle.domain_spec.specs.Types.kind
+use Rattle.domain_spec.specs.Types.state
+use Rattle.domain_spec.specs.declared.planned.PlannedAsk.{PlannedAsk}
+use Rattle.domain_spec.specs.Asks.{plain, undone_by}
+use Rattle.domain_spec.specs.Reading.{is_running, is_paused}
+use Rattle.domain_spec.specs.Devices.{device_like, free_slot, is_on_network, network_of}
+
+-- the normal job that each call takes; a call that begins an operation takes Modify
+abbrev pub job_of : Call → Job
+job_of call.Suspend = job.Suspend
+job_of call.Destroy = job.Destroy
+job_of call.MemoryStats = job.Query
+job_of (call.Kick n) = job.Query
+job_of call.Abort = job.Abort
+job_of other = job.Modify
+
+-- the operation that a call begins
+abbrev pub begins : Call → Option OpKind
+begins call.Start = Some kind.Start
+begins (call.Create def) = Some kind.Start
+begins (call.Restore def running saved) = Some kind.Restore
+begins (call.Save name) = Some kind.Save
+begins (call.Dump name) = Some kind.Dump
+begins (call.Snapshot info) = Some kind.Snapshot
+begins (call.Revert name) = Some kind.Revert
+begins other = None
+
+-- calls on the stored definition, which go on where the boot that they carry has ended
+abbrev pub is_on_stored : Call → Bool
+is_on_stored (call.Define def) = true
+is_on_stored call.Undefine = true
+is_on_stored (call.SetAutostart on) = true
+is_on_stored other = false
+
+-- one command
+abbrev pub tell : Command → List Ask
+tell c = ask.Command c ∷ []
+
+-- one command where it is wanted
+abbrev pub tell_if : Bool → Command → List Ask
+tell_if true c = tell c
+tell_if false c = []
+
+abbrev pub lease_for : List ℕ → Option Mac → List Ask
+lease_for network None = []
+lease_for network (Some mac) = ask.Lease network mac ∷ []
+
+abbrev pub lease_if : Bool → Interface → List Ask
+lease_if true i = lease_for (network_of i) i.mac
+lease_if false i = []
+
+-- an interface of type network gets an address
+abbrev pub lease_of : Interface → List Ask
+lease_of i = lease_if (is_on_network i.kind) i
+
+abbrev pub device_lease : DeviceDef → List Ask
+device_lease (device.Disk d) = []
+device_lease (device.Interface i) = lease_of i
+
+-- the host's side of a device is added first, then the guest's; where that is refused, the host's
+-- side is removed again
+abbrev pub attach_plan : DeviceDef → Option ℕ → List PlannedAsk
+attach_plan d None = []
+attach_plan d (Some slot) =
+    plain (device_lease d ++ tell (command.AddBackend slot d))
+    ++ undone_by (tell (command.RemoveBackend slot)) (tell (command.AddDevice slot d))
+
+-- the guest's side of a device is removed first, then the host's; where that is refused, the guest's
+-- side is added again
+abbrev pub detach_plan : Option (ℕ × DeviceDef) → List PlannedAsk
+detach_plan None = []
+detach_plan (Some placed) =
+    plain (tell (command.RemoveDevice placed.0))
+    ++ undone_by (tell (command.AddDevice placed.0 placed.1)) (tell (command.RemoveBackend placed.0))
+
+-- what a call on a live guest asks
+abbrev pub live_plan : Live → Call → List PlannedAsk
+live_plan l call.Suspend = plain (tell_if (is_running l.run) command.Stop)
+live_plan l call.Resume = plain (tell_if (is_paused l.run) command.Cont)
+live_plan l call.Shutdown = plain (tell command.Powerdown)
+live_plan l call.Reboot = plain (tell command.Reset)
+live_plan l call.Destroy = plain (tell command.Quit)
+live_plan l (call.SetMemory kib) = plain (tell (command.SetMemory kib))
+live_plan l (call.SetVcpus n) = plain (tell (command.SetVcpus n))
+live_plan l (call.Attach d) = attach_plan d (free_slot l.slots)
+live_plan l (call.Detach d) = detach_plan (device_like l d)
+live_plan l call.MemoryStats = plain (tell command.QueryMemory)
+live_plan l (call.Kick n) = plain (tell (command.Kick (unsigned_abs n)))
+live_plan l other = []
+
+abbrev pub guest_plan : Option Live → Call → List PlannedAsk
+guest_plan None c = []
+guest_plan (Some l) c = live_plan l c
+
+abbrev pub put_plan : Option DomainDef → Bool → List PlannedAsk
+put_plan None autostart = []
+put_plan (Some def) autostart = plain (ask.Put def autostart ∷ [])
+
+abbrev pub held_plan : Domain → Call → List PlannedAsk
+held_plan d (call.Define def) = plain (ask.Put def d.autostart ∷ [])
+held_plan d call.Undefine = plain (ask.Drop d.uuid ∷ [])
+held_plan d (call.SetAutostart on) = put_plan d.stored on
+held_plan d c = guest_plan d.live c
+
+-- what a call asks whose tests passed, with what undoes it
+abbrev pub plan_of : State → Call → List PlannedAsk
+plan_of (state.Held d) c = held_plan d c
+plan_of (state.Vacant boots) (call.Define def) = plain (ask.Put def false ∷ [])
+plan_of (state.Vacant boots) c = []

@@ -1,0 +1,130 @@
+-- What stands after the marks of a history, one after the other: the state, the normal job and the
+-- operation that are open (libvirt's THREADS.txt), and who is registered.
+use Rattle.std.specs.Prelude.{ℕ, ◌+◌, ◌==◌, List, [], ◌∷◌, ◌++◌, map, filter, length, Bool, true, false, not, ◌&&◌, Option, None, Some, if◌then◌else◌}
+use Rattle.std.specs.List.{list_any}
+use Rattle.domain_spec.specs.Types.{Answer, Call, State, Transition, Who}
+use Rattle.domain_spec.specs.declared.mark.Mark.{Mark}
+use Rattle.domain_spec.specs.declared.mark.Mark.TheVariants as mark
+use Rattle.domain_spec.specs.declared.open.OpenJob.{OpenJob}
+use Rattle.domain_spec.specs.declared.open.OpenOperation.{OpenOperation}
+use Rattle.domain_spec.specs.declared.standing.Base.{Base}
+use Rattle.domain_spec.specs.declared.standing.Client.{Client}
+use Rattle.domain_spec.specs.declared.standing.Registration.{Registration}
+use Rattle.domain_spec.specs.declared.standing.Standing.{Standing}
+use Rattle.domain_spec.specs.declared.step.Outcome.{Outcome}
+use Rattle.domain_spec.specs.declared.step.Outcome.TheVariants as outcome
+use Rattle.domain_spec.specs.Asks.{is_lost_answer}
+use Rattle.domain_spec.specs.Begin.{begin_state, due_phase}
+use Rattle.domain_spec.specs.Exit.{event_state, exit_state}
+use Rattle.domain_spec.specs.Phase.{phase_of, without_operation}
+use Rattle.domain_spec.specs.Reading.{is_live, live_boot}
+use Rattle.domain_spec.specs.Sequential.{seq}
+
+-- what listeners are told by a mark
+abbrev pub transitions_of : {N : Type 0} → Mark N → List Transition
+transitions_of (mark.Done number who c boot asks answers r events) = events
+transitions_of (mark.Phase number who p asks answers o events) = events
+transitions_of (mark.Exit boot why events) = events
+transitions_of (mark.Event boot e events) = events
+transitions_of other = []
+
+-- a client hears n more transitions
+abbrev pub hears : ℕ → Client → Client
+hears n c = record c { before = c.total; total = c.total + n }
+
+abbrev pub is_client : ℕ → Client → Bool
+is_client client c = c.client == client
+
+abbrev pub without_client : List Client → ℕ → List Client
+without_client clients client = filter (λ c. not (is_client client c)) clients
+
+-- the clients after a mark
+abbrev pub clients_after : List Client → Mark ℕ → List Client
+clients_after clients (mark.Watch number client) =
+    map (hears 0) clients ++ (record { number = number; client = client; before = 0; total = 0 }) ∷ []
+clients_after clients (mark.Unwatch number client) = map (hears 0) (without_client clients client)
+clients_after clients (mark.Cut client total taken) = without_client clients client
+clients_after clients m = map (hears (length (transitions_of m))) clients
+
+-- the boot whose end has to be marked next: its monitor was lost, and it is live still
+abbrev pub lost_boot : State → Option ℕ → List Answer → Option ℕ
+lost_boot s None answers = None
+lost_boot s (Some boot) answers = if list_any is_lost_answer answers && is_live s boot then Some boot else None
+
+abbrev pub carries : Option ℕ → ℕ → Bool
+carries None boot = false
+carries (Some carried) boot = carried == boot
+
+-- the open job keeps the state just before its boot ended
+abbrev pub job_at_exit : State → ℕ → Option OpenJob → Option OpenJob
+job_at_exit s boot None = None
+job_at_exit s boot (Some j) = Some (if carries j.boot boot then record j { before = Some s } else j)
+
+abbrev pub with_outcome : Outcome → OpenOperation → OpenOperation
+with_outcome o operation = record operation { outcome = o }
+
+-- a phase is done
+abbrev pub after_phase : Standing → Option OpenOperation → List Answer → Outcome → Standing
+after_phase s None answers o = s
+after_phase s (Some operation) answers o =
+    let next = (phase_of s.state operation answers).state in
+    record s {
+      state = next;
+      job = None;
+      is_fresh = false;
+      operation = Some (record operation { outcome = o });
+      lost = lost_boot next operation.boot answers;
+    }
+
+-- the operation has begun; its boot is the one that is live then
+abbrev pub after_start : Standing → ℕ → Who → Call → Standing
+after_start s number who c =
+    let next = begin_state s.state who c in
+    record s {
+      state = next;
+      job = None;
+      is_fresh = false;
+      operation = Some (record { number = number; who = who; call = c; boot = live_boot next; outcome = outcome.On (due_phase next) });
+    }
+
+-- what stands after one more mark, but for the clients
+abbrev pub happened : Standing → Mark ℕ → Standing
+happened s (mark.Admit number who j c boot) =
+    record s { job = Some (record { number = number; who = who; job = j; call = c; boot = boot; before = None }); is_fresh = true }
+happened s (mark.Done number who c boot asks answers r events) =
+    let next = (seq s.state c boot answers).state in
+    record s { state = next; job = None; is_fresh = false; lost = lost_boot next boot answers }
+happened s (mark.Start number who c boot) = after_start s number who c
+happened s (mark.Phase number who p asks answers o events) = after_phase s s.operation answers o
+happened s (mark.End number who r) = record s { state = without_operation s.state; operation = None; is_fresh = false }
+happened s (mark.Exit boot why events) =
+    record s { state = exit_state s.state why; job = job_at_exit s.state boot s.job; is_fresh = false; lost = None }
+happened s (mark.Event boot e events) = record s { state = event_state s.state e; is_fresh = false }
+happened s other = record s { is_fresh = false }
+
+-- what stands after one more mark
+abbrev pub after : Standing → Mark ℕ → Standing
+after s m = record (happened s m) { clients = clients_after s.clients m }
+
+-- what stands after these marks
+abbrev pub standing : Standing → List (Mark ℕ) → Standing
+standing s [] = s
+standing s (m ∷ marks) = standing (after s m) marks
+
+-- a registration that was cut hears no more
+abbrev pub registered : List Registration → List Client
+registered [] = []
+registered (r ∷ rs) =
+    if r.is_lost then registered rs
+    else (record { number = r.number; client = r.client; before = r.taken + length r.pending; total = r.taken + length r.pending }) ∷ registered rs
+
+-- what stands at the beginning of a chapter
+abbrev pub at_base : Base → Standing
+at_base b = record {
+  state = b.state;
+  job = None;
+  is_fresh = false;
+  operation = b.operation;
+  lost = None;
+  clients = registered b.registrations;
+}

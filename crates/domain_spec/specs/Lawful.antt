@@ -1,0 +1,147 @@
+-- When each mark of a call is lawful, by what stands before it.
+use Rattle.std.specs.Prelude.{◌≡◌, ℕ, ◌⊎◌, List, [], ◌∷◌, length, Bool, true, false, Option, None, Some}
+use Rattle.std.specs.List.{list_any}
+use Rattle.domain_spec.specs.Types.{Answer, Ask, Call, Job, Phase, RefusalCode, Reply, State, Transition, Who}
+use Rattle.domain_spec.specs.Types.answer
+use Rattle.domain_spec.specs.Types.ask
+use Rattle.domain_spec.specs.Types.job
+use Rattle.domain_spec.specs.Types.phase
+use Rattle.domain_spec.specs.Types.given
+use Rattle.domain_spec.specs.declared.mark.Looked.{Looked}
+use Rattle.domain_spec.specs.declared.open.OpenJob.{OpenJob}
+use Rattle.domain_spec.specs.declared.open.OpenOperation.{OpenOperation}
+use Rattle.domain_spec.specs.declared.standing.Standing.{Standing}
+use Rattle.domain_spec.specs.declared.step.Outcome.{Outcome}
+use Rattle.domain_spec.specs.declared.step.Outcome.TheVariants as outcome
+use Rattle.domain_spec.specs.Asks.{is_ended_answer}
+use Rattle.domain_spec.specs.Call.{begins, job_of}
+use Rattle.domain_spec.specs.JobTable.{May}
+use Rattle.domain_spec.specs.Open.{Excludes, IsCarried, IsOwnJob, IsRecord, IsRefusedAs, job_held, operation_held}
+use Rattle.domain_spec.specs.Phase.{phase_asked, phase_of, phase_still_asked}
+use Rattle.domain_spec.specs.Reading.{carries_ended}
+use Rattle.domain_spec.specs.Sequential.{asked, goes_on_as_operation, meets_ended, seq, still_asked}
+
+-- a call is let in
+pub record IsAdmitted (s : Standing) (number : ℕ) (who : Who) (taken : Job) (c : Call) (boot : Option ℕ) : Type 0 where
+  pub may : May (job_held s.job) (operation_held s.operation) taken who
+  pub own : IsOwnJob s.operation number taken c
+  pub carried : IsCarried s.state c boot
+
+-- this call is open under this number
+pub record IsOpen (j : OpenJob) (number : ℕ) (who : Who) (c : Call) (boot : Option ℕ) : Type 0 where
+  pub numbered : number ≡ j.number
+  pub caller : who ≡ j.who
+  pub same_call : c ≡ j.call
+  pub same_boot : boot ≡ j.boot
+  pub own_job : j.job ≡ job_of c
+
+-- the asks were planned where the boot was live: in the state now, or in the one just before the
+-- boot ended; where it was never live there are none
+abbrev pub WerePlanned : Option State → (State → List Ask) → List Ask → List Answer → Type 0
+WerePlanned None made asks answers = (asks ≡ []) × (answers ≡ [])
+WerePlanned (Some s) made asks answers = (asks ≡ made s) × (length asks ≡ length answers)
+
+abbrev pub planned_in : Bool → State → Option State → Option State
+planned_in true s before = before
+planned_in false s before = Some s
+
+-- where an ask was answered Ended, the boot's end was marked before
+abbrev pub EndedFirst : Bool → List Answer → Type 0
+EndedFirst true answers = Unit {0}
+EndedFirst false answers = list_any is_ended_answer answers ≡ false
+
+-- an answer Ok without a value, or want of memory
+abbrev pub IsUnsent : Answer → Type 0
+IsUnsent (answer.Ok given.Nothing) = Unit {0}
+IsUnsent answer.NoMemory = Unit {0}
+IsUnsent other = ⊥
+
+abbrev pub AreUnsent : List Ask → List Answer → Type 0
+AreUnsent (ask.Command c ∷ asks) (a ∷ answers) = IsUnsent a × AreUnsent asks answers
+AreUnsent (other ∷ asks) (a ∷ answers) = AreUnsent asks answers
+AreUnsent asks answers = Unit {0}
+
+abbrev pub UnsentBefore : Option ℕ → Option ℕ → Outcome → List Ask → List Answer → Type 0
+UnsentBefore (Some made) (Some boot) (outcome.On phase.Make) asks answers = made ≡ boot → AreUnsent asks answers
+UnsentBefore made boot o asks answers = Unit {0}
+
+-- until the make of a boot is done, a command of another call is not sent, and is answered Ok
+-- without a value
+abbrev pub IsUnsentUntilMade : Option OpenOperation → Option ℕ → List Ask → List Answer → Type 0
+IsUnsentUntilMade None boot asks answers = Unit {0}
+IsUnsentUntilMade (Some o) boot asks answers = UnsentBefore o.boot boot o.outcome asks answers
+
+-- a call is done as the sequential driver does it
+pub record IsDoneAs (s : Standing) (before : Option State) (c : Call) (boot : Option ℕ) (asks : List Ask) (answers : List Answer) (r : Reply) (events : List Transition) : Type 0 where
+  pub planned : WerePlanned (planned_in (meets_ended s.state c boot) s.state before) (λ at. asked at c boot answers) asks answers
+  pub through : still_asked s.state c boot answers ≡ []
+  pub no_operation : goes_on_as_operation s.state c boot ≡ false
+  pub ended_first : EndedFirst (meets_ended s.state c boot) answers
+  pub unsent : IsUnsentUntilMade s.operation boot asks answers
+  pub reply : r ≡ (seq s.state c boot answers).reply
+  pub told : events ≡ (seq s.state c boot answers).transitions
+
+abbrev pub IsDone : Standing → Option OpenJob → ℕ → Who → Call → Option ℕ → List Ask → List Answer → Reply → List Transition → Type 0
+IsDone s None number who c boot asks answers r events = ⊥
+IsDone s (Some j) number who c boot asks answers r events = IsOpen j number who c boot × IsDoneAs s j.before c boot asks answers r events
+
+-- a call is refused since its job is excluded
+pub record IsRefused (s : Standing) (who : Who) (c : Call) (why : RefusalCode) (looked : Looked) : Type 0 where
+  pub looked_at : IsRecord s looked
+  pub excluded : Excludes looked.active looked.op (begins c) (job_of c) who
+  pub code : IsRefusedAs why looked who
+
+-- an operation begins where none is open: its call was let in right before, and its tests pass
+pub record IsStartOf (s : Standing) (j : OpenJob) (number : ℕ) (who : Who) (c : Call) (boot : Option ℕ) : Type 0 where
+  pub call : IsOpen j number who c boot
+  pub right_before : s.is_fresh ≡ true
+  pub alone : s.operation ≡ None
+  pub begins : goes_on_as_operation s.state c boot ≡ true
+
+abbrev pub IsStarted : Standing → Option OpenJob → ℕ → Who → Call → Option ℕ → Type 0
+IsStarted s None number who c boot = ⊥
+IsStarted s (Some j) number who c boot = IsStartOf s j number who c boot
+
+-- a nested job of this operation is open
+pub record IsNested (j : OpenJob) (o : OpenOperation) (number : ℕ) (who : Who) : Type 0 where
+  pub nested : j.job ≡ job.Nested
+  pub job_caller : j.who ≡ o.who
+  pub numbered : number ≡ o.number
+  pub caller : who ≡ o.who
+
+-- a phase that found no memory before its first ask has no ask, and that one answer
+abbrev pub IsStarved : List Ask → List Answer → Type 0
+IsStarved asks answers = (asks ≡ []) × (answers ≡ answer.NoMemory ∷ [])
+
+-- the asks of a phase, planned where its boot was live, are all made
+pub record IsPhaseMade (s : State) (before : Option State) (o : OpenOperation) (asks : List Ask) (answers : List Answer) : Type 0 where
+  pub planned : WerePlanned (planned_in (carries_ended s o.boot) s before) (λ at. phase_asked at o answers) asks answers
+  pub through : phase_still_asked s o answers ≡ []
+
+-- a phase is done as the table of operations has it
+pub record IsPhaseOf (s : Standing) (j : OpenJob) (o : OpenOperation) (number : ℕ) (who : Who) (p : Phase) (asks : List Ask) (answers : List Answer) (next : Outcome) (events : List Transition) : Type 0 where
+  pub nested : IsNested j o number who
+  pub due : o.outcome ≡ outcome.On p
+  pub made : IsPhaseMade s.state j.before o asks answers ⊎ IsStarved asks answers
+  pub ended_first : EndedFirst (carries_ended s.state o.boot) answers
+  pub outcome_is : next ≡ (phase_of s.state o answers).outcome
+  pub told : events ≡ (phase_of s.state o answers).transitions
+
+abbrev pub IsPhased : Standing → Option OpenJob → Option OpenOperation → ℕ → Who → Phase → List Ask → List Answer → Outcome → List Transition → Type 0
+IsPhased s (Some j) (Some o) number who p asks answers next events = IsPhaseOf s j o number who p asks answers next events
+IsPhased s j o number who p asks answers next events = ⊥
+
+abbrev pub NoneNested : Option OpenJob → Type 0
+NoneNested None = Unit {0}
+NoneNested (Some j) = j.job ≡ job.Nested → ⊥
+
+-- an operation ends with the reply of its last phase, while no nested job is open
+pub record IsEndOf (s : Standing) (o : OpenOperation) (number : ℕ) (who : Who) (r : Reply) : Type 0 where
+  pub numbered : number ≡ o.number
+  pub caller : who ≡ o.who
+  pub over : o.outcome ≡ outcome.Over r
+  pub no_nested : NoneNested s.job
+
+abbrev pub IsEnded : Standing → Option OpenOperation → ℕ → Who → Reply → Type 0
+IsEnded s None number who r = ⊥
+IsEnded s (Some o) number who r = IsEndOf s o number who r

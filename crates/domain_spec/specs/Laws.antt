@@ -1,0 +1,102 @@
+-- Laws of the definitions, in their subject's own words.
+use Rattle.std.specs.Prelude.{◌≡◌, ℕ, ◌+◌, ◌<◌, ◌≤◌, List, [], ◌∷◌, ◌++◌, count_by, Bool, true, false, Option, None, Some}
+use Rattle.domain_spec.specs.Types.{Answer, Call, Refusal, State, Transition}
+use Rattle.domain_spec.specs.declared.mark.Mark.{Mark}
+use Rattle.domain_spec.specs.declared.mark.Mark.TheVariants as mark
+use Rattle.domain_spec.specs.declared.standing.Base.{Base}
+use Rattle.domain_spec.specs.declared.standing.Standing.{Standing}
+use Rattle.domain_spec.specs.Fold.{at_base, standing}
+use Rattle.domain_spec.specs.Legal.{IsLegal}
+use Rattle.domain_spec.specs.Owed.{all_transitions, owed}
+use Rattle.domain_spec.specs.Open.{IsKnownBoot}
+use Rattle.domain_spec.specs.Reading.{boots_of, live_boot}
+use Rattle.domain_spec.specs.Sequential.{meets_ended, refused, seq}
+use Rattle.domain_spec.specs.Tests.{refusal_of}
+
+-- the state of a history is that of its parts, one after the other
+abbrev pub PartsFollow : Type 0
+PartsFollow = (s : Standing) (first then : List (Mark ℕ)) → standing s (first ++ then) ≡ standing (standing s first) then
+
+-- a history is legal where its parts are, one after the other
+abbrev pub PartsAreLegal : Type 0
+PartsAreLegal =
+    (s : Standing) (first then : List (Mark ℕ)) → IsLegal s first → IsLegal (standing s first) then → IsLegal s (first ++ then)
+
+-- the beginning of a legal history is legal
+abbrev pub BeginningIsLegal : Type 0
+BeginningIsLegal = (s : Standing) (first then : List (Mark ℕ)) → IsLegal s (first ++ then) → IsLegal s first
+
+-- a refused test changes no state, and nobody is told
+abbrev pub RefusalChangesNothing : Type 0
+RefusalChangesNothing =
+    (s : State) (c : Call) (boot : Option ℕ) (answers : List Answer) (r : Refusal)
+    → meets_ended s c boot ≡ false → refusal_of s boot c ≡ Some r → seq s c boot answers ≡ refused s r
+
+-- what is owed to a registration are the first of the transitions after it, in order
+abbrev pub OwedInOrder : Type 0
+OwedInOrder =
+    (client : ℕ) (marks : List (Mark ℕ)) → (rest : List Transition) × (all_transitions marks ≡ (owed client marks).events ++ rest)
+
+-- a mark that lets a call in
+abbrev pub lets_in : Mark ℕ → Bool
+lets_in (mark.Admit number who taken c boot) = true
+lets_in other = false
+
+-- a mark by which a call that was let in is no more open
+abbrev pub closes : Mark ℕ → Bool
+closes (mark.Done number who c boot asks answers r events) = true
+closes (mark.Start number who c boot) = true
+closes (mark.Phase number who p asks answers next events) = true
+closes other = false
+
+abbrev pub begins_operation : Mark ℕ → Bool
+begins_operation (mark.Start number who c boot) = true
+begins_operation other = false
+
+abbrev pub ends_operation : Mark ℕ → Bool
+ends_operation (mark.End number who r) = true
+ends_operation other = false
+
+abbrev pub one_if_open : {A : Type 0} → Option A → ℕ
+one_if_open None = 0
+one_if_open (Some a) = 1
+
+-- each call that was let in is closed before the next one is: at most one is open
+abbrev pub OneJobAtATime : Type 0
+OneJobAtATime =
+    (b : Base) (marks : List (Mark ℕ)) → IsLegal (at_base b) marks
+    → count_by lets_in marks ≡ count_by closes marks + one_if_open (standing (at_base b) marks).job
+
+-- each operation ends before the next one begins: at most one is open
+abbrev pub OneOperationAtATime : Type 0
+OneOperationAtATime =
+    (b : Base) (marks : List (Mark ℕ)) → IsLegal (at_base b) marks
+    → one_if_open b.operation + count_by begins_operation marks
+    ≡ count_by ends_operation marks + one_if_open (standing (at_base b) marks).operation
+
+-- the number of boots never falls
+abbrev pub BootsNeverFall : Type 0
+BootsNeverFall = (s : Standing) (marks : List (Mark ℕ)) → boots_of s.state ≤ boots_of (standing s marks).state
+
+-- a live boot has a number that was given out
+abbrev pub IsCounted : Standing → Type 0
+IsCounted s = IsKnownBoot (boots_of s.state) (live_boot s.state)
+
+-- the boots that ended, in order
+abbrev pub ended_boots : List (Mark ℕ) → List ℕ
+ended_boots [] = []
+ended_boots (mark.Exit boot why events ∷ marks) = boot ∷ ended_boots marks
+ended_boots (m ∷ marks) = ended_boots marks
+
+-- each number is above this one, and they rise
+abbrev pub RiseAbove : ℕ → List ℕ → Type 0
+RiseAbove low [] = Unit {0}
+RiseAbove low (n ∷ ns) = (low < n) × RiseAbove n ns
+
+abbrev pub IsRising : List ℕ → Type 0
+IsRising [] = Unit {0}
+IsRising (n ∷ ns) = RiseAbove n ns
+
+-- boots end in the order of their numbers, so none ends twice
+abbrev pub EachEndsOnce : Type 0
+EachEndsOnce = (b : Base) (marks : List (Mark ℕ)) → IsCounted (at_base b) → IsLegal (at_base b) marks → IsRising (ended_boots marks)

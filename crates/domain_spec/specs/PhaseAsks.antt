@@ -1,0 +1,95 @@
+-- What each phase of an operation asks, and what undoes it.
+use Rattle.std.specs.Prelude.{ℕ, List, [], ◌∷◌, ◌++◌, flat_map, Bool, not, ◌&&◌, ◌||◌, length, nat_le, Option, None, Some, if◌then◌else◌, option_map}
+use Rattle.domain_spec.specs.Types.{Answer, Ask, Call, Command, Domain, ImageKind, Live, Op, Phase, Snap, AnswerValue}
+use Rattle.domain_spec.specs.Types.ask
+use Rattle.domain_spec.specs.Types.call
+use Rattle.domain_spec.specs.Types.command
+use Rattle.domain_spec.specs.Types.image
+use Rattle.domain_spec.specs.Types.phase
+use Rattle.domain_spec.specs.Types.given
+use Rattle.domain_spec.specs.declared.loaded.Loaded.{Loaded}
+use Rattle.domain_spec.specs.declared.planned.PlannedAsk.{PlannedAsk}
+use Rattle.domain_spec.specs.Asks.{first_value, undone_by}
+use Rattle.domain_spec.specs.Call.{lease_of, tell, tell_if}
+use Rattle.domain_spec.specs.Reading.{is_held_by_job, is_running}
+use Rattle.domain_spec.specs.Snapshots.{snapshot_named, snapshot_ran}
+
+abbrev pub loaded_from : Snap → Loaded
+loaded_from snap = record { definition = snap.def; ran = snapshot_ran snap; saved = snap.saved }
+
+-- what an operation loads: the image, or the snapshot's state
+abbrev pub loaded_of : Domain → Call → Option Loaded
+loaded_of d (call.Restore def running saved) = Some (record { definition = def; ran = running; saved = saved })
+loaded_of d (call.Revert name) = option_map loaded_from (snapshot_named d.snaps name)
+loaded_of d other = None
+
+-- a guest in the boot that it has is stopped first
+abbrev pub load_asks : Live → Op → Option Loaded → List Ask
+load_asks l op None = []
+load_asks l op (Some loaded) =
+    tell_if (not op.new_boot && is_running l.run) command.Stop ++ tell (command.LoadState loaded.saved) ++ tell_if loaded.ran command.Cont
+
+-- 64 polls in a row saw no less left than the poll before
+abbrev pub is_stalled : Op → Bool
+is_stalled op = nat_le 64 op.still
+
+-- before each poll the operation may be given up
+abbrev pub is_given_up : Op → Bool
+is_given_up op = op.abort || is_stalled op
+
+-- the guest ran before, and stands still since the operation copies its state
+abbrev pub resumes : Live → Op → Bool
+resumes l op = op.was_running && is_held_by_job l.run
+
+-- the bytes of a copy; bytes above 4,096, or none, are no state
+abbrev pub taken : Option AnswerValue → List ℕ
+taken (Some (given.Bytes bytes)) = if nat_le (length bytes) 4096 then bytes else []
+taken other = []
+
+abbrev pub write_image : List ℕ → ImageKind → Live → Op → List Answer → List Ask
+write_image name k l op answers = ask.WriteImage name k l.def op.was_running (taken (first_value answers)) ∷ []
+
+-- a save and a dump write an image; a dump and a snapshot let the guest go on
+abbrev pub take_asks : Live → Op → Call → List Answer → List Ask
+take_asks l op (call.Save name) answers = tell command.CopyTake ++ write_image name image.Save l op answers
+take_asks l op (call.Dump name) answers =
+    tell command.CopyTake ++ write_image name image.Dump l op answers ++ tell_if (resumes l op) command.Cont
+take_asks l op c answers = tell command.CopyTake ++ tell_if (resumes l op) command.Cont
+
+-- each interface of type network gets an address, and then the guest is made
+abbrev pub make_asks : Live → List Ask
+make_asks l = flat_map lease_of l.def.interfaces ++ ask.Make l.def l.boot ∷ []
+
+abbrev pub two : Command → Command → List Ask
+two first second = tell first ++ tell second
+
+abbrev pub copy_asks : Live → List Ask
+copy_asks l = tell_if (is_running l.run) command.Stop ++ tell command.CopyBegin
+
+abbrev pub cancel_asks : Live → Op → List Ask
+cancel_asks l op = tell command.CopyCancel ++ tell_if (resumes l op) command.Cont
+
+-- what a phase asks of a guest, where each answer is Ok
+abbrev pub live_phase_asks : Domain → Live → Op → Call → List Answer → Phase → List Ask
+live_phase_asks d l op c answers phase.Nothing = []
+live_phase_asks d l op c answers phase.Make = make_asks l
+live_phase_asks d l op c answers phase.Run = two command.QueryStatus command.Cont
+live_phase_asks d l op c answers phase.Load = load_asks l op (loaded_of d c)
+live_phase_asks d l op c answers phase.Copy = copy_asks l
+live_phase_asks d l op c answers phase.Poll = tell_if (not (is_given_up op)) command.CopyPoll
+live_phase_asks d l op c answers phase.Take = take_asks l op c answers
+live_phase_asks d l op c answers phase.Quit = tell command.Quit
+live_phase_asks d l op c answers phase.Cancel = cancel_asks l op
+
+-- what undoes a phase where one of its asks was refused: a new boot is ended, and a guest that ran
+-- goes on
+abbrev pub live_phase_undo : Live → Op → Phase → List Ask
+live_phase_undo l op phase.Run = tell command.Quit
+live_phase_undo l op phase.Load = if op.new_boot then tell command.Quit else tell_if (is_running l.run) command.Cont
+live_phase_undo l op phase.Copy = tell_if (is_running l.run) command.Cont
+live_phase_undo l op other = []
+
+-- an operation on no guest sends no commands
+abbrev pub phase_plan : Domain → Option Live → Op → Call → List Answer → List PlannedAsk
+phase_plan d None op c answers = []
+phase_plan d (Some l) op c answers = undone_by (live_phase_undo l op op.phase) (live_phase_asks d l op c answers op.phase)

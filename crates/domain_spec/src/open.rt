@@ -1,0 +1,35 @@
+use crate::step::Outcome;
+use virt_types::{Call, Job, State, Who};
+
+/// A normal job that is held: a call that was let in and is not done.
+#[derive(Drop)]
+pub struct OpenJob {
+    /// The number of its pass.
+    pub number: u64,
+    /// The call's caller.
+    pub who: Who,
+    /// The job.
+    pub job: Job,
+    /// The call.
+    pub call: Call,
+    /// The boot that was live where it was let in, or, for a Destroy that waited, at its first look.
+    pub boot: Option<u64>,
+    /// The state just before that boot ended, where it ended since the call was let in.
+    pub before: Option<State>,
+}
+
+/// An operation that is under way.
+#[derive(Drop)]
+pub struct OpenOperation {
+    /// The number of its pass.
+    pub number: u64,
+    /// The caller that began it.
+    pub who: Who,
+    /// The call that began it.
+    pub call: Call,
+    /// The boot that it works on: its own new one, or the one that was live; none where it works on
+    /// no guest.
+    pub boot: Option<u64>,
+    /// What its last phase led to; before the first phase, that the first phase is next.
+    pub outcome: Outcome,
+}

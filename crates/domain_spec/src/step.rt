@@ -1,0 +1,32 @@
+use virt_types::{ListOf, Phase, Reply, State, Transition};
+
+/// What a call leaves where it is done.
+#[derive(Drop)]
+pub struct CallStep {
+    /// The state.
+    pub state: State,
+    /// What the caller is told.
+    pub reply: Reply,
+    /// What listeners are told, in order.
+    pub transitions: ListOf<Transition>,
+}
+
+/// What a phase of an operation leads to.
+#[derive(Drop)]
+pub enum Outcome {
+    /// This phase is next.
+    On(Phase),
+    /// The operation is over, with this reply.
+    Over(Reply),
+}
+
+/// What a phase of an operation leaves.
+#[derive(Drop)]
+pub struct PhaseStep {
+    /// The state.
+    pub state: State,
+    /// What listeners are told, in order.
+    pub transitions: ListOf<Transition>,
+    /// What the phase leads to.
+    pub outcome: Outcome,
+}
