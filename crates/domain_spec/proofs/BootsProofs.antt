@@ -15,7 +15,8 @@ use Rattle.domain_spec.specs.Call.{begins}
 use Rattle.domain_spec.specs.Begin.{begin_state, begun, begun_with, boot_definition, first_phase}
 use Rattle.domain_spec.specs.Exit.{event_held, event_state, exit_held, exit_state}
 use Rattle.domain_spec.specs.Reading.{boots_of, is_crashed, is_paused, is_running, settled_by, with_run}
-use Rattle.domain_spec.specs.Sequential.{answered_step, ended, ended_step, guest_step, held_step, live_step, meets_ended, memory_step, new_domain, seq, step_of, tested_step}
+use Rattle.domain_spec.specs.CallResult.{ended, guest_step, held_step, live_step, memory_step, new_domain, step_of}
+use Rattle.domain_spec.specs.Sequential.{answered_step, ended_step, meets_ended, seq, tested_step}
 use Rattle.domain_spec.specs.Tests.{refusal_of}
 
 pub settled_keeps : (d : Domain) (live : Option Live) (stored : Option DomainDef) → boots_of (settled_by d live stored) ≡ d.boots

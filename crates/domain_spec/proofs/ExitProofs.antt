@@ -14,7 +14,8 @@ use Rattle.domain_spec.specs.Asks.{first_bad, first_value}
 use Rattle.domain_spec.specs.Devices.{device_like, free_slot, without_placed, without_slot}
 use Rattle.domain_spec.specs.Exit.{event_held, event_state, exit_held, exit_state}
 use Rattle.domain_spec.specs.Reading.{boot_in, is_crashed, is_paused, is_running, live_boot, settled_by, with_run}
-use Rattle.domain_spec.specs.Sequential.{answered_step, attached, detached, ended, ended_step, guest_step, held_step, live_step, meets_ended, memory_step, seq, step_of, tested_step}
+use Rattle.domain_spec.specs.CallResult.{attached, detached, ended, guest_step, held_step, live_step, memory_step, step_of}
+use Rattle.domain_spec.specs.Sequential.{answered_step, ended_step, meets_ended, seq, tested_step}
 use Rattle.domain_spec.specs.Tests.{refusal_of}
 
 -- the live boot is this one still, or none is

@@ -18,7 +18,8 @@ use Rattle.domain_spec.specs.declared.step.PhaseStep.{PhaseStep}
 use Rattle.domain_spec.specs.Asks.{first_bad, first_value, is_undone}
 use Rattle.domain_spec.specs.Fold.{after, after_phase}
 use Rattle.domain_spec.specs.Laws.{BootsNeverFall}
-use Rattle.domain_spec.specs.Operation.{cancels, current_after, left_in, live_phase_done, loaded_active, loaded_new, loaded_with, over, poll_done, poll_step, quit_done, take_done}
+use Rattle.domain_spec.specs.CopyResult.{cancels, current_after, left_in, loaded_active, loaded_new, loaded_with, over, poll_done, poll_step}
+use Rattle.domain_spec.specs.Operation.{live_phase_done, quit_done, take_done}
 use Rattle.domain_spec.specs.Phase.{answered_phase, ended_reply, inactive_phase_done, inactive_phase_refused, inactive_take_done, inactive_taken, live_phase_refused, phase_done, phase_in, phase_of, phase_on, phase_refused, start_failed, without_operation}
 use Rattle.domain_spec.specs.PhaseAsks.{is_given_up, loaded_of, resumes}
 use Rattle.domain_spec.specs.Reading.{boots_of, carries_ended, is_running, with_run}

@@ -11,7 +11,7 @@ use Rattle.domain_spec.specs.Types.state
 use Rattle.domain_spec.specs.Call.{begins}
 use Rattle.domain_spec.specs.Devices.{slots_at_start}
 use Rattle.domain_spec.specs.Reading.{boot_in}
-use Rattle.domain_spec.specs.Sequential.{new_domain}
+use Rattle.domain_spec.specs.CallResult.{new_domain}
 use Rattle.domain_spec.specs.Snapshots.{has_state, snapshot_named}
 use Rattle.domain_spec.specs.Tests.{state_kept}
 

@@ -9,7 +9,7 @@ use Rattle.domain_spec.specs.Types.state
 use Rattle.domain_spec.specs.Types.told
 use Rattle.domain_spec.specs.Devices.{without_slot}
 use Rattle.domain_spec.specs.Reading.{is_crashed, is_paused, is_running, with_run}
-use Rattle.domain_spec.specs.Sequential.{ended, tell_listeners, with_live}
+use Rattle.domain_spec.specs.CallResult.{ended, tell_listeners, with_live}
 
 -- a guest is gone, by what ended it
 abbrev pub exit_event : EndReason → Transition

@@ -10,7 +10,8 @@ use Rattle.domain_spec.specs.Legal.{IsLegal}
 use Rattle.domain_spec.specs.Owed.{all_transitions, owed}
 use Rattle.domain_spec.specs.Open.{IsKnownBoot}
 use Rattle.domain_spec.specs.Reading.{boots_of, live_boot}
-use Rattle.domain_spec.specs.Sequential.{meets_ended, refused, seq}
+use Rattle.domain_spec.specs.CallResult.{refused}
+use Rattle.domain_spec.specs.Sequential.{meets_ended, seq}
 use Rattle.domain_spec.specs.Tests.{refusal_of}
 
 -- the state of a history is that of its parts, one after the other

@@ -15,11 +15,12 @@ use Rattle.domain_spec.specs.declared.step.Outcome.TheVariants as outcome
 use Rattle.domain_spec.specs.declared.step.PhaseStep.{PhaseStep}
 use Rattle.domain_spec.specs.declared.planned.PlannedAsk.{PlannedAsk}
 use Rattle.domain_spec.specs.Asks.{asks_left, asks_made, first_bad, first_value, is_undone}
-use Rattle.domain_spec.specs.Operation.{cancels, current_after, led_to, live_phase_done, over, snapshot_name, snapshot_taken}
+use Rattle.domain_spec.specs.CopyResult.{cancels, current_after, over}
+use Rattle.domain_spec.specs.Operation.{led_to, live_phase_done, snapshot_name, snapshot_taken}
 use Rattle.domain_spec.specs.PhaseAsks.{phase_plan}
 use Rattle.domain_spec.specs.Reading.{carries_ended}
 use Rattle.domain_spec.specs.Refusals.{failure_of, guest_ended, monitor_lost, no_domain}
-use Rattle.domain_spec.specs.Sequential.{ended}
+use Rattle.domain_spec.specs.CallResult.{ended}
 
 -- a snapshot of a domain without a guest is taken of its stored definition, without commands
 abbrev pub inactive_taken : Domain → SnapInfo → Option DomainDef → PhaseStep

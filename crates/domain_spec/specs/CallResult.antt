@@ -1,0 +1,147 @@
+-- What a call leaves whose tests passed and whose answers are all Ok.
+use Rattle.std.specs.Prelude.{ℕ, List, [], ◌∷◌, Bool, true, false, not, ◌&&◌, replicate, is_none, is_some, Option, None, Some, unwrap_or, if◌then◌else◌}
+use Rattle.domain_spec.specs.Types.{Answer, AnswerValue, Ask, Call, DeviceDef, Domain, DomainDef, EndReason, Live, Op, Refusal, State, Transition}
+use Rattle.domain_spec.specs.Types.call
+use Rattle.domain_spec.specs.Types.cause
+use Rattle.domain_spec.specs.Types.reason
+use Rattle.domain_spec.specs.Types.reply
+use Rattle.domain_spec.specs.Types.run
+use Rattle.domain_spec.specs.Types.state
+use Rattle.domain_spec.specs.Types.told
+use Rattle.domain_spec.specs.Types.given
+use Rattle.domain_spec.specs.Types.value
+use Rattle.domain_spec.specs.declared.step.CallStep.{CallStep}
+use Rattle.domain_spec.specs.Asks.{asks_left, asks_made, first_bad, first_value}
+use Rattle.domain_spec.specs.Call.{begins, is_on_stored, plan_of}
+use Rattle.domain_spec.specs.Devices.{device_like, free_slot, with_device, without_slot}
+use Rattle.domain_spec.specs.Reading.{carries_ended, is_crashed, is_paused, is_running, reference_of, settled, with_run}
+use Rattle.domain_spec.specs.Refusals.{failed, failure_of, guest_ended}
+use Rattle.domain_spec.specs.Snapshots.{current_without, without_snapshot}
+use Rattle.domain_spec.specs.Tests.{refusal_of}
+
+-- the call is refused: nothing changes, and nobody is told
+abbrev pub refused : State → Refusal → CallStep
+refused s r = record { state = s; reply = reply.No r; transitions = [] }
+
+-- the call is done, with nothing to be told to its caller
+abbrev pub done : State → List Transition → CallStep
+done s events = record { state = s; reply = reply.Ok value.Nothing; transitions = events }
+
+-- one transition, where the case is so
+abbrev pub tell_listeners : Bool → Transition → List Transition
+tell_listeners true t = t ∷ []
+tell_listeners false t = []
+
+-- a domain as its first definition makes it, with neither a guest nor snapshots
+abbrev pub new_domain : DomainDef → ℕ → Domain
+new_domain def boots = record {
+  uuid = unwrap_or def.uuid (replicate 16 0);
+  name = def.name;
+  stored = None;
+  live = None;
+  autostart = false;
+  snaps = [];
+  current = None;
+  op = None;
+  boots = boots;
+  last = None;
+}
+
+-- the definition is stored; who defines is told how to name the domain
+abbrev pub defined : Domain → DomainDef → CallStep
+defined d def = record {
+  state = state.Held (record d { stored = Some def });
+  reply = reply.Ok (value.Domain (reference_of d));
+  transitions = (if is_some d.stored then told.DEFINED_UPDATED else told.DEFINED_ADDED) ∷ [];
+}
+
+-- a guest's number of KiB, as QueryMemory answers it; without a number the call failed
+abbrev pub memory_step : State → Option AnswerValue → CallStep
+memory_step s (Some (given.Number kib)) = record { state = s; reply = reply.Ok (value.Memory kib); transitions = [] }
+memory_step s other = refused s (failed 0)
+
+abbrev pub attached : Live → Option ℕ → DeviceDef → Live
+attached l None new = l
+attached l (Some slot) new = with_device l slot new
+
+abbrev pub detached : Live → Option (ℕ × DeviceDef) → Live
+detached l None = l
+detached l (Some placed) = without_slot l placed.0
+
+-- the domain with its guest changed
+abbrev pub with_live : Domain → Live → State
+with_live d l = state.Held (record d { live = Some l })
+
+-- the domain without its guest, which ended so
+abbrev pub ended : Domain → Live → EndReason → State
+ended d l why = settled (record d { live = None; last = Some (l.boot, why) })
+
+abbrev pub suspended : Domain → Live → CallStep
+suspended d l = done (state.Held (with_run d l (run.Paused cause.User))) (tell_listeners (is_running l.run) told.SUSPENDED_PAUSED)
+
+abbrev pub resumed : Domain → Live → CallStep
+resumed d l = done (state.Held (with_run d l run.Running)) (tell_listeners (is_paused l.run) told.RESUMED_UNPAUSED)
+
+-- a guest that crashed runs again
+abbrev pub rebooted : Domain → Live → CallStep
+rebooted d l =
+    done (if is_crashed l.run then state.Held (with_run d l run.Running) else state.Held d)
+    (tell_listeners (is_crashed l.run) told.RESUMED_UNPAUSED)
+
+abbrev pub destroyed : Domain → Live → CallStep
+destroyed d l = done (ended d l reason.Killed) (told.STOPPED_DESTROYED ∷ [])
+
+abbrev pub with_memory : Live → ℕ → Live
+with_memory l kib = record l { def = record l.def { current_memory = kib } }
+
+abbrev pub with_vcpus : Live → ℕ → Live
+with_vcpus l n = record l { def = record l.def { current_vcpus = n } }
+
+-- a call on a guest, where each answer is Ok
+abbrev pub live_step : Domain → Live → Call → List Answer → CallStep
+live_step d l call.Suspend answers = suspended d l
+live_step d l call.Resume answers = resumed d l
+live_step d l call.Reboot answers = rebooted d l
+live_step d l call.Destroy answers = destroyed d l
+live_step d l (call.SetMemory kib) answers = done (with_live d (with_memory l kib)) []
+live_step d l (call.SetVcpus n) answers = done (with_live d (with_vcpus l n)) []
+live_step d l (call.Attach new) answers = done (with_live d (attached l (free_slot l.slots) new)) []
+live_step d l (call.Detach old) answers = done (with_live d (detached l (device_like l old))) []
+live_step d l call.MemoryStats answers = memory_step (state.Held d) (first_value answers)
+live_step d l other answers = done (state.Held d) []
+
+abbrev pub guest_step : Domain → Option Live → Call → List Answer → CallStep
+guest_step d None c answers = done (state.Held d) []
+guest_step d (Some l) c answers = live_step d l c answers
+
+abbrev pub aborting : Option Op → Option Op
+aborting None = None
+aborting (Some op) = Some (record op { abort = true })
+
+abbrev pub undefined : Domain → CallStep
+undefined d = done (settled (record d { stored = None; autostart = false })) (told.UNDEFINED_REMOVED ∷ [])
+
+abbrev pub autostart_set : Domain → Bool → CallStep
+autostart_set d on = done (state.Held (record d { autostart = on })) []
+
+-- the operation's abort flag is set
+abbrev pub abort_asked : Domain → CallStep
+abort_asked d = done (state.Held (record d { op = aborting d.op })) []
+
+abbrev pub snapshot_deleted : Domain → List ℕ → Bool → CallStep
+snapshot_deleted d name children =
+    done (state.Held (record d { snaps = without_snapshot d.snaps name children; current = current_without d.snaps d.current name children })) []
+
+-- a call whose tests passed, where each answer is Ok
+abbrev pub held_step : Domain → Call → List Answer → CallStep
+held_step d (call.Define def) answers = defined d def
+held_step d call.Undefine answers = undefined d
+held_step d (call.SetAutostart on) answers = autostart_set d on
+held_step d call.Abort answers = abort_asked d
+held_step d (call.SnapDelete name children) answers = snapshot_deleted d name children
+held_step d c answers = guest_step d d.live c answers
+
+abbrev pub step_of : State → Call → List Answer → CallStep
+step_of (state.Held d) c answers = held_step d c answers
+step_of (state.Vacant boots) (call.Define def) answers = defined (new_domain def boots) def
+step_of (state.Vacant boots) c answers = done (state.Vacant boots) []
