@@ -1,6 +1,6 @@
 -- What a call leaves whose tests passed and whose answers are all Ok.
-use Rattle.std.specs.Prelude.{ℕ, List, [], ◌∷◌, Bool, true, false, not, ◌&&◌, replicate, is_none, is_some, Option, None, Some, unwrap_or, if◌then◌else◌}
-use Rattle.domain_spec.specs.Types.{Answer, AnswerValue, Ask, Call, DeviceDef, Domain, DomainDef, EndReason, Live, Op, Refusal, State, Transition}
+use Rattle.std.specs.Prelude.{ℕ, List, [], ◌∷◌, Bool, true, false, replicate, is_some, Option, None, Some, unwrap_or, if◌then◌else◌}
+use Rattle.domain_spec.specs.Types.{Answer, AnswerValue, Call, DeviceDef, Domain, DomainDef, EndReason, Live, Op, Refusal, State, Transition}
 use Rattle.domain_spec.specs.Types.call
 use Rattle.domain_spec.specs.Types.cause
 use Rattle.domain_spec.specs.Types.reason
@@ -11,13 +11,11 @@ use Rattle.domain_spec.specs.Types.told
 use Rattle.domain_spec.specs.Types.given
 use Rattle.domain_spec.specs.Types.value
 use Rattle.domain_spec.specs.declared.step.CallStep.{CallStep}
-use Rattle.domain_spec.specs.Asks.{asks_left, asks_made, first_bad, first_value}
-use Rattle.domain_spec.specs.Call.{begins, is_on_stored, plan_of}
+use Rattle.domain_spec.specs.Asks.{first_value}
 use Rattle.domain_spec.specs.Devices.{device_like, free_slot, with_device, without_slot}
-use Rattle.domain_spec.specs.Reading.{carries_ended, is_crashed, is_paused, is_running, reference_of, settled, with_run}
-use Rattle.domain_spec.specs.Refusals.{failed, failure_of, guest_ended}
+use Rattle.domain_spec.specs.Reading.{is_crashed, is_paused, is_running, reference_of, settled, with_run}
+use Rattle.domain_spec.specs.Refusals.{failed}
 use Rattle.domain_spec.specs.Snapshots.{current_without, without_snapshot}
-use Rattle.domain_spec.specs.Tests.{refusal_of}
 
 -- the call is refused: nothing changes, and nobody is told
 abbrev pub refused : State → Refusal → CallStep

@@ -1,11 +1,9 @@
 -- What a phase leaves that loads a state, or begins or polls a copy, where its answers are all Ok.
-use Rattle.std.specs.Prelude.{ℕ, ◌+◌, ◌==◌, List, [], ◌∷◌, ◌++◌, Bool, true, false, not, nat_le, codes, decimal, is_some, Option, None, Some, unwrap_or, if◌then◌else◌}
-use Rattle.domain_spec.specs.Types.{Answer, AnswerValue, Call, Domain, DomainDef, Live, Op, OpKind, Phase, Refusal, Reply, RunState, Snap, SnapInfo, State, Transition, Value}
+use Rattle.std.specs.Prelude.{ℕ, ◌+◌, ◌==◌, List, [], ◌∷◌, Bool, true, false, not, nat_le, Option, None, Some, unwrap_or, if◌then◌else◌}
+use Rattle.domain_spec.specs.Types.{AnswerValue, Call, Domain, Live, Op, Phase, Refusal, Reply, RunState, State, Transition, Value}
 use Rattle.domain_spec.specs.Types.call
 use Rattle.domain_spec.specs.Types.cause
-use Rattle.domain_spec.specs.Types.kind
 use Rattle.domain_spec.specs.Types.phase
-use Rattle.domain_spec.specs.Types.reason
 use Rattle.domain_spec.specs.Types.reply
 use Rattle.domain_spec.specs.Types.run
 use Rattle.domain_spec.specs.Types.state
@@ -14,14 +12,12 @@ use Rattle.domain_spec.specs.Types.given
 use Rattle.domain_spec.specs.Types.value
 use Rattle.domain_spec.specs.declared.step.Outcome.TheVariants as outcome
 use Rattle.domain_spec.specs.declared.step.PhaseStep.{PhaseStep}
-use Rattle.domain_spec.specs.Asks.{first_value}
 use Rattle.domain_spec.specs.Devices.{slots_at_start}
 use Rattle.domain_spec.specs.declared.loaded.Loaded.{Loaded}
-use Rattle.domain_spec.specs.PhaseAsks.{is_given_up, loaded_of, resumes, taken}
+use Rattle.domain_spec.specs.PhaseAsks.{is_given_up, loaded_of}
 use Rattle.domain_spec.specs.Reading.{is_running, reference_of, with_run}
 use Rattle.domain_spec.specs.Refusals.{aborted, stalled}
-use Rattle.domain_spec.specs.CallResult.{ended, tell_listeners}
-use Rattle.domain_spec.specs.Snapshots.{snapshot_named, with_snapshot}
+use Rattle.domain_spec.specs.CallResult.{tell_listeners}
 
 -- the operation goes on with this phase
 abbrev pub goes_on : Domain → Op → Phase → List Transition → PhaseStep

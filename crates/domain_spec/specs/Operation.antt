@@ -1,9 +1,8 @@
 -- A whole phase of an operation at one place of a history, with all its answers given at once: the
 -- state, the transitions and the outcome that it leaves, and the asks that it makes.
-use Rattle.std.specs.Prelude.{ℕ, ◌+◌, ◌==◌, List, [], ◌∷◌, ◌++◌, Bool, true, false, not, nat_le, codes, decimal, is_some, Option, None, Some, unwrap_or, if◌then◌else◌}
-use Rattle.domain_spec.specs.Types.{Answer, AnswerValue, Call, Domain, DomainDef, Live, Op, OpKind, Phase, Refusal, Reply, RunState, Snap, SnapInfo, State, Transition, Value}
+use Rattle.std.specs.Prelude.{ℕ, ◌+◌, List, [], ◌∷◌, ◌++◌, codes, decimal, is_some, Option, Some, unwrap_or, if◌then◌else◌}
+use Rattle.domain_spec.specs.Types.{Answer, AnswerValue, Call, Domain, DomainDef, Live, Op, OpKind, Phase, Reply, RunState, Snap, SnapInfo, Transition}
 use Rattle.domain_spec.specs.Types.call
-use Rattle.domain_spec.specs.Types.cause
 use Rattle.domain_spec.specs.Types.kind
 use Rattle.domain_spec.specs.Types.phase
 use Rattle.domain_spec.specs.Types.reason
@@ -11,19 +10,15 @@ use Rattle.domain_spec.specs.Types.reply
 use Rattle.domain_spec.specs.Types.run
 use Rattle.domain_spec.specs.Types.state
 use Rattle.domain_spec.specs.Types.told
-use Rattle.domain_spec.specs.Types.given
 use Rattle.domain_spec.specs.Types.value
-use Rattle.domain_spec.specs.declared.step.Outcome.TheVariants as outcome
 use Rattle.domain_spec.specs.declared.step.PhaseStep.{PhaseStep}
 use Rattle.domain_spec.specs.Asks.{first_value}
-use Rattle.domain_spec.specs.Devices.{slots_at_start}
-use Rattle.domain_spec.specs.declared.loaded.Loaded.{Loaded}
-use Rattle.domain_spec.specs.PhaseAsks.{is_given_up, loaded_of, resumes, taken}
-use Rattle.domain_spec.specs.Reading.{is_running, reference_of, with_run}
-use Rattle.domain_spec.specs.Refusals.{aborted, stalled}
+use Rattle.domain_spec.specs.PhaseAsks.{resumes, taken}
+use Rattle.domain_spec.specs.Reading.{with_run}
+use Rattle.domain_spec.specs.Refusals.{aborted}
 use Rattle.domain_spec.specs.CallResult.{ended, tell_listeners}
 use Rattle.domain_spec.specs.Snapshots.{snapshot_named, with_snapshot}
-use Rattle.domain_spec.specs.CopyResult.{goes_on, over, run_as, paused_unless, start_value, current_after, restored_as, loaded_new, loaded_active, loaded_with, load_done, copy_done, cancels, left_in, still_after, poll_done, poll_step}
+use Rattle.domain_spec.specs.CopyResult.{goes_on, over, run_as, start_value, current_after, load_done, copy_done, poll_step}
 
 -- the domain as its guest goes on, where it is to
 abbrev pub resumed : Domain → Live → Op → Domain

@@ -1,25 +1,15 @@
 -- A whole call at one place of a history, with all its answers given at once: the state, the reply
 -- and the transitions that it leaves, the asks that it makes, and when it is through.
-use Rattle.std.specs.Prelude.{ℕ, List, [], ◌∷◌, Bool, true, false, not, ◌&&◌, replicate, is_none, is_some, Option, None, Some, unwrap_or, if◌then◌else◌}
-use Rattle.domain_spec.specs.Types.{Answer, AnswerValue, Ask, Call, DeviceDef, Domain, DomainDef, EndReason, Live, Op, Refusal, State, Transition}
+use Rattle.std.specs.Prelude.{ℕ, List, [], Bool, not, ◌&&◌, is_none, is_some, Option, None, Some, if◌then◌else◌}
+use Rattle.domain_spec.specs.Types.{Answer, Ask, Call, Refusal, State}
 use Rattle.domain_spec.specs.Types.call
-use Rattle.domain_spec.specs.Types.cause
-use Rattle.domain_spec.specs.Types.reason
-use Rattle.domain_spec.specs.Types.reply
-use Rattle.domain_spec.specs.Types.run
-use Rattle.domain_spec.specs.Types.state
-use Rattle.domain_spec.specs.Types.told
-use Rattle.domain_spec.specs.Types.given
-use Rattle.domain_spec.specs.Types.value
 use Rattle.domain_spec.specs.declared.step.CallStep.{CallStep}
-use Rattle.domain_spec.specs.Asks.{asks_left, asks_made, first_bad, first_value}
+use Rattle.domain_spec.specs.Asks.{asks_left, asks_made, first_bad}
 use Rattle.domain_spec.specs.Call.{begins, is_on_stored, plan_of}
-use Rattle.domain_spec.specs.Devices.{device_like, free_slot, with_device, without_slot}
-use Rattle.domain_spec.specs.Reading.{carries_ended, is_crashed, is_paused, is_running, reference_of, settled, with_run}
-use Rattle.domain_spec.specs.Refusals.{failed, failure_of, guest_ended}
-use Rattle.domain_spec.specs.Snapshots.{current_without, without_snapshot}
+use Rattle.domain_spec.specs.Reading.{carries_ended}
+use Rattle.domain_spec.specs.Refusals.{failure_of, guest_ended}
 use Rattle.domain_spec.specs.Tests.{refusal_of}
-use Rattle.domain_spec.specs.CallResult.{refused, done, tell_listeners, new_domain, defined, memory_step, attached, detached, with_live, ended, suspended, resumed, rebooted, destroyed, with_memory, with_vcpus, live_step, guest_step, aborting, undefined, autostart_set, abort_asked, snapshot_deleted, held_step, step_of}
+use Rattle.domain_spec.specs.CallResult.{refused, done, step_of}
 
 -- after the first answer that is not Ok the state is as before
 abbrev pub answered_step : State → Call → List Answer → Option Answer → CallStep
