@@ -2,6 +2,7 @@
 use Rattle.std.proofs.Common.{◌≡◌, ◌==◌, ℕ, ◌&&◌, Bool, true, false, cond, eqb, List, [], ◌∷◌, Option, None, Some, refl, sym, ap, subst, ◌∙◌, zero, suc}
 use Rattle.std.specs.List.{find, list_all}
 use Rattle.std.proofs.lemmas.Bool.{eqb-true}
+use Rattle.virt_types.specs.declared.object_request.DomainRequest.TheVariants as on_domain
 use Rattle.virt_types.specs.declared.request.Request.{Request}
 use Rattle.virt_types.specs.declared.request.Request.TheVariants as request
 use Rattle.virt_types.specs.declared.value.Value.{Value}
@@ -85,8 +86,8 @@ answered_shape : (asked : Request) (p : Procedure) → procedure_of asked ≡ So
 answered_shape (request.ConnectOpen name flags) p e = let is : p ≡ procedure.ConnectOpen = cc in ap answered is
 answered_shape request.ConnectClose p e = let is : p ≡ procedure.ConnectClose = cc in ap answered is
 answered_shape (request.DomainDefineXml xml) p e = let is : p ≡ procedure.DomainDefineXml = cc in ap answered is
-answered_shape (request.DomainGetXmlDesc domain flags) p e = let is : p ≡ procedure.DomainGetXmlDesc = cc in ap answered is
-answered_shape (request.ConnectListDefinedDomains most) p e = let is : p ≡ procedure.ConnectListDefinedDomains = cc in ap answered is
+answered_shape (request.OnDomain domain (on_domain.GetXmlDesc flags)) p e = let is : p ≡ procedure.DomainGetXmlDesc = cc in ap answered is
+answered_shape (request.ListDefinedDomains most) p e = let is : p ≡ procedure.ConnectListDefinedDomains = cc in ap answered is
 answered_shape (request.DomainLookupByName name) p e = let is : p ≡ procedure.DomainLookupByName = cc in ap answered is
 answered_shape (request.DomainLookupByUuid uuid) p e = let is : p ≡ procedure.DomainLookupByUuid = cc in ap answered is
 answered_shape _ p e = absurd cc

@@ -3,6 +3,7 @@ use Rattle.std.proofs.Common.{◌≡◌, ℕ, ◌<◌, ◌==◌, Bool, true, fal
 use Rattle.std.specs.Prelude.{IfSome}
 use Rattle.std.proofs.lemmas.Bool.{eqb-true}
 use Rattle.std.proofs.lemmas.List.{append-nil, nil_from_length}
+use Rattle.virt_types.specs.declared.object_request.DomainRequest.TheVariants as on_domain
 use Rattle.virt_types.specs.declared.request.Request.{Request}
 use Rattle.virt_types.specs.declared.request.Request.TheVariants as request
 use Rattle.wire_spec.specs.declared.fault.XdrFault.{XdrFault}
@@ -94,9 +95,9 @@ request_found procedure.ConnectClose payload r fits e =
 request_found procedure.DomainDefineXml payload r fits e =
     made_all procedure.DomainDefineXml _ _ _ request.DomainDefineXml IsItem-definition (λ x xml. record { procedure = refl; has = xml; spelled = refl }) payload r fits e
 request_found procedure.DomainGetXmlDesc payload r fits e =
-    two_all procedure.DomainGetXmlDesc _ _ _ _ _ _ request.DomainGetXmlDesc IsItem-target IsItem-word (λ d f domain flags. record { procedure = refl; has = (domain, flags); spelled = refl }) payload r fits e
+    two_all procedure.DomainGetXmlDesc _ _ _ _ _ _ (λ d f. request.OnDomain d (on_domain.GetXmlDesc f)) IsItem-target IsItem-word (λ d f domain flags. record { procedure = refl; has = (domain, flags); spelled = refl }) payload r fits e
 request_found procedure.ConnectListDefinedDomains payload r fits e =
-    made_all procedure.ConnectListDefinedDomains _ _ _ request.ConnectListDefinedDomains IsItem-integer (λ m most. record { procedure = refl; has = most; spelled = refl }) payload r fits e
+    made_all procedure.ConnectListDefinedDomains _ _ _ request.ListDefinedDomains IsItem-integer (λ m most. record { procedure = refl; has = most; spelled = refl }) payload r fits e
 request_found procedure.DomainLookupByName payload r fits e =
     made_all procedure.DomainLookupByName _ _ _ request.DomainLookupByName IsItem-name (λ n name. record { procedure = refl; has = name; spelled = refl }) payload r fits e
 request_found procedure.DomainLookupByUuid payload r fits e =
@@ -121,12 +122,12 @@ request_again p payload request.ConnectClose is has e =
 request_again p payload (request.DomainDefineXml x) is has e =
     subst (λ (q : Procedure). request_in q payload ≡ Ok (request.DomainDefineXml x)) (same_procedure procedure.DomainDefineXml p is)
     (all_again first_define payload (request.DomainDefineXml x) _ (made_again _ _ _ request.DomainDefineXml IsItem-definition (all_of payload) x [] has (at_end payload (opaque x) e)))
-request_again p payload (request.DomainGetXmlDesc d f) is has e =
-    subst (λ (q : Procedure). request_in q payload ≡ Ok (request.DomainGetXmlDesc d f)) (same_procedure procedure.DomainGetXmlDesc p is)
-    (all_again first_get_xml payload (request.DomainGetXmlDesc d f) _ (two_again _ _ _ _ _ _ request.DomainGetXmlDesc IsItem-target IsItem-word (all_of payload) d f [] has.0 has.1 (at_end payload (target d ++ word f) e)))
-request_again p payload (request.ConnectListDefinedDomains m) is has e =
-    subst (λ (q : Procedure). request_in q payload ≡ Ok (request.ConnectListDefinedDomains m)) (same_procedure procedure.ConnectListDefinedDomains p is)
-    (all_again first_list_defined payload (request.ConnectListDefinedDomains m) _ (made_again _ _ _ request.ConnectListDefinedDomains IsItem-integer (all_of payload) m [] has (at_end payload (integer m) e)))
+request_again p payload (request.OnDomain d (on_domain.GetXmlDesc f)) is has e =
+    subst (λ (q : Procedure). request_in q payload ≡ Ok (request.OnDomain d (on_domain.GetXmlDesc f))) (same_procedure procedure.DomainGetXmlDesc p is)
+    (all_again first_get_xml payload (request.OnDomain d (on_domain.GetXmlDesc f)) _ (two_again _ _ _ _ _ _ (λ d f. request.OnDomain d (on_domain.GetXmlDesc f)) IsItem-target IsItem-word (all_of payload) d f [] has.0 has.1 (at_end payload (target d ++ word f) e)))
+request_again p payload (request.ListDefinedDomains m) is has e =
+    subst (λ (q : Procedure). request_in q payload ≡ Ok (request.ListDefinedDomains m)) (same_procedure procedure.ConnectListDefinedDomains p is)
+    (all_again first_list_defined payload (request.ListDefinedDomains m) _ (made_again _ _ _ request.ListDefinedDomains IsItem-integer (all_of payload) m [] has (at_end payload (integer m) e)))
 request_again p payload (request.DomainLookupByName n) is has e =
     subst (λ (q : Procedure). request_in q payload ≡ Ok (request.DomainLookupByName n)) (same_procedure procedure.DomainLookupByName p is)
     (all_again first_lookup_by_name payload (request.DomainLookupByName n) _ (made_again _ _ _ request.DomainLookupByName IsItem-name (all_of payload) n [] has (at_end payload (opaque n) e)))

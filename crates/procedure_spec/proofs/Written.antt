@@ -1,5 +1,6 @@
 -- The call that is written for a request is a call of it.
 use Rattle.std.proofs.Common.{◌≡◌, ℕ, List, Option, Some, refl}
+use Rattle.virt_types.specs.declared.object_request.DomainRequest.TheVariants as on_domain
 use Rattle.virt_types.specs.declared.request.Request.{Request}
 use Rattle.virt_types.specs.declared.request.Request.TheVariants as request
 use Rattle.procedure_spec.specs.Arguments.{HasArguments, arguments, procedure_of}
@@ -11,8 +12,8 @@ unfolding row_of
 is_call (request.ConnectOpen name flags) serial has = record { program = refl; version = refl; row = _; line = refl; built = refl; procedure = refl; has = has; spelled = refl }
 is_call request.ConnectClose serial has = record { program = refl; version = refl; row = _; line = refl; built = refl; procedure = refl; has = has; spelled = refl }
 is_call (request.DomainDefineXml xml) serial has = record { program = refl; version = refl; row = _; line = refl; built = refl; procedure = refl; has = has; spelled = refl }
-is_call (request.DomainGetXmlDesc domain flags) serial has = record { program = refl; version = refl; row = _; line = refl; built = refl; procedure = refl; has = has; spelled = refl }
-is_call (request.ConnectListDefinedDomains most) serial has = record { program = refl; version = refl; row = _; line = refl; built = refl; procedure = refl; has = has; spelled = refl }
+is_call (request.OnDomain domain (on_domain.GetXmlDesc flags)) serial has = record { program = refl; version = refl; row = _; line = refl; built = refl; procedure = refl; has = has; spelled = refl }
+is_call (request.ListDefinedDomains most) serial has = record { program = refl; version = refl; row = _; line = refl; built = refl; procedure = refl; has = has; spelled = refl }
 is_call (request.DomainLookupByName name) serial has = record { program = refl; version = refl; row = _; line = refl; built = refl; procedure = refl; has = has; spelled = refl }
 is_call (request.DomainLookupByUuid uuid) serial has = record { program = refl; version = refl; row = _; line = refl; built = refl; procedure = refl; has = has; spelled = refl }
 is_call _ serial has = absurd has

@@ -1,6 +1,7 @@
 -- Reading the arguments of calls from their payloads: the request, or the first fault.
 use Rattle.std.specs.Prelude.{ℕ, List, Result, Ok, Err}
 use Rattle.virt_types.specs.declared.reference.DomainTarget.{DomainTarget}
+use Rattle.virt_types.specs.declared.object_request.DomainRequest.TheVariants as on_domain
 use Rattle.virt_types.specs.declared.request.Request.{Request}
 use Rattle.virt_types.specs.declared.request.Request.TheVariants as request
 use Rattle.wire_spec.specs.declared.fault.XdrFault.{XdrFault}
@@ -38,12 +39,12 @@ unfoldable pub first_get_xml : Left → Result (Request × Left) XdrFault
 first_get_xml l = do
   domain ← first_target l
   flags ← first_word domain.1
-  Ok (request.DomainGetXmlDesc domain.0 flags.0, flags.1)
+  Ok (request.OnDomain domain.0 (on_domain.GetXmlDesc flags.0), flags.1)
 
 unfoldable pub first_list_defined : Left → Result (Request × Left) XdrFault
 first_list_defined l = do
   most ← first_integer l
-  Ok (request.ConnectListDefinedDomains most.0, most.1)
+  Ok (request.ListDefinedDomains most.0, most.1)
 
 unfoldable pub first_lookup_by_name : Left → Result (Request × Left) XdrFault
 first_lookup_by_name l = do

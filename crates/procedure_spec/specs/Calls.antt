@@ -2,6 +2,8 @@
 use Rattle.std.specs.Prelude.{◌≡◌, ◌==◌, ℕ, ◌||◌, Bool, true, List, Option, None, Some, IsSome, Result, Ok, Err, if◌then◌else◌}
 use Rattle.virt_types.specs.declared.memory.OrNoMemory.{OrNoMemory}
 use Rattle.virt_types.specs.declared.memory.OrNoMemory.TheVariants.{Fault, NoMemory}
+use Rattle.virt_types.specs.declared.object_request.DomainRequest.{DomainRequest}
+use Rattle.virt_types.specs.declared.object_request.DomainRequest.TheVariants as on_domain
 use Rattle.virt_types.specs.declared.request.Request.{Request}
 use Rattle.virt_types.specs.declared.request.Request.TheVariants as request
 use Rattle.wire_spec.specs.declared.message.Header.{Header}
@@ -46,12 +48,16 @@ Finds (Err (Fault f)) read = read ≡ Err f
 Finds (Err NoMemory) read = Unit {0}
 
 -- the program and the number of a request's procedure, of those that are built
+abbrev pub domain_numbers : DomainRequest → ℕ × ℕ
+domain_numbers (on_domain.GetXmlDesc flags) = (0x20008086, 14)
+domain_numbers _ = (0, 0)
+
 abbrev pub call_numbers : Request → ℕ × ℕ
 call_numbers (request.ConnectOpen name flags) = (0x20008086, 1)
 call_numbers request.ConnectClose = (0x20008086, 2)
 call_numbers (request.DomainDefineXml xml) = (0x20008086, 11)
-call_numbers (request.DomainGetXmlDesc domain flags) = (0x20008086, 14)
-call_numbers (request.ConnectListDefinedDomains most) = (0x20008086, 21)
+call_numbers (request.OnDomain domain asked) = domain_numbers asked
+call_numbers (request.ListDefinedDomains most) = (0x20008086, 21)
 call_numbers (request.DomainLookupByName name) = (0x20008086, 23)
 call_numbers (request.DomainLookupByUuid uuid) = (0x20008086, 24)
 call_numbers _ = (0, 0)

@@ -2,6 +2,8 @@
 use Rattle.std.specs.Prelude.{◌≡◌, ◌≤◌, ◌^◌, ◌<◌, ℕ, All, List, [], ◌++◌, length, Some, true}
 use Rattle.std.specs.List.{flat_map}
 use Rattle.virt_types.specs.declared.reference.DomainRef.{DomainRef}
+use Rattle.virt_types.specs.declared.object_request.DomainRequest.{DomainRequest}
+use Rattle.virt_types.specs.declared.object_request.DomainRequest.TheVariants as on_domain
 use Rattle.virt_types.specs.declared.request.Request.{Request}
 use Rattle.virt_types.specs.declared.request.Request.TheVariants as request
 use Rattle.virt_types.specs.declared.value.Value.{Value}
@@ -41,10 +43,14 @@ HasShape (value.Names ns) s = (s ≡ shape.Names) × (length ns ≤ names_bound)
 HasShape _ s = ⊥
 
 -- what the reply to a request carries, of those that are built
+abbrev pub domain_result : DomainRequest → ResultShape
+domain_result (on_domain.GetXmlDesc flags) = shape.Text
+domain_result _ = shape.Nothing
+
 abbrev pub result_shape : Request → ResultShape
 result_shape (request.DomainDefineXml xml) = shape.Domain
-result_shape (request.DomainGetXmlDesc domain flags) = shape.Text
-result_shape (request.ConnectListDefinedDomains most) = shape.Names
+result_shape (request.OnDomain domain asked) = domain_result asked
+result_shape (request.ListDefinedDomains most) = shape.Names
 result_shape (request.DomainLookupByName name) = shape.Domain
 result_shape (request.DomainLookupByUuid uuid) = shape.Domain
 result_shape _ = shape.Nothing

@@ -1,14 +1,14 @@
 // Reading the arguments of each procedure that is built.
-ghost use Rattle.std.specs.Prelude.{◌≡◌};
+ghost use Rattle.std.specs.Prelude.{◌≡◌, IfOk, IfSome};
 ghost use Rattle.wire_spec.specs.XdrReading.{first_fixed, first_optional, first_string, whole};
-ghost use Rattle.procedure_spec.specs.Arguments.{packet_bound};
+ghost use Rattle.procedure_spec.specs.Arguments.{IsString, packet_bound};
 ghost use Rattle.procedure_spec.specs.ArgumentsReading.{first_close, first_define, first_get_xml, first_list_defined, first_lookup_by_name, first_lookup_by_uuid, first_open, first_target, request_in};
 ghost use Rattle.procedure_spec.specs.Calls.{Finds};
 ghost use Rattle.remote_args.specs.Steps.{Lifts, Walks};
 
 use procedure_spec::{ArgFault, Procedure};
 use std::alloc::Global;
-use virt_types::{DomainTarget, OrNoMemory, Request, Text, Uuid};
+use virt_types::{DomainRequest, DomainTarget, OrNoMemory, Request, Text, Uuid};
 use wire_spec::XdrFault;
 use xdr_codec::Reader;
 
@@ -21,11 +21,12 @@ pub(crate) const DEFINITION_BOUND: u32 = 65_536;
 // The items that several procedures have.
 
 #[tactic(auto, unfolding(wire_spec::specs::XdrReading::first_optional))]
-fn optional_name(
+pub(crate) fn optional_name(
     alloc: Global,
     reader: &mut Reader<'_>,
 ) -> Result<Option<Text>, OrNoMemory<XdrFault>>
-    ensures { Walks (first_optional (first_string packet_bound)) reader.old result reader.new }
+    ensures read { Walks (first_optional (first_string packet_bound)) reader.old result reader.new }
+    ensures name { IfOk result (λ name. IfSome name (IsString packet_bound)) }
 {
     match reader.take_optional() {
         Ok(true) => Ok(Some(reader.take_text(alloc, PACKET_BOUND)?)),
@@ -93,7 +94,10 @@ fn get_xml(alloc: Global, payload: &[u8]) -> Result<Request, OrNoMemory<XdrFault
     let domain = target(alloc, &mut reader)?;
     let flags = reader.take_u32().map_err(OrNoMemory::Fault)?;
     reader.end().map_err(OrNoMemory::Fault)?;
-    Ok(Request::DomainGetXmlDesc { domain, flags })
+    Ok(Request::OnDomain {
+        domain,
+        request: DomainRequest::GetXmlDesc { flags },
+    })
 }
 
 #[tactic(auto, unfolding(wire_spec::specs::XdrReading::whole, procedure_spec::specs::ArgumentsReading::first_list_defined))]
@@ -103,7 +107,7 @@ fn list_defined(payload: &[u8]) -> Result<Request, OrNoMemory<XdrFault>>
     let mut reader = Reader::new(payload);
     let most = reader.take_i32().map_err(OrNoMemory::Fault)?;
     reader.end().map_err(OrNoMemory::Fault)?;
-    Ok(Request::ConnectListDefinedDomains { most })
+    Ok(Request::ListDefinedDomains { most })
 }
 
 #[tactic(auto, unfolding(wire_spec::specs::XdrReading::whole, procedure_spec::specs::ArgumentsReading::first_lookup_by_name))]

@@ -3,15 +3,15 @@ ghost use Rattle.std.specs.Prelude.{◌≡◌, ◌+◌, ◌++◌, ◌<◌, ◌^�
 ghost use Rattle.wire_spec.specs.Packets.{IsPacket, spelling};
 ghost use Rattle.wire_spec.specs.Xdr.{opaque, optional};
 ghost use Rattle.packet.specs.Writing.{packet_with};
-ghost use Rattle.procedure_spec.specs.Arguments.{HasArguments, IsTarget, arguments, target as target_items};
-ghost use Rattle.procedure_spec.specs.Calls.{IsCall, call_header as header_of, call_numbers as numbers_of};
+ghost use Rattle.procedure_spec.specs.Arguments.{HasArguments, HasDomainArguments, arguments, domain_arguments, target as target_items};
+ghost use Rattle.procedure_spec.specs.Calls.{IsCall, call_header as header_of, call_numbers as numbers_of, domain_numbers as domain_numbers_of};
 ghost use Rattle.remote_args.specs.Frames.{IsTooBig};
 
 use crate::frame::{begin, finish};
 use packet::WriteFault;
 use procedure_spec::REMOTE;
 use std::alloc::Global;
-use virt_types::{Bytes, DomainTarget, NoMemory, OrNoMemory, Request, Text};
+use virt_types::{Bytes, DomainRequest, DomainTarget, NoMemory, OrNoMemory, Request, Text};
 use wire_spec::Header;
 use xdr_codec::Writer;
 
@@ -44,6 +44,24 @@ fn put_target(writer: &mut Writer, domain: &DomainTarget) -> Result<(), NoMemory
     writer.put_i32(domain.id)
 }
 
+// The payload of a call for one domain.
+fn put_domain_arguments(
+    writer: &mut Writer,
+    domain: &DomainTarget,
+    request: &DomainRequest,
+) -> Result<(), NoMemory>
+    requires { HasDomainArguments domain.now request.now }
+    ensures { OnOk result (writer.new ≡ writer.old ++ domain_arguments domain.now request.now) }
+{
+    match request {
+        DomainRequest::GetXmlDesc { flags } => {
+            put_target(writer, domain)?;
+            writer.put_u32(*flags)
+        }
+        _ => Ok(()),
+    }
+}
+
 // The payload of the call.
 fn put_arguments(writer: &mut Writer, request: &Request) -> Result<(), NoMemory>
     requires { HasArguments request.now }
@@ -55,14 +73,20 @@ fn put_arguments(writer: &mut Writer, request: &Request) -> Result<(), NoMemory>
             writer.put_u32(*flags)
         }
         Request::DomainDefineXml { xml } => put_text(writer, xml),
-        Request::DomainGetXmlDesc { domain, flags } => {
-            put_target(writer, domain)?;
-            writer.put_u32(*flags)
-        }
-        Request::ConnectListDefinedDomains { most } => writer.put_i32(*most),
+        Request::OnDomain { domain, request } => put_domain_arguments(writer, domain, request),
+        Request::ListDefinedDomains { most } => writer.put_i32(*most),
         Request::DomainLookupByName { name } => put_text(writer, name),
         Request::DomainLookupByUuid { uuid } => writer.put_fixed(uuid.as_bytes()),
         _ => Ok(()),
+    }
+}
+
+fn domain_numbers(request: &DomainRequest) -> (u32, u32)
+    ensures { result ≡ domain_numbers_of request.now }
+{
+    match request {
+        DomainRequest::GetXmlDesc { .. } => (REMOTE, 14),
+        _ => (0, 0),
     }
 }
 
@@ -74,8 +98,8 @@ fn call_numbers(request: &Request) -> (u32, u32)
         Request::ConnectOpen { .. } => (REMOTE, 1),
         Request::ConnectClose => (REMOTE, 2),
         Request::DomainDefineXml { .. } => (REMOTE, 11),
-        Request::DomainGetXmlDesc { .. } => (REMOTE, 14),
-        Request::ConnectListDefinedDomains { .. } => (REMOTE, 21),
+        Request::OnDomain { request, .. } => domain_numbers(request),
+        Request::ListDefinedDomains { .. } => (REMOTE, 21),
         Request::DomainLookupByName { .. } => (REMOTE, 23),
         Request::DomainLookupByUuid { .. } => (REMOTE, 24),
         _ => (0, 0),
