@@ -12,5 +12,5 @@ mod written_call;
 pub use call::{is_known, read_call};
 pub use packet::WriteFault;
 pub use procedure_spec::ArgFault;
-pub use written_call::write_call;
 pub use reply::{write_error, write_reply};
+pub use written_call::write_call;
