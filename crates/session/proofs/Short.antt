@@ -33,7 +33,8 @@ error_short code message kept m k =
     let named = both_short _ _ 4 (4 + (100 + 3)) (w 1) (opaque_short message 100 m) in
     let front = both_short _ _ _ 4 (both_short _ _ _ 4 (both_short _ _ _ _ (both_short _ _ 4 4 (w code) (w 10)) named) (w 2)) (w 0) in
     let held = both_short _ _ _ _ front (kept_short kept 1024 k) in
-    let all = both_short _ _ _ 4 (both_short _ _ _ 4 (both_short _ _ _ 4 (both_short _ _ _ 4 (both_short _ _ _ 4 held (w 0)) (w 0)) (w 0)) (w 0)) (w 0) in
+    let tail = both_short _ _ _ 4 (both_short _ _ _ 4 (both_short _ _ _ 4 (both_short _ _ 4 4 (w 0) (w 0)) (w 0)) (w 0)) (w 0) in
+    let all = both_short _ _ _ _ held tail in
     omega (arith, all)
 
 pub domain_short : (d : DomainRef) → length d.name ≤ 128 → length d.uuid ≤ 16 → length (domain_reference d) ≤ 4096
