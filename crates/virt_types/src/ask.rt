@@ -4,7 +4,7 @@ ghost use Rattle.virt_types.specs.declared.ask.ImageKind.{ImageKind as TheImageK
 ghost use Rattle.virt_types.specs.Numbers.{image_number};
 
 use crate::bytes::Bytes;
-use crate::copy::TryCopy;
+use crate::copy::{TryCopy, both};
 use crate::device_def::DeviceDef;
 use crate::domain_def::DomainDef;
 use crate::mac::Mac;
@@ -68,33 +68,33 @@ pub enum Command {
 
 impl TryCopy for Command {
     fn copy(&self) -> Result<Command, NoMemory> {
-        Ok(match self {
-            Command::QueryStatus => Command::QueryStatus,
-            Command::QueryMemory => Command::QueryMemory,
-            Command::Cont => Command::Cont,
-            Command::Stop => Command::Stop,
-            Command::Powerdown => Command::Powerdown,
-            Command::Reset => Command::Reset,
-            Command::Quit => Command::Quit,
-            Command::SetMemory(it) => Command::SetMemory(*it),
-            Command::SetVcpus(it) => Command::SetVcpus(*it),
-            Command::AddBackend { slot, device } => Command::AddBackend {
+        match self {
+            Command::QueryStatus => Ok(Command::QueryStatus),
+            Command::QueryMemory => Ok(Command::QueryMemory),
+            Command::Cont => Ok(Command::Cont),
+            Command::Stop => Ok(Command::Stop),
+            Command::Powerdown => Ok(Command::Powerdown),
+            Command::Reset => Ok(Command::Reset),
+            Command::Quit => Ok(Command::Quit),
+            Command::SetMemory(it) => Ok(Command::SetMemory(*it)),
+            Command::SetVcpus(it) => Ok(Command::SetVcpus(*it)),
+            Command::AddBackend { slot, device } => Ok(Command::AddBackend {
                 slot: *slot,
                 device: device.copy()?,
-            },
-            Command::AddDevice { slot, device } => Command::AddDevice {
+            }),
+            Command::AddDevice { slot, device } => Ok(Command::AddDevice {
                 slot: *slot,
                 device: device.copy()?,
-            },
-            Command::RemoveDevice(it) => Command::RemoveDevice(*it),
-            Command::RemoveBackend(it) => Command::RemoveBackend(*it),
-            Command::CopyBegin => Command::CopyBegin,
-            Command::CopyPoll => Command::CopyPoll,
-            Command::CopyTake => Command::CopyTake,
-            Command::CopyCancel => Command::CopyCancel,
-            Command::LoadState(it) => Command::LoadState(it.copy()?),
-            Command::Kick(it) => Command::Kick(*it),
-        })
+            }),
+            Command::RemoveDevice(it) => Ok(Command::RemoveDevice(*it)),
+            Command::RemoveBackend(it) => Ok(Command::RemoveBackend(*it)),
+            Command::CopyBegin => Ok(Command::CopyBegin),
+            Command::CopyPoll => Ok(Command::CopyPoll),
+            Command::CopyTake => Ok(Command::CopyTake),
+            Command::CopyCancel => Ok(Command::CopyCancel),
+            Command::LoadState(it) => Ok(Command::LoadState(it.copy()?)),
+            Command::Kick(it) => Ok(Command::Kick(*it)),
+        }
     }
 }
 
@@ -171,38 +171,44 @@ pub enum Ask {
 
 impl TryCopy for Ask {
     fn copy(&self) -> Result<Ask, NoMemory> {
-        Ok(match self {
-            Ask::Command(it) => Ask::Command(it.copy()?),
-            Ask::Make { definition, boot } => Ask::Make {
+        match self {
+            Ask::Command(it) => Ok(Ask::Command(it.copy()?)),
+            Ask::Make { definition, boot } => Ok(Ask::Make {
                 definition: definition.copy()?,
                 boot: *boot,
-            },
+            }),
             Ask::Put {
                 definition,
                 autostart,
-            } => Ask::Put {
+            } => Ok(Ask::Put {
                 definition: definition.copy()?,
                 autostart: *autostart,
-            },
-            Ask::Drop(it) => Ask::Drop(*it),
-            Ask::Lease { network, mac } => Ask::Lease {
+            }),
+            Ask::Drop(it) => Ok(Ask::Drop(*it)),
+            Ask::Lease { network, mac } => Ok(Ask::Lease {
                 network: network.copy()?,
                 mac: *mac,
-            },
+            }),
             Ask::WriteImage {
                 name,
                 kind,
                 definition,
                 running,
                 bytes,
-            } => Ask::WriteImage {
-                name: name.copy()?,
-                kind: *kind,
-                definition: definition.copy()?,
-                running: *running,
-                bytes: bytes.copy()?,
-            },
-        })
+            } => {
+                let (name, (definition, bytes)) = both(
+                    name.copy(),
+                    both(definition.copy(), bytes.copy()),
+                )?;
+                Ok(Ask::WriteImage {
+                    name,
+                    kind: *kind,
+                    definition,
+                    running: *running,
+                    bytes,
+                })
+            }
+        }
     }
 }
 

@@ -198,10 +198,10 @@ pub enum DeviceDef {
 
 impl TryCopy for DeviceDef {
     fn copy(&self) -> Result<DeviceDef, NoMemory> {
-        Ok(match self {
-            DeviceDef::Disk(it) => DeviceDef::Disk(it.copy()?),
-            DeviceDef::Interface(it) => DeviceDef::Interface(it.copy()?),
-        })
+        match self {
+            DeviceDef::Disk(it) => Ok(DeviceDef::Disk(it.copy()?)),
+            DeviceDef::Interface(it) => Ok(DeviceDef::Interface(it.copy()?)),
+        }
     }
 }
 

@@ -75,13 +75,19 @@ pub struct Snap {
 
 impl TryCopy for Snap {
     fn copy(&self) -> Result<Snap, NoMemory> {
+        let names = both(self.name.copy(), self.parent.copy());
+        let guest = both(self.def.copy(), self.saved.copy());
+        let (description, ((name, parent), (def, saved))) = both(
+            self.description.copy(),
+            both(names, guest),
+        )?;
         Ok(Snap {
-            name: self.name.copy()?,
-            description: self.description.copy()?,
-            parent: self.parent.copy()?,
+            name,
+            description,
+            parent,
             run: self.run,
-            def: self.def.copy()?,
-            saved: self.saved.copy()?,
+            def,
+            saved,
         })
     }
 }
@@ -153,9 +159,9 @@ pub enum State {
 
 impl TryCopy for State {
     fn copy(&self) -> Result<State, NoMemory> {
-        Ok(match self {
-            State::Vacant { boots } => State::Vacant { boots: *boots },
-            State::Held(it) => State::Held(it.copy()?),
-        })
+        match self {
+            State::Vacant { boots } => Ok(State::Vacant { boots: *boots }),
+            State::Held(it) => Ok(State::Held(it.copy()?)),
+        }
     }
 }

@@ -1,5 +1,5 @@
 // The definition of a domain, with one field for each row of its element table.
-use crate::copy::TryCopy;
+use crate::copy::{TryCopy, both};
 use crate::device_def::{DiskList, InterfaceList};
 use crate::list::ListOf;
 use crate::memory::NoMemory;
@@ -226,28 +226,46 @@ impl Drop for DomainDef {
 
 impl TryCopy for DomainDef {
     fn copy(&self) -> Result<DomainDef, NoMemory> {
+        let names = both(
+            self.name.copy(),
+            both(self.title.copy(), self.description.copy()),
+        );
+        let machine = both(
+            self.guest.copy(),
+            both(self.os.copy(), self.emulator.copy()),
+        );
+        let devices = both(self.disks.copy(), self.interfaces.copy());
+        let characters = both(self.serials.copy(), self.consoles.copy());
+        let others = both(self.graphics.copy(), self.memballoon.copy());
+        let (
+            ((name, (title, description)), (guest, (os, emulator))),
+            ((disks, interfaces), ((serials, consoles), (graphics, memballoon))),
+        ) = both(
+            both(names, machine),
+            both(devices, both(characters, others)),
+        )?;
         Ok(DomainDef {
             kind: self.kind,
-            name: self.name.copy()?,
+            name,
             uuid: self.uuid,
-            title: self.title.copy()?,
-            description: self.description.copy()?,
-            guest: self.guest.copy()?,
+            title,
+            description,
+            guest,
             memory: self.memory,
             current_memory: self.current_memory,
             vcpus: self.vcpus,
             current_vcpus: self.current_vcpus,
-            os: self.os.copy()?,
+            os,
             on_poweroff: self.on_poweroff,
             on_reboot: self.on_reboot,
             on_crash: self.on_crash,
-            emulator: self.emulator.copy()?,
-            disks: self.disks.copy()?,
-            interfaces: self.interfaces.copy()?,
-            serials: self.serials.copy()?,
-            consoles: self.consoles.copy()?,
-            graphics: self.graphics.copy()?,
-            memballoon: self.memballoon.copy()?,
+            emulator,
+            disks,
+            interfaces,
+            serials,
+            consoles,
+            graphics,
+            memballoon,
         })
     }
 }

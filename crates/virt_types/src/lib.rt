@@ -26,8 +26,6 @@ mod run_state;
 mod script;
 mod status;
 mod storage_def;
-#[cfg(test)]
-mod tests;
 mod text;
 mod transition;
 mod value;

@@ -1,14 +1,15 @@
 // Copies of values with every field set: that each can be made, and its deepest parts. That a copy is
 // equal is proved.
-use super::fixtures;
-use crate::{
-    Ask, Call, Command, DeviceDef, Domain, DomainRef, DomainRequest, DomainRow, DomainState,
-    DomainTarget, ImageKind, LeaseRow, ListOf, NetworkRequest, NetworkTarget, NoMemory, Note,
-    OpKind, Phase, PoolDef, PoolRequest, PoolRow, PoolTarget, PoolType, Query, Reply, Request,
-    STARTED_BOOTED, SnapInfo, State, Status, Text, TryCopy, Value, VolDef, both,
-};
+use crate::fixtures;
 use std::alloc::Global;
 use std::test::Fail;
+use virt_types::{
+    Answer, AnswerValue, Ask, Call, Command, DeviceDef, Domain, DomainRef, DomainRequest,
+    DomainRow, DomainState, DomainTarget, ImageKind, LeaseRow, ListOf, NetworkRequest,
+    NetworkTarget, NoMemory, Note, OpKind, Phase, PoolDef, PoolRequest, PoolRow, PoolTarget,
+    PoolType, Query, Reply, Request, STARTED_BOOTED, SnapInfo, State, Status, Text, TryCopy, Value,
+    VolDef, both,
+};
 
 fn copied<T: TryCopy + Drop>(it: Result<T, NoMemory>) -> Result<T, NoMemory> {
     it?.copy()
@@ -155,6 +156,22 @@ fn calls_and_asks_are_copied(rt: HostRuntime) -> Result<(), Fail> {
         Ask::WriteImage { name, .. } => assert_eq!(rt; name.as_str(), "file"),
         _ => assert!(rt; false),
     }
+    Ok(())
+}
+
+fn copy_taken(alloc: Global) -> Result<Answer, NoMemory> {
+    Ok(Answer::Ok(AnswerValue::Bytes(fixtures::bytes(alloc)?)))
+}
+
+#[test]
+fn answers_are_copied(rt: HostRuntime) -> Result<(), Fail> {
+    match copied(copy_taken(rt.alloc()))? {
+        Answer::Ok(AnswerValue::Bytes(bytes)) => {
+            assert_eq!(rt; bytes.as_slice(), [7, 0, 255].as_slice());
+        }
+        _ => assert!(rt; false),
+    }
+    assert!(rt; is_copied(Ok(Answer::Refused(9))));
     Ok(())
 }
 

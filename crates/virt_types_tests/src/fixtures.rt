@@ -1,5 +1,6 @@
 // One value of each larger type, with every field set.
-use crate::{
+use std::alloc::Global;
+use virt_types::{
     AddressRange, BootDevice, Bytes, Cause, CharacterDevice, CrashAction, Dhcp, Disk, DiskDevice,
     DiskDriver, DiskSource, DiskTarget, DiskType, DomainDef, DomainType, EndReason, ForwardMode,
     Graphics, HostLine, Interface, InterfaceModel, InterfaceSource, InterfaceType, LifecycleAction,
@@ -7,21 +8,20 @@ use crate::{
     Phase, Refusal, RefusalCode, RunState, Script, ScriptAct, ScriptEntry, Snap, Text, Uuid, Who,
     both,
 };
-use std::alloc::Global;
 
-pub(super) fn text(alloc: Global, text: &str) -> Result<Text, NoMemory> {
+pub(crate) fn text(alloc: Global, text: &str) -> Result<Text, NoMemory> {
     Text::copy_of(alloc, text)
 }
 
-pub(super) fn some_text(alloc: Global, text: &str) -> Result<Option<Text>, NoMemory> {
+pub(crate) fn some_text(alloc: Global, text: &str) -> Result<Option<Text>, NoMemory> {
     Ok(Some(Text::copy_of(alloc, text)?))
 }
 
-pub(super) fn bytes(alloc: Global) -> Result<Bytes, NoMemory> {
+pub(crate) fn bytes(alloc: Global) -> Result<Bytes, NoMemory> {
     Bytes::copy_of(alloc, &[7, 0, 255])
 }
 
-pub(super) fn name(alloc: Global, text: &str) -> Result<Name, NoMemory> {
+pub(crate) fn name(alloc: Global, text: &str) -> Result<Name, NoMemory> {
     match Name::read(alloc, text.as_bytes()) {
         Ok(name) => Ok(name),
         Err(OrNoMemory::Fault(_)) => Err(NoMemory),
@@ -29,23 +29,23 @@ pub(super) fn name(alloc: Global, text: &str) -> Result<Name, NoMemory> {
     }
 }
 
-pub(super) fn uuid() -> Uuid {
+pub(crate) fn uuid() -> Uuid {
     Uuid::from_u128(1)
 }
 
-pub(super) fn mac() -> Mac {
+pub(crate) fn mac() -> Mac {
     Mac {
         bytes: [0x52, 0x54, 0, 1, 2, 3],
     }
 }
 
-pub(super) fn list<T: Drop>(alloc: Global, one: T) -> Result<ListOf<T>, NoMemory> {
+pub(crate) fn list<T: Drop>(alloc: Global, one: T) -> Result<ListOf<T>, NoMemory> {
     let mut list = ListOf::new(alloc);
     list.push(one)?;
     Ok(list)
 }
 
-pub(super) fn script(alloc: Global) -> Result<Script, NoMemory> {
+pub(crate) fn script(alloc: Global) -> Result<Script, NoMemory> {
     let entry = ScriptEntry::At {
         boot: 1,
         command: 2,
@@ -57,7 +57,7 @@ pub(super) fn script(alloc: Global) -> Result<Script, NoMemory> {
     })
 }
 
-pub(super) fn disk(alloc: Global) -> Result<Disk, NoMemory> {
+pub(crate) fn disk(alloc: Global) -> Result<Disk, NoMemory> {
     let driver = DiskDriver {
         name: some_text(alloc, "qemu")?,
         kind: some_text(alloc, "qcow2")?,
@@ -81,7 +81,7 @@ pub(super) fn disk(alloc: Global) -> Result<Disk, NoMemory> {
     })
 }
 
-pub(super) fn interface(alloc: Global) -> Result<Interface, NoMemory> {
+pub(crate) fn interface(alloc: Global) -> Result<Interface, NoMemory> {
     Ok(Interface {
         kind: InterfaceType::Bridge,
         mac: Some(mac()),
@@ -104,7 +104,7 @@ fn os(alloc: Global) -> Result<Os, NoMemory> {
     })
 }
 
-pub(super) fn definition(alloc: Global) -> Result<DomainDef, NoMemory> {
+pub(crate) fn definition(alloc: Global) -> Result<DomainDef, NoMemory> {
     Ok(DomainDef {
         kind: DomainType::Kvm,
         name: name(alloc, "web1")?,
@@ -149,7 +149,7 @@ fn graphics(alloc: Global) -> Result<Graphics, NoMemory> {
     })
 }
 
-pub(super) fn live(alloc: Global) -> Result<Live, NoMemory> {
+pub(crate) fn live(alloc: Global) -> Result<Live, NoMemory> {
     let (def, slots) = both(definition(alloc), list(alloc, 2))?;
     Ok(Live {
         boot: 3,
@@ -159,7 +159,7 @@ pub(super) fn live(alloc: Global) -> Result<Live, NoMemory> {
     })
 }
 
-pub(super) fn snapshot(alloc: Global) -> Result<Snap, NoMemory> {
+pub(crate) fn snapshot(alloc: Global) -> Result<Snap, NoMemory> {
     let names = both(name(alloc, "s2"), name(alloc, "s1"));
     let parts = both(definition(alloc), both(text(alloc, "why"), bytes(alloc)));
     let ((own, parent), (def, (description, saved))) = both(names, parts)?;
@@ -173,7 +173,7 @@ pub(super) fn snapshot(alloc: Global) -> Result<Snap, NoMemory> {
     })
 }
 
-pub(super) fn operation(alloc: Global) -> Result<Op, NoMemory> {
+pub(crate) fn operation(alloc: Global) -> Result<Op, NoMemory> {
     Ok(Op {
         kind: OpKind::Save,
         who: Who {
@@ -192,7 +192,7 @@ pub(super) fn operation(alloc: Global) -> Result<Op, NoMemory> {
     })
 }
 
-pub(super) fn network(alloc: Global) -> Result<NetDef, NoMemory> {
+pub(crate) fn network(alloc: Global) -> Result<NetDef, NoMemory> {
     let line = HostLine {
         mac: mac(),
         address: 0x0a00_0003,

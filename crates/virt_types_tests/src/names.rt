@@ -1,7 +1,7 @@
 // Names and kept texts, against rows written out by hand.
-use crate::{BadName, Name, NoMemory, OrNoMemory, Refusal, RefusalCode, Text, TryCopy};
 use std::alloc::Global;
 use std::test::Fail;
+use virt_types::{BadName, Name, NoMemory, OrNoMemory, Refusal, RefusalCode, Text, TryCopy};
 
 // Where the bytes are no name; none where they are one.
 fn place(alloc: Global, bytes: &[u8]) -> Result<Option<u64>, NoMemory> {

@@ -1,5 +1,5 @@
 // Numbers, messages and words of the wire, against the protocol's tables.
-use crate::{
+use virt_types::{
     DomainState, Front, ImageKind, OpKind, Phase, RefusalCode, SHUTDOWN_FINISHED, STARTED_BOOTED,
     STARTED_FROM_SNAPSHOT, STOPPED_SAVED, Transition,
 };

@@ -1,4 +1,0 @@
-mod copies;
-mod fixtures;
-mod names;
-mod numbers;
