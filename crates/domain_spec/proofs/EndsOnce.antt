@@ -109,7 +109,7 @@ phase_counted : (s : Standing) (o : Option OpenOperation) (answers : List Answer
 phase_counted s None answers next h = h
 phase_counted s (Some o) answers next h = stays_counted s.state (phase_of s.state o answers).state h (live_boot-phase s.state o answers) (after_phase_keeps s (Some o) answers next)
 
-mark_counted : (s : Standing) (m : Mark ℕ) → IsCounted s → IsCounted (after s m)
+pub mark_counted : (s : Standing) (m : Mark ℕ) → IsCounted s → IsCounted (after s m)
 mark_counted s (mark.Done n who c boot asks answers r events) h = stays_counted s.state (seq s.state c boot answers).state h (live_boot-seq s.state c boot answers) (boots_of-seq s.state c boot answers)
 mark_counted s (mark.Start n who c boot) h = begins_counted s.state (begin_state s.state who c) h (live_boot-begin s.state who c)
 mark_counted s (mark.Phase n who p asks answers next events) h = phase_counted s s.operation answers next h

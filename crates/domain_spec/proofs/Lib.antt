@@ -2,6 +2,7 @@ pub mod BootsProofs
 pub mod EndsOnce
 pub mod ExitProofs
 pub mod LawProofs
+pub mod NewBoots
 pub mod OwedProofs
 pub mod OpenProofs
 pub mod PhaseBoots

@@ -5,11 +5,11 @@ use Rattle.domain_spec.specs.declared.mark.Mark.{Mark}
 use Rattle.domain_spec.specs.declared.mark.Mark.TheVariants as mark
 use Rattle.domain_spec.specs.declared.standing.Base.{Base}
 use Rattle.domain_spec.specs.declared.standing.Standing.{Standing}
-use Rattle.domain_spec.specs.Fold.{at_base, standing}
+use Rattle.domain_spec.specs.Fold.{after, at_base, standing}
 use Rattle.domain_spec.specs.Legal.{IsLegal}
 use Rattle.domain_spec.specs.Owed.{all_transitions, owed}
 use Rattle.domain_spec.specs.Open.{IsKnownBoot}
-use Rattle.domain_spec.specs.Reading.{boots_of, live_boot}
+use Rattle.domain_spec.specs.Reading.{boots_of, is_live, live_boot}
 use Rattle.domain_spec.specs.CallResult.{refused}
 use Rattle.domain_spec.specs.Sequential.{meets_ended, seq}
 use Rattle.domain_spec.specs.Tests.{refusal_of}
@@ -101,3 +101,22 @@ IsRising (n ∷ ns) = RiseAbove n ns
 -- boots end in the order of their numbers, so none ends twice
 abbrev pub EachEndsOnce : Type 0
 EachEndsOnce = (b : Base) (marks : List (Mark ℕ)) → IsCounted (at_base b) → IsLegal (at_base b) marks → IsRising (ended_boots marks)
+
+abbrev pub unless_live : Bool → ℕ → List ℕ
+unless_live true boot = []
+unless_live false boot = boot ∷ []
+
+-- a boot that is live now and was not before
+abbrev pub made_in : State → Option ℕ → List ℕ
+made_in before None = []
+made_in before (Some boot) = unless_live (is_live before boot) boot
+
+-- the boots that a history makes, in order
+abbrev pub boots_made : Standing → List (Mark ℕ) → List ℕ
+boots_made s [] = []
+boots_made s (m ∷ marks) = made_in s.state (live_boot (after s m).state) ++ boots_made (after s m) marks
+
+-- each boot that a history makes has a number above all that were given out before it, so none
+-- comes twice and none that has ended comes again
+abbrev pub BootsAreNew : Type 0
+BootsAreNew = (s : Standing) (marks : List (Mark ℕ)) → IsCounted s → RiseAbove (boots_of s.state) (boots_made s marks)

@@ -1,5 +1,5 @@
 // Laws of the definitions: each function's contract is one, and its body does nothing.
-ghost use Rattle.domain_spec.specs.Laws.{BeginningIsLegal, BootsNeverFall, EachEndsOnce, OneJobAtATime, OneOperationAtATime, OwedInOrder, PartsAreLegal, PartsFollow, RefusalChangesNothing};
+ghost use Rattle.domain_spec.specs.Laws.{BeginningIsLegal, BootsAreNew, BootsNeverFall, EachEndsOnce, OneJobAtATime, OneOperationAtATime, OwedInOrder, PartsAreLegal, PartsFollow, RefusalChangesNothing};
 
 /// The state of a history is that of its parts, one after the other.
 pub fn parts_follow()
@@ -39,6 +39,11 @@ pub fn one_operation_at_a_time()
 /// The number of boots never falls.
 pub fn boots_never_fall()
     ensures { BootsNeverFall }
+{}
+
+/// Each boot that a history makes has a number that was never given out before.
+pub fn boots_are_new()
+    ensures { BootsAreNew }
 {}
 
 /// In a legal history boots end in the order of their numbers, so none ends twice.

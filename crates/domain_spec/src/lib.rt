@@ -1,6 +1,7 @@
 //! What a domain does, call by call, and which histories are lawful: the definitions in `specs/`.
 #![tactic(auto)]
 
+mod core_step;
 mod laws;
 mod loaded;
 mod mark;
@@ -11,8 +12,9 @@ mod standing;
 mod step;
 mod testing;
 
+pub use core_step::{CoreStep, First};
 pub use laws::{
-    beginning_is_legal, boots_never_fall, each_boot_ends_once, one_job_at_a_time,
+    beginning_is_legal, boots_are_new, boots_never_fall, each_boot_ends_once, one_job_at_a_time,
     one_operation_at_a_time, owed_in_order, parts_are_legal, parts_follow, refusal_changes_nothing,
 };
 pub use loaded::Loaded;
