@@ -10,3 +10,15 @@ pub mod Element
 pub mod Text
 pub mod Writable
 pub mod Written
+pub mod Units
+pub mod Vocabulary
+pub mod Words
+pub mod Look
+pub mod MacText
+pub mod GuestScript
+pub mod Content
+pub mod Table
+pub mod DeviceText
+pub mod DeviceList
+pub mod DomainValue
+pub mod DomainText
