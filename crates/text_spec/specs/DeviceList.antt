@@ -1,5 +1,6 @@
 -- Devices one after another: each by the table of its kind, and none with the key of another.
-use Rattle.std.specs.Prelude.{ℕ, List, [], ◌∷◌, ◌++◌, Option, Some, None, Result, Err, option_map, if◌then◌else◌}
+use Rattle.std.specs.Prelude.{ℕ, List, [], ◌∷◌, ◌++◌, Option, Some, None, Result, Err, map, option_map, if◌then◌else◌}
+use Rattle.std.specs.Char.{to_ascii_lowercase}
 use Rattle.std.specs.Option.{option_or}
 use Rattle.virt_types.specs.declared.device_def.DeviceDef.{DeviceDef}
 use Rattle.virt_types.specs.declared.device_def.DeviceDef.TheVariants as device
@@ -10,13 +11,14 @@ use Rattle.text_spec.specs.declared.device_kind.DeviceKind.TheVariants as of
 use Rattle.text_spec.specs.declared.row.Row.{Row}
 use Rattle.text_spec.specs.declared.vocabulary.ElementName.{ElementName}
 use Rattle.text_spec.specs.declared.vocabulary.ElementName.TheVariants as element
-use Rattle.text_spec.specs.DeviceText.{disk_rows, disk_of, target_dev, interface_rows, interface_of, mac_in}
+use Rattle.text_spec.specs.DeviceText.{disk_rows, disk_of, target_dev, interface_rows, interface_of, mac_address}
 use Rattle.text_spec.specs.Look.{is_element}
 use Rattle.text_spec.specs.Table.{fault_at, rows_fault, root_fault, told}
 use Rattle.text_spec.specs.Tag.{is_among}
 use Rattle.text_spec.specs.Tree.{Tree}
 
--- the element of a kind, its table, and its key with the element in which that stands
+-- the element of a kind, its table, and its key with the element in which that stands; of a MAC
+-- address the case of the letters says nothing
 abbrev pub element_for : DeviceKind → ElementName
 element_for of.Disk = element.Disk
 element_for of.Interface = element.Interface
@@ -31,7 +33,7 @@ key_element of.Interface = element.Mac
 
 unfoldable pub key_in : DeviceKind → Tree → Option (List ℕ)
 key_in of.Disk t = target_dev t
-key_in of.Interface t = option_map (λ mac. mac.bytes) (mac_in t)
+key_in of.Interface t = option_map (λ text. map to_ascii_lowercase text) (mac_address t)
 
 -- a key that an earlier device has
 abbrev pub key_fault : DeviceKind → List ElementName → List (List ℕ) → Option (List ℕ) → Option DefFault

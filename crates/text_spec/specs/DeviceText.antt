@@ -91,8 +91,11 @@ abbrev pub interface_model_of : Tree → InterfaceModel
 interface_model_of t = record { kind = attribute_of attribute.Type t }
 
 -- by what an interface is told apart
+abbrev pub mac_address : Tree → Option (List ℕ)
+mac_address t = value_at (place.Child element.Mac) (source.Attribute attribute.Address) t
+
 abbrev pub mac_in : Tree → Option Mac
-mac_in t = option_and_then mac_of (value_at (place.Child element.Mac) (source.Attribute attribute.Address) t)
+mac_in t = option_and_then mac_of (mac_address t)
 
 -- the interface that an element without a fault is; its type is needed
 unfoldable pub interface_of : Tree → Interface

@@ -28,10 +28,10 @@ text_of (element name attributes text children) = text
 abbrev pub pairs_of : Tree → List Pair
 pairs_of (element name attributes text children) = attributes
 
-abbrev pub is_element : ElementName → Tree → Bool
+unfoldable pub is_element : ElementName → Tree → Bool
 is_element n t = bytes_eq (name_of t) (element_word n)
 
-abbrev pub is_attribute : AttributeName → Pair → Bool
+unfoldable pub is_attribute : AttributeName → Pair → Bool
 is_attribute n p = bytes_eq p.name (attribute_word n)
 
 -- the value of an attribute of one

@@ -1,0 +1,4 @@
+mod Digits
+mod Parsed
+mod Pieces
+mod WordLists
