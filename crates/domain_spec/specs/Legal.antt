@@ -1,5 +1,5 @@
 -- Which histories are legal: each mark is lawful after the marks before it.
-use Rattle.std.specs.Prelude.{◌≡◌, ℕ, ◌+◌, ◌^◌, ◌<◌, ◌≤◌, ◌⊎◌, List, [], ◌∷◌, find, true, false, Option, None, Some}
+use Rattle.std.specs.Prelude.{◌≡◌, ℕ, ◌+◌, ◌^◌, ◌<◌, ◌≤◌, ◌⊎◌, List, [], ◌∷◌, find, take, slice_get, true, false, Option, None, Some}
 use Rattle.std.specs.List.{list_any}
 use Rattle.domain_spec.specs.Types.reason
 use Rattle.domain_spec.specs.declared.mark.Mark.{Mark}
@@ -7,7 +7,7 @@ use Rattle.domain_spec.specs.declared.mark.Mark.TheVariants as mark
 use Rattle.domain_spec.specs.declared.standing.Client.{Client}
 use Rattle.domain_spec.specs.declared.standing.Standing.{Standing}
 use Rattle.domain_spec.specs.Exit.{event_transitions, exit_transitions}
-use Rattle.domain_spec.specs.Fold.{after, is_client}
+use Rattle.domain_spec.specs.Fold.{after, is_client, standing}
 use Rattle.domain_spec.specs.Lawful.{IsAdmitted, IsDone, IsEnded, IsPhased, IsRefused, IsStarted}
 use Rattle.domain_spec.specs.Reading.{is_live}
 
@@ -59,3 +59,12 @@ pub record IsLawful (s : Standing) (m : Mark ℕ) : Type 0 where
 abbrev pub IsLegal : Standing → List (Mark ℕ) → Type 0
 IsLegal s [] = Unit {0}
 IsLegal s (m ∷ marks) = IsLawful s m × IsLegal (after s m) marks
+
+abbrev pub IsUnlawful : Standing → Option (Mark ℕ) → Type 0
+IsUnlawful s None = ⊥
+IsUnlawful s (Some m) = IsLawful s m → ⊥
+
+-- the first mark that is not lawful stands at this place
+pub record IsFirstFault (s : Standing) (marks : List (Mark ℕ)) (place : ℕ) : Type 0 where
+  pub before : IsLegal s (take place marks)
+  pub fault : IsUnlawful (standing s (take place marks)) (slice_get marks place)

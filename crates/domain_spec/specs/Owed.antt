@@ -1,5 +1,5 @@
 -- What a listener is owed: the transitions after its registration, in order, up to its end.
-use Rattle.std.specs.Prelude.{ℕ, ◌-◌, ◌==◌, List, [], ◌∷◌, ◌++◌, take, true, false, if◌then◌else◌, flat_map}
+use Rattle.std.specs.Prelude.{ℕ, ◌+◌, ◌-◌, ◌==◌, List, [], ◌∷◌, ◌++◌, take, drop, slice_get, true, false, if◌then◌else◌, flat_map, Option, None, Some}
 use Rattle.domain_spec.specs.Types.{Transition}
 use Rattle.domain_spec.specs.declared.mark.Mark.{Mark}
 use Rattle.domain_spec.specs.declared.mark.Mark.TheVariants as mark
@@ -28,6 +28,15 @@ owed_from client taken events (m ∷ marks) = owed_from client taken (events ++ 
 -- what a client is owed, by the marks after its Watch
 abbrev pub owed : ℕ → List (Mark ℕ) → Owed
 owed client marks = owed_from client 0 [] marks
+
+-- what the registration is owed that this mark made, by the marks after it
+abbrev pub owed_after : Option (Mark ℕ) → List (Mark ℕ) → Option Owed
+owed_after (Some (mark.Watch number client)) later = Some (owed client later)
+owed_after other later = None
+
+-- what the registration is owed whose Watch stands at this place of a history
+abbrev pub owed_since : List (Mark ℕ) → ℕ → Option Owed
+owed_since marks place = owed_after (slice_get marks place) (drop (place + 1) marks)
 
 -- what a registration of a chapter's base is owed, by the marks of the chapter: first what pends
 abbrev pub owed_at_base : Registration → List (Mark ℕ) → Owed
