@@ -8,8 +8,11 @@ mod call;
 mod definition;
 mod device;
 mod domain;
+mod object;
 mod parts;
 mod plain;
+mod request;
+mod told;
 mod value;
 
 pub use parts::Same;

@@ -17,6 +17,12 @@ impl Same for u32 {
     }
 }
 
+impl Same for i32 {
+    fn same(&self, other: &i32) -> bool {
+        *self == *other
+    }
+}
+
 impl Same for u64 {
     fn same(&self, other: &u64) -> bool {
         *self == *other

@@ -1,6 +1,7 @@
 // Copies of values with every field set: that each can be made, and its deepest parts. That a copy is
 // equal is proved.
 use crate::fixtures;
+use same::Same;
 use std::alloc::Global;
 use std::test::Fail;
 use virt_types::{
@@ -15,8 +16,9 @@ fn copied<T: TryCopy + Drop>(it: Result<T, NoMemory>) -> Result<T, NoMemory> {
     it?.copy()
 }
 
-fn is_copied<T: TryCopy + Drop>(it: Result<T, NoMemory>) -> bool {
-    copied(it).is_ok()
+fn is_copied<T: TryCopy + Same + Drop>(it: Result<T, NoMemory>) -> Result<bool, NoMemory> {
+    let it = it?;
+    Ok(it.copy()?.same(&it))
 }
 
 #[test]
@@ -31,11 +33,11 @@ fn a_definition_keeps_its_parts(rt: HostRuntime) -> Result<(), Fail> {
         }
         _ => assert!(rt; false),
     }
-    assert!(rt; is_copied(fixtures::network(rt.alloc())));
-    assert!(rt; is_copied(fixtures::disk(rt.alloc()).map(DeviceDef::Disk)));
-    assert!(rt; is_copied(fixtures::interface(rt.alloc()).map(DeviceDef::Interface)));
-    assert!(rt; is_copied(pool(rt.alloc())));
-    assert!(rt; is_copied(volume(rt.alloc())));
+    assert!(rt; is_copied(fixtures::network(rt.alloc()))?);
+    assert!(rt; is_copied(fixtures::disk(rt.alloc()).map(DeviceDef::Disk))?);
+    assert!(rt; is_copied(fixtures::interface(rt.alloc()).map(DeviceDef::Interface))?);
+    assert!(rt; is_copied(pool(rt.alloc()))?);
+    assert!(rt; is_copied(volume(rt.alloc()))?);
     Ok(())
 }
 
@@ -89,8 +91,8 @@ fn a_domain_keeps_its_parts(rt: HostRuntime) -> Result<(), Fail> {
     }
     let again = copied(fixtures::snapshot(rt.alloc()))?;
     assert_eq!(rt; again.saved.as_slice(), [7, 0, 255].as_slice());
-    assert!(rt; is_copied(fixtures::live(rt.alloc())));
-    assert!(rt; is_copied(domain(rt.alloc()).map(State::Held)));
+    assert!(rt; is_copied(fixtures::live(rt.alloc()))?);
+    assert!(rt; is_copied(domain(rt.alloc()).map(State::Held))?);
     Ok(())
 }
 
@@ -148,10 +150,10 @@ fn calls_and_asks_are_copied(rt: HostRuntime) -> Result<(), Fail> {
         Call::Restore { saved, .. } => assert_eq!(rt; saved.len(), 3),
         _ => assert!(rt; false),
     }
-    assert!(rt; is_copied(info(rt.alloc()).map(Call::Snapshot)));
-    assert!(rt; is_copied(fixtures::name(rt.alloc(), "s").map(Query::SnapText)));
-    assert!(rt; is_copied(add_device(rt.alloc()).map(Ask::Command)));
-    assert!(rt; is_copied(lease(rt.alloc())));
+    assert!(rt; is_copied(info(rt.alloc()).map(Call::Snapshot))?);
+    assert!(rt; is_copied(fixtures::name(rt.alloc(), "s").map(Query::SnapText))?);
+    assert!(rt; is_copied(add_device(rt.alloc()).map(Ask::Command))?);
+    assert!(rt; is_copied(lease(rt.alloc()))?);
     match copied(image(rt.alloc()))? {
         Ask::WriteImage { name, .. } => assert_eq!(rt; name.as_str(), "file"),
         _ => assert!(rt; false),
@@ -171,7 +173,7 @@ fn answers_are_copied(rt: HostRuntime) -> Result<(), Fail> {
         }
         _ => assert!(rt; false),
     }
-    assert!(rt; is_copied(Ok(Answer::Refused(9))));
+    assert!(rt; is_copied(Ok(Answer::Refused(9)))?);
     Ok(())
 }
 
@@ -225,9 +227,9 @@ fn requests_are_copied(rt: HostRuntime) -> Result<(), Fail> {
         Request::OnDomain { domain, .. } => assert_eq!(rt; domain.id, 7),
         _ => assert!(rt; false),
     }
-    assert!(rt; is_copied(on_network(rt.alloc())));
-    assert!(rt; is_copied(on_pool(rt.alloc())));
-    assert!(rt; is_copied(fixtures::some_text(rt.alloc(), "qemu:///system").map(open)));
+    assert!(rt; is_copied(on_network(rt.alloc()))?);
+    assert!(rt; is_copied(on_pool(rt.alloc()))?);
+    assert!(rt; is_copied(fixtures::some_text(rt.alloc(), "qemu:///system").map(open))?);
     Ok(())
 }
 
@@ -283,9 +285,9 @@ fn values_are_copied(rt: HostRuntime) -> Result<(), Fail> {
         Value::Reference(row) => assert_eq!(rt; row.domain.id, -1),
         _ => assert!(rt; false),
     }
-    assert!(rt; is_copied(leases(rt.alloc()).map(Reply::Ok)));
-    assert!(rt; is_copied(pool_row(rt.alloc())));
-    assert!(rt; is_copied(status(rt.alloc())));
-    assert!(rt; is_copied(event(rt.alloc())));
+    assert!(rt; is_copied(leases(rt.alloc()).map(Reply::Ok))?);
+    assert!(rt; is_copied(pool_row(rt.alloc()))?);
+    assert!(rt; is_copied(status(rt.alloc()))?);
+    assert!(rt; is_copied(event(rt.alloc()))?);
     Ok(())
 }
