@@ -1,0 +1,19 @@
+//! The trees that definitions stand for: how a definition is spelled.
+#![tactic(auto)]
+
+mod absent;
+mod attributes;
+mod device;
+mod device_elements;
+mod devices;
+mod domain;
+mod elements;
+mod general;
+mod mac;
+mod system;
+mod vocabulary;
+mod words;
+
+pub use absent::Absent;
+pub use device::device_tree;
+pub use domain::domain_tree;

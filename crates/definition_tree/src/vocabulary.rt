@@ -1,0 +1,68 @@
+// The names of elements and attributes.
+ghost use Rattle.std.specs.Prelude.{◌≡◌};
+ghost use Rattle.text_spec.specs.Vocabulary.{element_word, attribute_word};
+
+use text_spec::{AttributeName, ElementName};
+
+/// The name of an element.
+pub(crate) fn element_name(element: ElementName) -> &'static str
+    ensures { result.now ≡ element_word element }
+{
+    match element {
+        ElementName::Domain => "domain",
+        ElementName::Name => "name",
+        ElementName::Uuid => "uuid",
+        ElementName::Title => "title",
+        ElementName::Description => "description",
+        ElementName::Metadata => "metadata",
+        ElementName::Guest => "guest",
+        ElementName::Memory => "memory",
+        ElementName::CurrentMemory => "currentMemory",
+        ElementName::Vcpu => "vcpu",
+        ElementName::Os => "os",
+        ElementName::Type => "type",
+        ElementName::Boot => "boot",
+        ElementName::OnPoweroff => "on_poweroff",
+        ElementName::OnReboot => "on_reboot",
+        ElementName::OnCrash => "on_crash",
+        ElementName::Devices => "devices",
+        ElementName::Emulator => "emulator",
+        ElementName::Disk => "disk",
+        ElementName::Interface => "interface",
+        ElementName::Serial => "serial",
+        ElementName::Console => "console",
+        ElementName::Graphics => "graphics",
+        ElementName::Memballoon => "memballoon",
+        ElementName::Driver => "driver",
+        ElementName::Source => "source",
+        ElementName::Target => "target",
+        ElementName::Readonly => "readonly",
+        ElementName::Mac => "mac",
+        ElementName::Model => "model",
+    }
+}
+
+/// The name of an attribute.
+pub(crate) fn attribute_name(attribute: AttributeName) -> &'static str
+    ensures { result.now ≡ attribute_word attribute }
+{
+    match attribute {
+        AttributeName::Type => "type",
+        AttributeName::Unit => "unit",
+        AttributeName::Current => "current",
+        AttributeName::Arch => "arch",
+        AttributeName::Machine => "machine",
+        AttributeName::Dev => "dev",
+        AttributeName::Device => "device",
+        AttributeName::Name => "name",
+        AttributeName::File => "file",
+        AttributeName::Pool => "pool",
+        AttributeName::Volume => "volume",
+        AttributeName::Bus => "bus",
+        AttributeName::Address => "address",
+        AttributeName::Network => "network",
+        AttributeName::Bridge => "bridge",
+        AttributeName::Port => "port",
+        AttributeName::Model => "model",
+    }
+}

@@ -1,0 +1,54 @@
+-- How the parts of a definition stand in its tree: attributes, elements, and what is absent.
+use Rattle.std.specs.Prelude.{ℕ, ◌/◌, ◌%◌, List, [], ◌∷◌, map, Option, option_map, if◌then◌else◌, Bool}
+use Rattle.std.specs.Option.{option_to_list}
+use Rattle.std.specs.List.{join_with_byte}
+use Rattle.std.specs.Char.{digit_char}
+use Rattle.virt_types.specs.declared.mac.Mac.{Mac}
+use Rattle.text_spec.specs.declared.pair.Pair.{Pair}
+use Rattle.text_spec.specs.declared.vocabulary.AttributeName.{AttributeName}
+use Rattle.text_spec.specs.declared.vocabulary.ElementName.{ElementName}
+use Rattle.text_spec.specs.Tree.{Tree, element, trees}
+use Rattle.text_spec.specs.Vocabulary.{element_word, attribute_word}
+
+-- an attribute with its value
+abbrev pub pair : AttributeName → List ℕ → Pair
+pair n value = record { name = attribute_word n; value = value }
+
+-- the same, where there is a value
+abbrev pub pairs : AttributeName → Option (List ℕ) → List Pair
+pairs n value = option_to_list (option_map (pair n) value)
+
+-- an element with a text and other elements
+abbrev pub filled : ElementName → List Pair → List ℕ → List Tree → Tree
+filled n attributes text children = element (element_word n) attributes text (trees children)
+
+-- one with attributes alone
+abbrev pub tagged : ElementName → List Pair → Tree
+tagged n attributes = filled n attributes [] []
+
+-- one with a text
+abbrev pub worded : ElementName → List Pair → List ℕ → Tree
+worded n attributes text = filled n attributes text []
+
+-- one with other elements in it
+abbrev pub holding : ElementName → List Pair → List Tree → Tree
+holding n attributes children = filled n attributes [] children
+
+-- the element of what is there
+abbrev pub present : {A : Type 0} → (A → Tree) → Option A → List Tree
+present tree_of part = option_to_list (option_map tree_of part)
+
+-- an element that stands where this is so
+abbrev pub flagged : ElementName → Bool → List Tree
+flagged n flag = if flag then tagged n [] ∷ [] else []
+
+-- a byte as two hexadecimal digits
+abbrev pub byte_text : ℕ → List ℕ
+byte_text byte = digit_char (byte / 16) ∷ digit_char (byte % 16) ∷ []
+
+-- an address as pairs of small hexadecimal digits, with colons between them (IEEE 802, EUI-48)
+abbrev pub colon : ℕ
+colon = 58
+
+unfoldable pub mac_text : Mac → List ℕ
+mac_text mac = join_with_byte colon (map byte_text mac.bytes)
