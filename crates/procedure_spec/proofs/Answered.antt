@@ -124,3 +124,12 @@ has_result h payload asked v is shaped = record {
   built = is.built;
   shaped = subst (λ (s : ResultShape). HasShape v s) (sym (line_result h.prog h.procedure is.row is.line is.built ∙ answered_shape asked is.row.procedure is.procedure)) shaped;
 }
+
+same_row : (a b : Row) → (let o : Option Row = Some a in o ≡ Some b) → a ≡ b
+same_row a b e = cc
+
+-- and one that answers a call has the shape of its request's reply
+pub result_shaped : (h : Header) (payload : List ℕ) (asked : Request) (v : Value) → IsCall h payload asked → HasResult h v → HasShape v (result_shape asked)
+result_shaped h payload asked v is has =
+    let row : has.row ≡ is.row = same_row has.row is.row (sym has.line ∙ is.line) in
+    subst (λ (s : ResultShape). HasShape v s) (ap (λ (r : Row). r.result) row ∙ (line_result h.prog h.procedure is.row is.line is.built ∙ answered_shape asked is.row.procedure is.procedure)) has.shaped

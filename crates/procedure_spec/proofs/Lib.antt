@@ -1,6 +1,13 @@
 pub mod Answered
+pub mod Answers
 pub mod Called
+pub mod Codes
+pub mod Found
 pub mod Messages
+pub mod NameParts
+pub mod Parts
+pub mod Refusals
 pub mod Requests
 pub mod Targets
+pub mod Told
 pub mod Written

@@ -1,8 +1,9 @@
 -- The payload of an error (libvirt's `virNetMessageError`, src/rpc/virnetprotocol.x).
-use Rattle.std.specs.Prelude.{ℕ, ◌<◌, ◌^◌, List, [], ◌∷◌, ◌++◌, length, Option, None, Some}
+use Rattle.std.specs.Prelude.{◌≡◌, ℕ, List, [], ◌∷◌, ◌++◌, Option, None, Some}
 use Rattle.virt_types.specs.Refusal.{refusal_message, refusal_number}
 use Rattle.virt_types.specs.declared.refusal.Refusal.{Refusal}
-use Rattle.wire_spec.specs.Xdr.{opaque, optional, word}
+use Rattle.wire_spec.specs.Xdr.{IsString, opaque, optional, word}
+use Rattle.procedure_spec.specs.Arguments.{packet_bound}
 
 -- a kept text stands there where it is not empty
 abbrev pub kept_string : List ℕ → Option (List ℕ)
@@ -24,3 +25,8 @@ error_payload code message kept = head code message ++ optional opaque (kept_str
 -- the payload of the error that tells a refusal
 abbrev pub refusal_payload : Refusal → List ℕ
 refusal_payload r = error_payload (refusal_number r.code) (refusal_message r.code) r.kept
+
+-- the payload is that of the error that tells this refusal
+pub record IsErrorOf (payload : List ℕ) (r : Refusal) : Type 0 where
+  pub kept : IsString packet_bound r.kept
+  pub spelled : payload ≡ refusal_payload r

@@ -1,7 +1,11 @@
 pub mod Arguments
 pub mod ArgumentsReading
 pub mod Calls
+pub mod Codes
 pub mod Errors
+pub mod ErrorsReading
 pub mod Faults
 pub mod Procedures
+pub mod Reading
 pub mod Results
+pub mod ResultsReading

@@ -1,6 +1,7 @@
 -- What replies carry, as their payloads spell it.
-use Rattle.std.specs.Prelude.{◌≡◌, ◌≤◌, ◌^◌, ◌<◌, ℕ, All, List, [], ◌++◌, length, Some, true}
-use Rattle.std.specs.List.{flat_map}
+use Rattle.std.specs.Prelude.{◌≡◌, ◌≤◌, ◌^◌, ◌<◌, ℕ, List, [], ◌++◌, length, IsSome, Some, true}
+use Rattle.std.specs.List.{AllByRecursion, flat_map}
+use Rattle.virt_types.specs.Name.{IsName}
 use Rattle.virt_types.specs.declared.reference.DomainRef.{DomainRef}
 use Rattle.virt_types.specs.declared.object_request.DomainRequest.{DomainRequest}
 use Rattle.virt_types.specs.declared.object_request.DomainRequest.TheVariants as on_domain
@@ -8,8 +9,9 @@ use Rattle.virt_types.specs.declared.request.Request.{Request}
 use Rattle.virt_types.specs.declared.request.Request.TheVariants as request
 use Rattle.virt_types.specs.declared.value.Value.{Value}
 use Rattle.virt_types.specs.declared.value.Value.TheVariants as value
-use Rattle.wire_spec.specs.Xdr.{IsInteger, fixed, integer, opaque, word}
+use Rattle.wire_spec.specs.Xdr.{IsInteger, IsString, fixed, integer, opaque, word}
 use Rattle.wire_spec.specs.declared.message.Header.{Header}
+use Rattle.procedure_spec.specs.Arguments.{packet_bound, procedure_of}
 use Rattle.procedure_spec.specs.Procedures.{row_of}
 use Rattle.procedure_spec.specs.declared.procedure.ResultShape.{ResultShape}
 use Rattle.procedure_spec.specs.declared.procedure.ResultShape.TheVariants as shape
@@ -42,6 +44,19 @@ HasShape (value.Text t) s = (s ≡ shape.Text) × (length t < 2 ^ 32)
 HasShape (value.Names ns) s = (s ≡ shape.Names) × (length ns ≤ names_bound)
 HasShape _ s = ⊥
 
+-- the domain has a spelling
+pub record IsReference (d : DomainRef) : Type 0 where
+  pub name : IsName d.name
+  pub uuid : length d.uuid ≡ 16
+  pub id : IsInteger d.id
+
+-- the parts of the value have a spelling
+abbrev pub HasParts : Value → Type 0
+HasParts (value.Domain d) = IsReference d
+HasParts (value.Text t) = IsString packet_bound t
+HasParts (value.Names ns) = AllByRecursion IsName ns
+HasParts _ = Unit {0}
+
 -- what the reply to a request carries, of those that are built
 abbrev pub domain_result : DomainRequest → ResultShape
 domain_result (on_domain.GetXmlDesc flags) = shape.Text
@@ -61,6 +76,13 @@ pub record HasResult (h : Header) (v : Value) : Type 0 where
   pub line : row_of h.prog h.procedure ≡ Some row
   pub built : row.built ≡ true
   pub shaped : HasShape v row.result
+
+-- the payload is that of the reply to the request with this value
+pub record IsAnswer (asked : Request) (payload : List ℕ) (v : Value) : Type 0 where
+  pub built : IsSome (procedure_of asked)
+  pub shaped : HasShape v (result_shape asked)
+  pub parts : HasParts v
+  pub spelled : payload ≡ result v
 
 -- the header of a reply to a call: its own words, but for kind and status
 abbrev pub reply_header : Header → ℕ → Header
