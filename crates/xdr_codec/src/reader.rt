@@ -1,5 +1,5 @@
 // Reading items from the front of a payload.
-ghost use Rattle.std.specs.Prelude.{◌≡◌, ◌≤◌, ◌-◌, ◌^◌, [], length, IsOk, IfErr, ◌↔◌};
+ghost use Rattle.std.specs.Prelude.{◌≡◌, ◌+◌, ◌≤◌, ◌<◌, ◌-◌, ◌^◌, [], length, IsOk, IfErr, ◌↔◌};
 ghost use Rattle.wire_spec.specs.declared.fault.XdrFault.TheVariants.{Extra};
 ghost use Rattle.wire_spec.specs.Xdr.{IsDoubleWord, IsInteger, IsString, IsTruth, IsWord, double_word, fixed, integer, opaque, truth, word};
 ghost use Rattle.wire_spec.specs.XdrAnswer.{Answers, AnswersOrNoMemory, Reads, ReadsOrNoMemory};
@@ -72,6 +72,14 @@ impl<'a> Reader<'a> {
         Reader {
             rest: Rest { bytes, place: 0 },
         }
+    }
+
+    /// The place of the first byte that is left.
+    pub fn place(&self) -> u64
+        ensures place { result ≡ self.now.place }
+        ensures fits { self.now.place + length self.now.bytes < 2 ^ 64 }
+    {
+        self.rest.place
     }
 
     /// Takes an unsigned integer (RFC 4506, 4.2).

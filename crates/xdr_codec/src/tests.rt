@@ -160,6 +160,7 @@ fn tells_places_behind_the_first_item(rt: HostRuntime) -> Result<(), Fail> {
     assert_eq!(rt; reader.take_optional(), Err(XdrFault::Flag { at: 0 }));
     assert_eq!(rt; reader.take_u32()?, 2);
     assert!(rt; reader.take_optional()?);
+    assert_eq!(rt; reader.place(), 8);
     assert_eq!(rt; reader.take_u32(), Err(XdrFault::Short { at: 8 }));
     assert_eq!(rt; reader.take_u64(), Err(XdrFault::Short { at: 8 }));
     assert_eq!(rt; reader.end(), Err(XdrFault::Extra { at: 8 }));
