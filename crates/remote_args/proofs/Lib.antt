@@ -1,2 +1,4 @@
 pub mod CallLines
+pub mod Holding
+pub mod NameLists
 pub mod Written

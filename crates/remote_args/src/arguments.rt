@@ -4,8 +4,9 @@ ghost use Rattle.wire_spec.specs.XdrReading.{first_fixed, first_optional, first_
 ghost use Rattle.procedure_spec.specs.Arguments.{IsString, packet_bound};
 ghost use Rattle.procedure_spec.specs.ArgumentsReading.{first_close, first_define, first_get_xml, first_list_defined, first_lookup_by_name, first_lookup_by_uuid, first_open, first_target, request_in};
 ghost use Rattle.procedure_spec.specs.Calls.{Finds};
-ghost use Rattle.remote_args.specs.Steps.{Lifts, Walks};
+ghost use Rattle.remote_args.specs.Steps.{Walks};
 
+use crate::item::lifted;
 use procedure_spec::{ArgFault, Procedure};
 use std::alloc::Global;
 use virt_types::{DomainRequest, DomainTarget, OrNoMemory, Request, Text, Uuid};
@@ -35,7 +36,10 @@ pub(crate) fn optional_name(
     }
 }
 
-fn identifier(alloc: Global, reader: &mut Reader<'_>) -> Result<Uuid, OrNoMemory<XdrFault>>
+pub(crate) fn identifier(
+    alloc: Global,
+    reader: &mut Reader<'_>,
+) -> Result<Uuid, OrNoMemory<XdrFault>>
     ensures { Walks (first_fixed 16) reader.old result reader.new }
 {
     let bytes = reader.take_fixed(alloc, 16)?;
@@ -128,17 +132,6 @@ fn lookup_by_uuid(alloc: Global, payload: &[u8]) -> Result<Request, OrNoMemory<X
     let uuid = identifier(alloc, &mut reader)?;
     reader.end().map_err(OrNoMemory::Fault)?;
     Ok(Request::DomainLookupByUuid { uuid })
-}
-
-// A fault of an item as a fault of a call.
-fn lifted(read: Result<Request, OrNoMemory<XdrFault>>) -> Result<Request, OrNoMemory<ArgFault>>
-    ensures { Lifts read result }
-{
-    match read {
-        Ok(request) => Ok(request),
-        Err(OrNoMemory::Fault(fault)) => Err(OrNoMemory::Fault(ArgFault::Xdr(fault))),
-        Err(OrNoMemory::NoMemory) => Err(OrNoMemory::NoMemory),
-    }
 }
 
 /// The request that the payload of a call of this procedure spells.

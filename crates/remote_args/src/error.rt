@@ -1,5 +1,6 @@
 // Writing the payload of an error.
 ghost use Rattle.std.specs.Prelude.{◌≡◌, ◌++◌, ◌<◌, ◌^◌, length, OnOk};
+ghost use Rattle.std.specs.Str.{IsUtf8};
 ghost use Rattle.virt_types.specs.Refusal.{refusal_message, refusal_number};
 ghost use Rattle.wire_spec.specs.Xdr.{opaque, optional};
 ghost use Rattle.procedure_spec.specs.Errors.{head, kept_string, refusal_payload, tail};
@@ -8,21 +9,23 @@ use virt_types::{NoMemory, Refusal, RefusalCode, Text};
 use xdr_codec::Writer;
 
 /// The part that speaks in each error: libvirt's `VIR_FROM_QEMU`.
-const DOMAIN: u32 = 10;
+pub(crate) const DOMAIN: u32 = 10;
 
 /// The level of each error: libvirt's `VIR_ERR_ERROR`.
-const LEVEL: u32 = 2;
+pub(crate) const LEVEL: u32 = 2;
 
 // The first string of an error, which is absent where nothing is kept.
 fn put_kept(writer: &mut Writer, kept: &Text) -> Result<(), NoMemory>
     requires { length kept.now < 2 ^ 32 }
-    ensures { OnOk result (writer.new ≡ writer.old ++ optional opaque (kept_string kept.now)) }
+    ensures written { OnOk result (writer.new ≡ writer.old ++ optional opaque (kept_string kept.now)) }
+    ensures text { OnOk result (IsUtf8 kept.now) }
 {
-    if kept.is_empty() {
+    let text = kept.as_str();
+    if text.is_empty() {
         return writer.put_optional(false);
     }
     writer.put_optional(true)?;
-    writer.put_string(kept.as_str().as_bytes())
+    writer.put_string(text.as_bytes())
 }
 
 // No other strings, two numbers that are not used, and no network.
@@ -52,7 +55,8 @@ fn put_head(writer: &mut Writer, code: RefusalCode) -> Result<(), NoMemory>
 /// Writes the payload of the error that tells a refusal.
 pub(crate) fn put_refusal(writer: &mut Writer, refusal: &Refusal) -> Result<(), NoMemory>
     requires { length refusal.now.kept < 2 ^ 32 }
-    ensures { OnOk result (writer.new ≡ writer.old ++ refusal_payload refusal.now) }
+    ensures written { OnOk result (writer.new ≡ writer.old ++ refusal_payload refusal.now) }
+    ensures text { OnOk result (IsUtf8 refusal.now.kept) }
 {
     put_head(writer, refusal.code)?;
     put_kept(writer, &refusal.kept)?;

@@ -3,6 +3,8 @@ ghost use Rattle.std.specs.Prelude.{◌≡◌, ◌+◌, ◌<◌, ◌^◌, length
 ghost use Rattle.wire_spec.specs.Packets.{IsPacket, spelling};
 ghost use Rattle.packet.specs.Writing.{packet_with};
 ghost use Rattle.procedure_spec.specs.Errors.{refusal_payload};
+ghost use Rattle.procedure_spec.specs.ErrorsReading.{error_of};
+ghost use Rattle.procedure_spec.specs.ResultsReading.{ReadsBack};
 ghost use Rattle.procedure_spec.specs.Results.{HasResult, reply_header, result as spelled};
 ghost use Rattle.remote_args.specs.Frames.{IsTooBig};
 
@@ -35,6 +37,7 @@ pub fn write_reply(
     ensures bytes { IfOk result (λ bytes. bytes ≡ spelling (packet_with (reply_header call.now 0) (spelled value.now))) }
     ensures packet { OnOk result (IsPacket (packet_with (reply_header call.now 0) (spelled value.now))) }
     ensures err { IfErr result (IsTooBig (28 + length (spelled value.now))) }
+    ensures reads_back { OnOk result (ReadsBack call.now value.now) }
 {
     let mut writer = begin(alloc, &reply_words(call, 0))?;
     put_value(&mut writer, value)?;
@@ -51,6 +54,7 @@ pub fn write_error(
     ensures bytes { IfOk result (λ bytes. bytes ≡ spelling (packet_with (reply_header call.now 1) (refusal_payload refusal.now))) }
     ensures packet { OnOk result (IsPacket (packet_with (reply_header call.now 1) (refusal_payload refusal.now))) }
     ensures err { IfErr result (IsTooBig (28 + length (refusal_payload refusal.now))) }
+    ensures reads_back { OnOk result (error_of (refusal_payload refusal.now) ≡ Ok refusal.now) }
 {
     let mut writer = begin(alloc, &reply_words(call, 1))?;
     put_refusal(&mut writer, refusal)?;

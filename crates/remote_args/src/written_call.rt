@@ -4,7 +4,7 @@ ghost use Rattle.wire_spec.specs.Packets.{IsPacket, spelling};
 ghost use Rattle.wire_spec.specs.Xdr.{opaque, optional};
 ghost use Rattle.packet.specs.Writing.{packet_with};
 ghost use Rattle.procedure_spec.specs.Arguments.{HasArguments, HasDomainArguments, arguments, domain_arguments, target as target_items};
-ghost use Rattle.procedure_spec.specs.Calls.{IsCall, call_header as header_of, call_numbers as numbers_of, domain_numbers as domain_numbers_of};
+ghost use Rattle.procedure_spec.specs.Calls.{IsCall, call_header as header_of, call_numbers as numbers_of, call_of, domain_numbers as domain_numbers_of};
 ghost use Rattle.remote_args.specs.Frames.{IsTooBig};
 
 use crate::frame::{begin, finish};
@@ -121,7 +121,7 @@ fn call_header(request: &Request, serial: u32) -> Header
 }
 
 /// The call that asks this request, with this serial.
-#[tactic(auto, using(procedure_spec::proofs::Written::is_call))]
+#[tactic(auto, using(procedure_spec::proofs::Written::is_call, procedure_spec::proofs::Written::written_back))]
 pub fn write_call(
     alloc: Global,
     request: &Request,
@@ -132,6 +132,7 @@ pub fn write_call(
     ensures bytes { IfOk result (λ bytes. bytes ≡ spelling (packet_with (header_of request.now serial) (arguments request.now))) }
     ensures packet { OnOk result (IsPacket (packet_with (header_of request.now serial) (arguments request.now))) }
     ensures err { IfErr result (IsTooBig (28 + length (arguments request.now))) }
+    ensures reads_back { call_of (header_of request.now serial) (arguments request.now) ≡ Ok request.now }
 {
     let mut writer = begin(alloc, &call_header(request, serial))?;
     put_arguments(&mut writer, request)?;

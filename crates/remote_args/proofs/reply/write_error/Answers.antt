@@ -4,22 +4,27 @@ use Rattle.wire_spec.specs.Xdr.{word}
 use Rattle.procedure_spec.specs.Errors.{refusal_payload}
 use Rattle.procedure_spec.specs.Results.{reply_header}
 use Rattle.remote_args.specs.Frames.{HasWords}
+use Rattle.remote_args.proofs.Holding.{error_back}
 use Rattle.remote_args.proofs.Written.{is_packet, long_enough, packet_bytes, reply_kind, too_big}
 use Rattle.remote_args.proofs.reply.write_error.Goals as goal
 use Rattle.remote_args.proofs.reply.write_error.Goals.{In_ok-put_refusal}
 
 written : (c : In_ok-put_refusal) → c.put_refusal.new.writer ≡ (word 0 ++ header (reply_header c.args.call.now 1)) ++ (refusal_payload c.args.refusal.now)
-written c = c.in_ok-put_refusal.ensures ∙ ap (λ (t : List ℕ). t ++ (refusal_payload c.args.refusal.now)) (c.in_ok-writer.ensures.written ∙ ap (λ h. word 0 ++ header h) c.reply_words.ensures)
+written c = c.in_ok-put_refusal.ensures.written ∙ ap (λ (t : List ℕ). t ++ (refusal_payload c.args.refusal.now)) (c.in_ok-writer.ensures.written ∙ ap (λ h. word 0 ++ header h) c.reply_words.ensures)
 
 pub finish-requires : goal.finish-requires
 finish-requires c = long_enough (reply_header c.args.call.now 1) (refusal_payload c.args.refusal.now) _ (written (goal.at.finish-requires c).In_ok-put_refusal)
 
 pub returns : goal.returns
 returns c =
+    let h = reply_header c.args.call.now 1 in
+    let payload = refusal_payload c.args.refusal.now in
     let e = written (goal.at.returns c).In_ok-put_refusal in
     let words = subst HasWords c.reply_words.ensures c.in_ok-writer.ensures.words in
+    let packet = is_packet h payload _ c.finish.result words (reply_kind c.args.call.now 1 (omega arith)) e c.finish.ensures in
     record {
-      bytes = packet_bytes (reply_header c.args.call.now 1) (refusal_payload c.args.refusal.now) _ c.finish.result e c.finish.ensures;
-      packet = is_packet (reply_header c.args.call.now 1) (refusal_payload c.args.refusal.now) _ c.finish.result words (reply_kind c.args.call.now 1 (omega arith)) e c.finish.ensures;
-      err = too_big (reply_header c.args.call.now 1) (refusal_payload c.args.refusal.now) _ c.finish.result e c.finish.ensures;
+      bytes = packet_bytes h payload _ c.finish.result e c.finish.ensures;
+      packet = packet;
+      err = too_big h payload _ c.finish.result e c.finish.ensures;
+      reads_back = error_back h c.args.refusal.now c.finish.result c.in_ok-put_refusal.ensures.text packet;
     }

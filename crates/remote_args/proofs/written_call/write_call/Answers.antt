@@ -3,7 +3,7 @@ use Rattle.wire_spec.specs.Packets.{header}
 use Rattle.wire_spec.specs.Xdr.{word}
 use Rattle.procedure_spec.specs.Arguments.{arguments}
 use Rattle.procedure_spec.specs.Calls.{call_header}
-use Rattle.procedure_spec.proofs.Written.{is_call}
+use Rattle.procedure_spec.proofs.Written.{is_call, written_back}
 use Rattle.remote_args.specs.Frames.{HasWords}
 use Rattle.remote_args.proofs.Written.{call_kind, is_packet, long_enough, packet_bytes, too_big}
 use Rattle.remote_args.proofs.written_call.write_call.Goals as goal
@@ -25,4 +25,5 @@ returns c =
       bytes = packet_bytes h (arguments c.args.request.now) _ c.finish.result e c.finish.ensures;
       packet = is_packet h (arguments c.args.request.now) _ c.finish.result words (call_kind c.args.request.now c.args.serial) e c.finish.ensures;
       err = too_big h (arguments c.args.request.now) _ c.finish.result e c.finish.ensures;
+      reads_back = written_back c.args.request.now c.args.serial c.requires;
     }

@@ -1,0 +1,78 @@
+// Items of replies and errors, with their faults as faults of a payload.
+ghost use Rattle.std.specs.Prelude.{IfOk};
+ghost use Rattle.wire_spec.specs.Xdr.{opaque};
+ghost use Rattle.wire_spec.specs.XdrAnswer.{Takes};
+ghost use Rattle.wire_spec.specs.XdrReading.{first_fixed, first_integer, first_optional, first_string, first_truth, first_word};
+ghost use Rattle.procedure_spec.specs.Arguments.{packet_bound};
+ghost use Rattle.procedure_spec.specs.Reading.{item};
+ghost use Rattle.remote_args.specs.Steps.{Ends, Lifts, Walks};
+
+use crate::arguments::{PACKET_BOUND, identifier, optional_name};
+use procedure_spec::ArgFault;
+use std::alloc::Global;
+use virt_types::{OrNoMemory, Text, Uuid};
+use wire_spec::XdrFault;
+use xdr_codec::Reader;
+
+/// A fault of an item as a fault of a payload.
+pub(crate) fn lifted<T: Drop>(
+    read: Result<T, OrNoMemory<XdrFault>>,
+) -> Result<T, OrNoMemory<ArgFault>>
+    ensures { Lifts read result }
+{
+    match read {
+        Ok(value) => Ok(value),
+        Err(OrNoMemory::Fault(fault)) => Err(OrNoMemory::Fault(ArgFault::Xdr(fault))),
+        Err(OrNoMemory::NoMemory) => Err(OrNoMemory::NoMemory),
+    }
+}
+
+pub(crate) fn word(reader: &mut Reader<'_>) -> Result<u32, OrNoMemory<ArgFault>>
+    ensures { Walks (item first_word) reader.old result reader.new }
+{
+    lifted(reader.take_u32().map_err(OrNoMemory::Fault))
+}
+
+pub(crate) fn integer(reader: &mut Reader<'_>) -> Result<i32, OrNoMemory<ArgFault>>
+    ensures { Walks (item first_integer) reader.old result reader.new }
+{
+    lifted(reader.take_i32().map_err(OrNoMemory::Fault))
+}
+
+pub(crate) fn truth(reader: &mut Reader<'_>) -> Result<bool, OrNoMemory<ArgFault>>
+    ensures { Walks (item first_truth) reader.old result reader.new }
+{
+    lifted(reader.take_optional().map_err(OrNoMemory::Fault))
+}
+
+pub(crate) fn uuid(alloc: Global, reader: &mut Reader<'_>) -> Result<Uuid, OrNoMemory<ArgFault>>
+    ensures { Walks (item (first_fixed 16)) reader.old result reader.new }
+{
+    lifted(identifier(alloc, reader))
+}
+
+pub(crate) fn text(alloc: Global, reader: &mut Reader<'_>) -> Result<Text, OrNoMemory<ArgFault>>
+    ensures read { Walks (item (first_string packet_bound)) reader.old result reader.new }
+    ensures taken { IfOk result (λ text. Takes reader.old (opaque text) reader.new) }
+{
+    lifted(reader.take_text(alloc, PACKET_BOUND))
+}
+
+pub(crate) fn optional_text(
+    alloc: Global,
+    reader: &mut Reader<'_>,
+) -> Result<Option<Text>, OrNoMemory<ArgFault>>
+    ensures { Walks (item (first_optional (first_string packet_bound))) reader.old result reader.new }
+{
+    lifted(optional_name(alloc, reader))
+}
+
+/// That nothing is left.
+pub(crate) fn end(reader: &Reader<'_>) -> Result<(), OrNoMemory<ArgFault>>
+    ensures { Ends reader.now result }
+{
+    match reader.end() {
+        Ok(()) => Ok(()),
+        Err(fault) => Err(OrNoMemory::Fault(ArgFault::Xdr(fault))),
+    }
+}
