@@ -1,6 +1,5 @@
 -- A name is read from a payload exactly where one is spelled there.
-use Rattle.std.proofs.Common.{◌≡◌, ℕ, ◌+◌, ◌<◌, ◌≤◌, ◌||◌, ◌==◌, nat_lt, not, Bool, true, false, cond, ltb, List, length, Option, None, Some, Result, Ok, Err, refl, sym, ap, subst, ◌∙◌, arith}
-use Rattle.std.specs.List.{All}
+use Rattle.std.proofs.Common.{◌≡◌, ℕ, ◌+◌, ◌≤◌, ◌||◌, ◌==◌, nat_lt, not, Bool, false, cond, List, length, Option, None, Some, refl, ap, subst, arith}
 use Rattle.std.specs.Option.{option_map}
 use Rattle.std.specs.Str.{IsUtf8}
 use Rattle.std.proofs.lemmas.List.Sums.{prefix_len-le-length, prefix_len_is}
@@ -9,11 +8,9 @@ use Rattle.virt_types.proofs.Names.{first_of_text, name_of, place_none}
 use Rattle.wire_spec.specs.Xdr.{IsString, opaque}
 use Rattle.wire_spec.specs.XdrAnswer.{Takes}
 use Rattle.wire_spec.specs.XdrReading.{IsBytes, Left, first_string}
-use Rattle.wire_spec.proofs.Items.{taken}
 use Rattle.procedure_spec.specs.Arguments.{packet_bound}
-use Rattle.procedure_spec.specs.Reading.{◌>>=◌, item, unless}
+use Rattle.procedure_spec.specs.Reading.{item, unless}
 use Rattle.procedure_spec.specs.ResultsReading.{first_name, name_fault}
-use Rattle.procedure_spec.specs.declared.fault.ArgFault.{ArgFault}
 use Rattle.procedure_spec.specs.declared.fault.ArgFault.TheVariants as fault
 use Rattle.procedure_spec.proofs.Parts.{IsPart, IsPart-item, bind_ok, unless_ok}
 use Rattle.procedure_spec.proofs.Targets.{IsItem-name}

@@ -1,5 +1,5 @@
 -- Payloads read item by item: what is read is spelled so, and what is spelled so is read.
-use Rattle.std.proofs.Common.{◌≡◌, ℕ, ◌+◌, Bool, true, false, cond, eqb, List, [], ◌++◌, length, Option, None, Some, Result, Ok, Err, refl, sym, ap, subst, ◌∙◌, append_assoc, arith}
+use Rattle.std.proofs.Common.{◌≡◌, ℕ, ◌+◌, Bool, true, false, cond, eqb, List, [], ◌++◌, length, Option, None, Some, Result, Ok, Err, refl, sym, ap, subst, ◌∙◌, arith}
 use Rattle.std.proofs.lemmas.Bool.{eqb-true}
 use Rattle.std.proofs.lemmas.List.{append-nil, length-append, nil_from_length}
 use Rattle.wire_spec.specs.declared.fault.XdrFault.{XdrFault}
@@ -7,7 +7,6 @@ use Rattle.wire_spec.specs.declared.fault.XdrFault.TheVariants.{Extra}
 use Rattle.wire_spec.specs.XdrAnswer.{Takes}
 use Rattle.wire_spec.specs.XdrReading.{IsBytes, Left, all_of}
 use Rattle.wire_spec.proofs.Items.{IsItem, taken}
-use Rattle.wire_spec.proofs.Steps.{Takes-then}
 use Rattle.procedure_spec.specs.Faults.{xdr}
 use Rattle.procedure_spec.specs.Reading.{◌>>=◌, all, ended, item, unless}
 use Rattle.procedure_spec.specs.declared.fault.ArgFault.{ArgFault}

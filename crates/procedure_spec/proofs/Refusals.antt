@@ -1,7 +1,6 @@
 -- A refusal is read from a payload exactly where the payload is its error's.
-use Rattle.std.proofs.Common.{◌≡◌, ℕ, ◌+◌, ◌<◌, ◌^◌, ◌==◌, not, Bool, true, false, cond, eqb, List, [], ◌∷◌, ◌++◌, length, Option, None, Some, Result, Ok, Err, refl, sym, ap, subst, ◌∙◌, append_assoc, eq-eqb, arith, lit<}
+use Rattle.std.proofs.Common.{◌≡◌, ℕ, ◌+◌, ◌<◌, ◌^◌, ◌==◌, not, Bool, true, false, List, [], ◌∷◌, ◌++◌, length, Option, None, Some, Ok, refl, sym, ap, subst, ◌∙◌, append_assoc, eq-eqb, arith, lit<}
 use Rattle.std.specs.Prelude.{IfSome}
-use Rattle.std.specs.Str.{bytes_eq}
 use Rattle.std.proofs.lemmas.Bool.{eqb-true}
 use Rattle.std.proofs.lemmas.List.{length-append}
 use Rattle.std.proofs.lemmas.Slice.Eq.{bytes_eq-Decides}
@@ -12,16 +11,15 @@ use Rattle.virt_types.specs.declared.refusal.RefusalCode.{RefusalCode}
 use Rattle.wire_spec.specs.Xdr.{IsString, IsTruth, IsWord, opaque, optional, truth, word}
 use Rattle.wire_spec.specs.XdrAnswer.{Takes}
 use Rattle.wire_spec.specs.XdrReading.{IsBytes, Left, first_optional, first_string, first_truth, first_word}
-use Rattle.wire_spec.proofs.Items.{IsItem, IsItem-word, taken}
+use Rattle.wire_spec.proofs.Items.{IsItem-word, taken}
 use Rattle.wire_spec.proofs.Seen.{IsItem-truth}
 use Rattle.wire_spec.proofs.Steps.{Takes-then}
 use Rattle.wire_spec.proofs.Wholes.{IsItem-optional}
 use Rattle.procedure_spec.specs.Arguments.{packet_bound}
 use Rattle.procedure_spec.specs.Codes.{code_numbered}
 use Rattle.procedure_spec.specs.Errors.{IsErrorOf, head, kept_string, refusal_payload, tail}
-use Rattle.procedure_spec.specs.ErrorsReading.{error_of, first_code, first_head, first_kept, first_refusal, is_text, kept_of, known_code, told, told_absent, told_head, told_tail, told_text, told_word}
+use Rattle.procedure_spec.specs.ErrorsReading.{error_of, first_code, first_head, first_kept, first_refusal, is_text, kept_of, known_code, told_absent, told_head, told_tail, told_text, told_word}
 use Rattle.procedure_spec.specs.Reading.{◌>>=◌, item}
-use Rattle.procedure_spec.specs.declared.fault.ArgFault.{ArgFault}
 use Rattle.procedure_spec.proofs.Codes.{code_again, code_found, code_small}
 use Rattle.procedure_spec.proofs.Messages.{message_string}
 use Rattle.procedure_spec.proofs.Parts.{IsPart, IsPart-as, IsPart-item, all_again, all_found, bind_ok, ok_is}

@@ -1,5 +1,5 @@
 -- A request is read from a payload exactly where the payload spells its arguments.
-use Rattle.std.proofs.Common.{◌≡◌, ℕ, ◌<◌, ◌==◌, Bool, true, false, cond, eqb, List, [], ◌++◌, length, Option, None, Some, Result, Ok, Err, refl, sym, ap, subst, ◌∙◌, lit<}
+use Rattle.std.proofs.Common.{◌≡◌, ℕ, Bool, true, false, cond, eqb, List, [], ◌++◌, length, Option, Some, Result, Ok, Err, refl, sym, ap, subst, ◌∙◌, lit<}
 use Rattle.std.specs.Prelude.{IfSome}
 use Rattle.std.proofs.lemmas.Bool.{eqb-true}
 use Rattle.std.proofs.lemmas.List.{append-nil, nil_from_length}
@@ -8,18 +8,17 @@ use Rattle.virt_types.specs.declared.request.Request.{Request}
 use Rattle.virt_types.specs.declared.request.Request.TheVariants as request
 use Rattle.wire_spec.specs.declared.fault.XdrFault.{XdrFault}
 use Rattle.wire_spec.specs.declared.fault.XdrFault.TheVariants.{Extra}
-use Rattle.wire_spec.specs.Xdr.{IsInteger, IsString, IsWord, fixed, integer, opaque, optional, word}
-use Rattle.wire_spec.specs.XdrReading.{IsBytes, Left, ◌>>=◌, all_of, first_fixed, first_integer, first_optional, first_string, first_word, whole}
-use Rattle.wire_spec.proofs.Items.{IsItem, IsItem-word, taken}
+use Rattle.wire_spec.specs.Xdr.{IsString, fixed, integer, opaque, optional, word}
+use Rattle.wire_spec.specs.XdrReading.{IsBytes, Left, all_of, first_optional, first_string, whole}
+use Rattle.wire_spec.proofs.Items.{IsItem, IsItem-word}
 use Rattle.wire_spec.proofs.Made.{made, made_again, made_found, two, two_again, two_found}
 use Rattle.wire_spec.proofs.Seen.{IsItem-integer}
 use Rattle.wire_spec.proofs.Steps.{bind_ok, ok_is}
 use Rattle.wire_spec.proofs.Strings.{IsItem-fixed, IsItem-string}
 use Rattle.wire_spec.proofs.Wholes.{IsItem-optional}
-use Rattle.procedure_spec.specs.Arguments.{HasArguments, IsTarget, arguments, definition_bound, packet_bound, procedure_of, target}
-use Rattle.procedure_spec.specs.ArgumentsReading.{first_close, first_define, first_get_xml, first_list_defined, first_lookup_by_name, first_lookup_by_uuid, first_open, first_target, request_in}
+use Rattle.procedure_spec.specs.Arguments.{HasArguments, arguments, definition_bound, packet_bound, procedure_of, target}
+use Rattle.procedure_spec.specs.ArgumentsReading.{first_close, first_define, first_get_xml, first_list_defined, first_lookup_by_name, first_lookup_by_uuid, first_open, request_in}
 use Rattle.procedure_spec.specs.Faults.{xdr}
-use Rattle.procedure_spec.specs.declared.fault.ArgFault.{ArgFault}
 use Rattle.procedure_spec.specs.declared.procedure.Procedure.{Procedure}
 use Rattle.procedure_spec.specs.declared.procedure.Procedure.TheVariants as procedure
 use Rattle.procedure_spec.proofs.Targets.{IsItem-name, IsItem-target}

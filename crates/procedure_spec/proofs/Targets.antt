@@ -1,8 +1,7 @@
 -- The domain that a call is for is read where it is spelled, and what is read is spelled so.
-use Rattle.std.proofs.Common.{◌≡◌, ℕ, ◌+◌, ◌<◌, List, ◌++◌, length, Result, Ok, Err, refl, sym, ap, subst, ◌∙◌, append_assoc, arith, lit<}
+use Rattle.std.proofs.Common.{◌≡◌, ℕ, ◌+◌, List, ◌++◌, length, Ok, refl, subst, ◌∙◌, append_assoc, arith, lit<}
 use Rattle.std.proofs.lemmas.List.{length-append}
 use Rattle.virt_types.specs.declared.reference.DomainTarget.{DomainTarget}
-use Rattle.wire_spec.specs.declared.fault.XdrFault.{XdrFault}
 use Rattle.wire_spec.specs.Xdr.{IsString, fixed, integer, opaque}
 use Rattle.wire_spec.specs.XdrAnswer.{Takes}
 use Rattle.wire_spec.specs.XdrReading.{IsBytes, Left, ◌>>=◌, first_fixed, first_integer, first_string}

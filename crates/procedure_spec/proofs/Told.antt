@@ -1,12 +1,7 @@
 -- Items of an error that say what they have to.
-use Rattle.std.proofs.Common.{◌≡◌, ℕ, ◌+◌, ◌<◌, ◌^◌, ◌==◌, not, Bool, true, false, cond, eqb, List, ◌++◌, length, Option, None, Some, Result, Ok, Err, refl, sym, ap, subst, ◌∙◌, append_assoc, eq-eqb}
-use Rattle.std.specs.Prelude.{IfSome}
-use Rattle.std.proofs.lemmas.Bool.{eqb-true}
-use Rattle.wire_spec.specs.Xdr.{IsString, IsWord, opaque, optional, truth, word}
+use Rattle.std.proofs.Common.{◌≡◌, ℕ, ◌+◌, Bool, true, false, List, ◌++◌, length, Result, Ok, refl, subst, ◌∙◌, append_assoc}
 use Rattle.wire_spec.specs.XdrAnswer.{Takes}
-use Rattle.wire_spec.specs.XdrReading.{IsBytes, Left, first_truth, first_word}
-use Rattle.wire_spec.proofs.Items.{IsItem-word, taken}
-use Rattle.wire_spec.proofs.Seen.{IsItem-truth}
+use Rattle.wire_spec.specs.XdrReading.{IsBytes, Left}
 use Rattle.wire_spec.proofs.Steps.{Takes-then}
 use Rattle.procedure_spec.specs.ErrorsReading.{told}
 use Rattle.procedure_spec.specs.Reading.{◌>>=◌}

@@ -1,9 +1,9 @@
 -- The call that is written for a request is a call of it.
-use Rattle.std.proofs.Common.{◌≡◌, ℕ, List, Option, Some, Ok, refl}
+use Rattle.std.proofs.Common.{◌≡◌, ℕ, Ok, refl}
 use Rattle.virt_types.specs.declared.object_request.DomainRequest.TheVariants as on_domain
 use Rattle.virt_types.specs.declared.request.Request.{Request}
 use Rattle.virt_types.specs.declared.request.Request.TheVariants as request
-use Rattle.procedure_spec.specs.Arguments.{HasArguments, arguments, procedure_of}
+use Rattle.procedure_spec.specs.Arguments.{HasArguments, arguments}
 use Rattle.procedure_spec.specs.Calls.{IsCall, call_header, call_of}
 use Rattle.procedure_spec.specs.Procedures.{row_of}
 use Rattle.procedure_spec.proofs.Called.{call_again}
