@@ -1,6 +1,5 @@
 -- Reading a call by the line of its procedure.
-use Rattle.std.proofs.Common.{◌≡◌, ◌==◌, Bool, true, false, cond, List, ℕ, Option, None, Some, Result, Ok, Err, refl, sym, ap, ◌∙◌}
-use Rattle.virt_types.specs.declared.request.Request.{Request}
+use Rattle.std.proofs.Common.{◌≡◌, ◌==◌, Bool, true, false, cond, List, ℕ, Option, None, Some, Result, Ok, Err, ap}
 use Rattle.wire_spec.specs.declared.message.Header.{Header}
 use Rattle.procedure_spec.specs.ArgumentsReading.{request_in}
 use Rattle.procedure_spec.specs.Calls.{call_of, in_line, is_program}

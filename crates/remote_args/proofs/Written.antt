@@ -1,7 +1,6 @@
 -- What was written part by part is the packet or the payload.
-use Rattle.std.proofs.Common.{◌≡◌, ◌+◌, ◌<◌, ◌≤◌, ◌^◌, ℕ, List, ◌++◌, length, drop, Result, Ok, Err, refl, sym, ap, ◌∙◌, append_assoc, arith}
+use Rattle.std.proofs.Common.{◌≡◌, ◌+◌, ◌≤◌, ℕ, List, ◌++◌, length, drop, Result, Ok, Err, refl, sym, ap, ◌∙◌, append_assoc, arith}
 use Rattle.std.specs.Prelude.{IfErr, IfOk, OnOk}
-use Rattle.std.proofs.lemmas.List.{length-append}
 use Rattle.virt_types.specs.declared.memory.OrNoMemory.{OrNoMemory}
 use Rattle.virt_types.specs.declared.memory.OrNoMemory.TheVariants.{Fault, NoMemory}
 use Rattle.virt_types.specs.declared.refusal.Refusal.{Refusal}

@@ -1,6 +1,4 @@
-use Rattle.std.proofs.Common.{◌+◌, ◌≤◌, length, ap, arith, ◌∙◌}
-use Rattle.std.proofs.lemmas.List.{length-append}
-use Rattle.wire_spec.specs.Xdr.{fixed, opaque, padding, word}
+use Rattle.std.proofs.Common.{◌+◌, ◌≤◌, length, ap, arith}
 use Rattle.procedure_spec.proofs.NameParts.{bad_within}
 use Rattle.remote_args.proofs.NameLists.{string_fits}
 use Rattle.remote_args.proofs.result_reader.name.Goals as goal

@@ -1,4 +1,4 @@
-use Rattle.std.proofs.Common.{◌≡◌, ◌++◌, List, ℕ, ap, arith, subst, ◌∙◌}
+use Rattle.std.proofs.Common.{◌≡◌, ◌++◌, List, ℕ, ap, subst, ◌∙◌}
 use Rattle.wire_spec.specs.Packets.{header}
 use Rattle.wire_spec.specs.Xdr.{word}
 use Rattle.procedure_spec.specs.Arguments.{arguments}
