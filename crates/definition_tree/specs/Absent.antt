@@ -5,7 +5,8 @@ use Rattle.virt_types.specs.declared.device_def.DeviceDef.TheVariants as device
 use Rattle.virt_types.specs.declared.device_def.Interface.{Interface}
 use Rattle.virt_types.specs.declared.domain_def.DomainDef.{DomainDef}
 use Rattle.virt_types.specs.declared.mac.Mac.{Mac}
-use Rattle.text_spec.specs.DomainPrinted.{any_uuid, any_mac, with_mac}
+use Rattle.text_spec.specs.DevicePrinted.{any_mac, with_mac}
+use Rattle.text_spec.specs.DomainPrinted.{any_uuid}
 use Rattle.definition_tree.specs.declared.absent.Absent.{Absent}
 use Rattle.definition_tree.specs.declared.absent.Absent.TheVariants as absent
 

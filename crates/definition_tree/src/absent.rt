@@ -1,6 +1,7 @@
 // What stands for an identifier or an address that a definition has not got yet.
 ghost use Rattle.std.specs.Prelude.{◌≡◌, Option, Some, unwrap_or};
-ghost use Rattle.text_spec.specs.DomainPrinted.{any_uuid, any_mac};
+ghost use Rattle.text_spec.specs.DevicePrinted.{any_mac};
+ghost use Rattle.text_spec.specs.DomainPrinted.{any_uuid};
 ghost use Rattle.definition_tree.specs.Absent.{uuid_as, mac_as};
 
 use virt_types::{Mac, Uuid};

@@ -1,6 +1,6 @@
 -- The trees that disks and interfaces stand for: attributes and elements in the order of their
 -- tables, each value that has a default with it.
-use Rattle.std.specs.Prelude.{ℕ, List, [], ◌∷◌, ◌++◌}
+use Rattle.std.specs.Prelude.{ℕ, List, [], ◌∷◌, ◌++◌, length, Some, unwrap_or}
 use Rattle.virt_types.specs.declared.device_def.DeviceDef.{DeviceDef}
 use Rattle.virt_types.specs.declared.device_def.DeviceDef.TheVariants as device
 use Rattle.virt_types.specs.declared.device_def.Disk.{Disk}
@@ -17,6 +17,7 @@ use Rattle.text_spec.specs.declared.vocabulary.ElementName.TheVariants as elemen
 use Rattle.text_spec.specs.Spelling.{pair, pairs, tagged, holding, present, flagged, mac_text}
 use Rattle.text_spec.specs.Tree.{Tree}
 use Rattle.text_spec.specs.Words.{disk_type_word, disk_device_word, interface_type_word}
+use Rattle.text_spec.specs.Written.{written}
 
 -- ---- disks
 abbrev pub driver_tree : DiskDriver → Tree
@@ -63,3 +64,19 @@ interface_tree i =
 unfoldable pub device_tree : DeviceDef → Tree
 device_tree (device.Disk d) = disk_tree d
 device_tree (device.Interface i) = interface_tree i
+
+-- ---- as if filled in
+-- an address that stands in for an absent one: all take the same room
+abbrev pub any_mac : Mac
+any_mac = record { bytes = 0 ∷ 0 ∷ 0 ∷ 0 ∷ 0 ∷ 0 ∷ [] }
+
+abbrev pub with_mac : Interface → Interface
+with_mac i = record i { mac = Some (unwrap_or i.mac any_mac) }
+
+abbrev pub device_stood_in : DeviceDef → DeviceDef
+device_stood_in (device.Disk d) = device.Disk d
+device_stood_in (device.Interface i) = device.Interface (with_mac i)
+
+-- the bytes of a device's text once it is filled in
+unfoldable pub filled_device_length : DeviceDef → ℕ
+filled_device_length d = length (written (device_tree (device_stood_in d)))

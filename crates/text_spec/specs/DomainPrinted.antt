@@ -3,20 +3,18 @@
 use Rattle.std.specs.Prelude.{ℕ, List, [], ◌∷◌, ◌++◌, length, map, Option, Some, unwrap_or, ◌==◌, nat_lt, if◌then◌else◌, codes}
 use Rattle.std.specs.Fmt.{decimal}
 use Rattle.uuid.specs.Text.{hyphenated_text, lower}
-use Rattle.virt_types.specs.declared.device_def.Interface.{Interface}
 use Rattle.virt_types.specs.declared.domain_def.BootDevice.{BootDevice}
 use Rattle.virt_types.specs.declared.domain_def.CharacterDevice.{CharacterDevice}
 use Rattle.virt_types.specs.declared.domain_def.DomainDef.{DomainDef}
 use Rattle.virt_types.specs.declared.domain_def.Graphics.{Graphics}
 use Rattle.virt_types.specs.declared.domain_def.Memballoon.{Memballoon}
 use Rattle.virt_types.specs.declared.domain_def.Os.{Os}
-use Rattle.virt_types.specs.declared.mac.Mac.{Mac}
 use Rattle.virt_types.specs.declared.script.Script.{Script}
 use Rattle.text_spec.specs.declared.pair.Pair.{Pair}
 use Rattle.text_spec.specs.declared.vocabulary.AttributeName.TheVariants as attribute
 use Rattle.text_spec.specs.declared.vocabulary.ElementName.{ElementName}
 use Rattle.text_spec.specs.declared.vocabulary.ElementName.TheVariants as element
-use Rattle.text_spec.specs.DevicePrinted.{disk_tree, interface_tree}
+use Rattle.text_spec.specs.DevicePrinted.{disk_tree, interface_tree, with_mac}
 use Rattle.text_spec.specs.Spelling.{pair, pairs, tagged, worded, holding, present}
 use Rattle.text_spec.specs.Tree.{Tree}
 use Rattle.text_spec.specs.Words.{domain_type_word, boot_device_word, lifecycle_action_word, crash_action_word}
@@ -114,15 +112,9 @@ unfoldable pub domain_tree : DomainDef → Tree
 domain_tree d = holding element.Domain (pair attribute.Type (domain_type_word d.kind) ∷ []) (domain_children d)
 
 -- ---- as if filled in
--- an identifier and an address that stand in for absent ones: all take the same room
+-- an identifier that stands in for an absent one: all take the same room
 abbrev pub any_uuid : List ℕ
 any_uuid = 0 ∷ 0 ∷ 0 ∷ 0 ∷ 0 ∷ 0 ∷ 0 ∷ 0 ∷ 0 ∷ 0 ∷ 0 ∷ 0 ∷ 0 ∷ 0 ∷ 0 ∷ 0 ∷ []
-
-abbrev pub any_mac : Mac
-any_mac = record { bytes = 0 ∷ 0 ∷ 0 ∷ 0 ∷ 0 ∷ 0 ∷ [] }
-
-abbrev pub with_mac : Interface → Interface
-with_mac i = record i { mac = Some (unwrap_or i.mac any_mac) }
 
 unfoldable pub stood_in : DomainDef → DomainDef
 stood_in d = record d { uuid = Some (unwrap_or d.uuid any_uuid); interfaces = map with_mac d.interfaces }

@@ -22,3 +22,7 @@ pub mod DeviceText
 pub mod DeviceList
 pub mod DomainValue
 pub mod DomainText
+pub mod Spelling
+pub mod DevicePrinted
+pub mod DomainPrinted
+pub mod Fill

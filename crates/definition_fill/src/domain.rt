@@ -1,0 +1,23 @@
+// Domains.
+ghost use Rattle.text_spec.specs.Fill.{IsFilled};
+
+use crate::identifier::uuid_or_new;
+use crate::mac::fill_macs;
+use std::alloc::Global;
+use std::mem;
+use virt_types::{DomainDef, ListOf, Random};
+
+/// The definition with an identifier and addresses where it had none: an identifier of version 4 of
+/// the next two words, then for each interface in order 52:54:00 and the low three bytes of the
+/// next word, raised by one modulo 2^24 until no other interface has it. What is there stays.
+///
+/// It takes no memory: the allocator is for a list that stays empty.
+pub fn fill_domain<R: Random>(alloc: Global, mut def: DomainDef, random: &mut R) -> DomainDef
+    ensures { IsFilled def result }
+{
+    def.uuid = uuid_or_new(def.uuid, random);
+    let mut interfaces = mem::replace(&mut def.interfaces, ListOf::new(alloc)).into_vec();
+    fill_macs(interfaces.as_mut_slice(), random);
+    def.interfaces = ListOf::of(interfaces);
+    def
+}

@@ -1,0 +1,33 @@
+// Identifiers of version 4.
+ghost use Rattle.std.specs.Prelude.{◌≡◌};
+ghost use Rattle.text_spec.specs.Fill as spec;
+
+use uuid::Builder;
+use virt_types::{Random, Uuid};
+
+/// The identifier of version 4 (RFC 9562, section 5.4) of two words, the high byte first.
+#[tactic(auto, unfolding(text_spec::specs::Fill::version_4))]
+fn version_4(high: u64, low: u64) -> Uuid
+    ensures { result ≡ spec.version_4 high low }
+{
+    Builder::from_random_bytes(Uuid::from_u64_pair(high, low).into_bytes()).into_uuid()
+}
+
+/// An identifier of the next two words.
+fn next_uuid<R: Random>(random: &mut R) -> Uuid
+    ensures { spec.IsVersion4 result }
+{
+    let high = random.word();
+    let low = random.word();
+    version_4(high, low)
+}
+
+/// The identifier that is there, or a new one.
+pub(crate) fn uuid_or_new<R: Random>(uuid: Option<Uuid>, random: &mut R) -> Option<Uuid>
+    ensures { spec.IsUuidFilled uuid result }
+{
+    match uuid {
+        Some(uuid) => Some(uuid),
+        None => Some(next_uuid(random)),
+    }
+}
