@@ -1,6 +1,6 @@
 -- The trees that disks and interfaces stand for: attributes and elements in the order of their
 -- tables, each value that has a default with it.
-use Rattle.std.specs.Prelude.{ℕ, List, [], ◌∷◌, ◌++◌, length, Some, unwrap_or}
+use Rattle.std.specs.Prelude.{ℕ, List, [], ◌∷◌, ◌++◌, length, Bool, Some, unwrap_or}
 use Rattle.virt_types.specs.declared.device_def.DeviceDef.{DeviceDef}
 use Rattle.virt_types.specs.declared.device_def.DeviceDef.TheVariants as device
 use Rattle.virt_types.specs.declared.device_def.Disk.{Disk}
@@ -14,7 +14,7 @@ use Rattle.virt_types.specs.declared.mac.Mac.{Mac}
 use Rattle.text_spec.specs.declared.pair.Pair.{Pair}
 use Rattle.text_spec.specs.declared.vocabulary.AttributeName.TheVariants as attribute
 use Rattle.text_spec.specs.declared.vocabulary.ElementName.TheVariants as element
-use Rattle.text_spec.specs.Spelling.{pair, pairs, tagged, holding, present, flagged, mac_text}
+use Rattle.text_spec.specs.Spelling.{pair, pairs, tagged, holding, present, flagged, mac_text, fits}
 use Rattle.text_spec.specs.Tree.{Tree}
 use Rattle.text_spec.specs.Words.{disk_type_word, disk_device_word, interface_type_word}
 use Rattle.text_spec.specs.Written.{written}
@@ -80,3 +80,7 @@ device_stood_in (device.Interface i) = device.Interface (with_mac i)
 -- the bytes of a device's text once it is filled in
 unfoldable pub filled_device_length : DeviceDef → ℕ
 filled_device_length d = length (written (device_tree (device_stood_in d)))
+
+-- a device whose text is within the limits of a text, once it is filled in
+unfoldable pub device_fits : DeviceDef → Bool
+device_fits d = fits (device_tree (device_stood_in d))

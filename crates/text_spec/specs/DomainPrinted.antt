@@ -1,6 +1,6 @@
 -- The tree that a definition of a domain stands for: the elements and attributes of its table in
 -- that order, what has a default with it, and nothing for what is absent.
-use Rattle.std.specs.Prelude.{ℕ, List, [], ◌∷◌, ◌++◌, length, map, Option, Some, unwrap_or, ◌==◌, nat_lt, if◌then◌else◌, codes}
+use Rattle.std.specs.Prelude.{ℕ, List, [], ◌∷◌, ◌++◌, length, map, Bool, Option, Some, unwrap_or, ◌==◌, nat_lt, if◌then◌else◌, codes}
 use Rattle.std.specs.Fmt.{decimal}
 use Rattle.uuid.specs.Text.{hyphenated_text, lower}
 use Rattle.virt_types.specs.declared.domain_def.BootDevice.{BootDevice}
@@ -15,7 +15,7 @@ use Rattle.text_spec.specs.declared.vocabulary.AttributeName.TheVariants as attr
 use Rattle.text_spec.specs.declared.vocabulary.ElementName.{ElementName}
 use Rattle.text_spec.specs.declared.vocabulary.ElementName.TheVariants as element
 use Rattle.text_spec.specs.DevicePrinted.{disk_tree, interface_tree, with_mac}
-use Rattle.text_spec.specs.Spelling.{pair, pairs, tagged, worded, holding, present}
+use Rattle.text_spec.specs.Spelling.{pair, pairs, tagged, worded, holding, present, fits}
 use Rattle.text_spec.specs.Tree.{Tree}
 use Rattle.text_spec.specs.Words.{domain_type_word, boot_device_word, lifecycle_action_word, crash_action_word}
 use Rattle.text_spec.specs.Written.{written}
@@ -122,3 +122,7 @@ stood_in d = record d { uuid = Some (unwrap_or d.uuid any_uuid); interfaces = ma
 -- the bytes of a definition's text once it is filled in
 unfoldable pub filled_length : DomainDef → ℕ
 filled_length d = length (written (domain_tree (stood_in d)))
+
+-- a definition whose text is within the limits of a text, once it is filled in
+unfoldable pub domain_fits : DomainDef → Bool
+domain_fits d = fits (domain_tree (stood_in d))

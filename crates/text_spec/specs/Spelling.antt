@@ -1,5 +1,5 @@
 -- How the parts of a definition stand in its tree: attributes, elements, and what is absent.
-use Rattle.std.specs.Prelude.{ℕ, ◌/◌, ◌%◌, List, [], ◌∷◌, map, Option, option_map, if◌then◌else◌, Bool}
+use Rattle.std.specs.Prelude.{ℕ, ◌/◌, ◌%◌, List, [], ◌∷◌, map, length, Option, option_map, if◌then◌else◌, Bool, ◌&&◌, nat_le}
 use Rattle.std.specs.Option.{option_to_list}
 use Rattle.std.specs.List.{join_with_byte}
 use Rattle.std.specs.Char.{digit_char}
@@ -8,7 +8,10 @@ use Rattle.text_spec.specs.declared.pair.Pair.{Pair}
 use Rattle.text_spec.specs.declared.vocabulary.AttributeName.{AttributeName}
 use Rattle.text_spec.specs.declared.vocabulary.ElementName.{ElementName}
 use Rattle.text_spec.specs.Tree.{Tree, element, trees}
+use Rattle.text_spec.specs.Text.{most_bytes, most_elements}
 use Rattle.text_spec.specs.Vocabulary.{element_word, attribute_word}
+use Rattle.text_spec.specs.Writable.{size}
+use Rattle.text_spec.specs.Written.{written}
 
 -- an attribute with its value
 abbrev pub pair : AttributeName → List ℕ → Pair
@@ -52,3 +55,7 @@ colon = 58
 
 unfoldable pub mac_text : Mac → List ℕ
 mac_text mac = join_with_byte colon (map byte_text mac.bytes)
+
+-- a tree whose text is within the limits of a text
+unfoldable pub fits : Tree → Bool
+fits t = nat_le (length (written t)) most_bytes && nat_le (size t) most_elements

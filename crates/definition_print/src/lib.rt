@@ -1,0 +1,9 @@
+//! Prints definitions: each has one text.
+#![tactic(auto)]
+
+mod count;
+mod fits;
+mod print;
+
+pub use fits::{device_fits, domain_fits};
+pub use print::{print_device, print_domain};

@@ -1,0 +1,28 @@
+// The one text of a definition.
+ghost use Rattle.std.specs.Prelude.{◌≡◌, IfOk};
+ghost use Rattle.text_spec.specs.DevicePrinted as spec_device;
+ghost use Rattle.text_spec.specs.DomainPrinted as spec_domain;
+ghost use Rattle.text_spec.specs.Written.{written};
+
+use definition_tree::{Absent, device_tree, domain_tree};
+use markup::write_tree;
+use std::alloc::Global;
+use virt_types::{DeviceDef, DomainDef, NoMemory, Text};
+
+/// The text of a definition: one element a line, two blanks a level, elements and attributes in the
+/// order of their tables, values in single quotes; what has a default is printed, what is absent
+/// isn't.
+pub fn print_domain(alloc: Global, def: &DomainDef) -> Result<Text, NoMemory>
+    ensures spelling { IfOk result (λ text. text ≡ written (spec_domain.domain_tree def.now)) }
+{
+    let tree = domain_tree(alloc, def, Absent::Omitted)?;
+    write_tree(alloc, &tree)
+}
+
+/// The text of a device, by the same rules.
+pub fn print_device(alloc: Global, device: &DeviceDef) -> Result<Text, NoMemory>
+    ensures spelling { IfOk result (λ text. text ≡ written (spec_device.device_tree device.now)) }
+{
+    let tree = device_tree(alloc, device, Absent::Omitted)?;
+    write_tree(alloc, &tree)
+}
