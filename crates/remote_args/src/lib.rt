@@ -20,3 +20,6 @@ pub use procedure_spec::ArgFault;
 pub use reply::{write_error, write_reply};
 pub use reply_reader::read_reply;
 pub use written_call::write_call;
+
+#[cfg(test)]
+mod tests;
