@@ -14,7 +14,7 @@ pub use content::memory_size;
 pub use copied::{copied_attribute, copied_value};
 pub use look::{attribute_of, element_at, first_of, is_element, value_at, value_in};
 pub use mac::mac_of;
-pub use row::{fault_at, rows_test};
+pub use row::{fault_at, fault_of_root, rows_test};
 pub use script::entries_of;
 pub use vocabulary::{attribute_word, element_word};
 pub use words::{

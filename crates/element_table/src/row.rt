@@ -4,7 +4,7 @@ ghost use Rattle.std.specs.String.{string_bytes};
 ghost use Rattle.text_spec.specs.Look.{all_of, elements_at, is_element as is_named};
 ghost use Rattle.text_spec.specs.Table as spec;
 ghost use Rattle.text_spec.specs.Tree.{seen};
-ghost use Rattle.element_table.specs.Tests.{Tests};
+ghost use Rattle.text_spec.specs.Tests.{Tests};
 
 use crate::content::content_fault;
 use crate::look::{element_at, first_of, is_element, value_in};
@@ -199,4 +199,18 @@ pub fn rows_test(
         rest = after;
     }
     Ok(())
+}
+
+/// A fault at the root element, whichever it is.
+#[tactic(auto, using(text_spec::proofs::Seen::name_seen))]
+pub fn fault_of_root(alloc: Global, kind: DefKind, tree: &Tree) -> Result<DefFault, NoMemory>
+    ensures { IfOk result (λ f. f ≡ spec.fault_of_root kind (seen tree.now)) }
+{
+    let mut path = String::new(alloc);
+    path.push_str("/")?;
+    path.push_str(tree.name.as_str())?;
+    Ok(DefFault {
+        path: Text::of(path),
+        kind,
+    })
 }

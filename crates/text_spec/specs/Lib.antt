@@ -26,3 +26,5 @@ pub mod Spelling
 pub mod DevicePrinted
 pub mod DomainPrinted
 pub mod Fill
+pub mod Tests
+pub mod Definition

@@ -91,9 +91,13 @@ unfoldable pub rows_fault : List ElementName → List Row → Tree → Option De
 rows_fault names [] t = None
 rows_fault names (r ∷ rs) t = option_or (placed (names ++ names_of r.place) (wrong_at r t)) (rows_fault names rs t)
 
+-- a fault at the root element, whichever it is
+abbrev pub fault_of_root : DefKind → Tree → DefFault
+fault_of_root k t = record { path = slash ∷ name_of t; kind = k }
+
 -- another root element
 abbrev pub root_fault : Tree → DefFault
-root_fault t = record { path = slash ∷ name_of t; kind = kind.Root }
+root_fault t = fault_of_root kind.Root t
 
 -- a value, unless there is a fault
 abbrev pub told : {A : Type 0} → Option DefFault → A → Result A DefFault
