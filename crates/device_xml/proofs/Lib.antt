@@ -1,0 +1,2 @@
+mod DeviceLists
+mod KeySets

@@ -1,0 +1,15 @@
+//! Device definitions: what a tree of a disk or an interface says, and the tests of many of them.
+#![tactic(auto)]
+
+mod devices;
+mod disk;
+mod interface;
+mod keys;
+mod reading;
+mod table;
+
+pub use devices::devices_test;
+pub use disk::disk_of;
+pub use interface::interface_of;
+pub use reading::read;
+pub use text_spec::{DefFault, DefKind, DeviceKind};
