@@ -1,0 +1,3 @@
+mod Fitting
+mod Parsed
+mod Together

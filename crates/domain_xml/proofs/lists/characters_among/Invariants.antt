@@ -1,0 +1,14 @@
+use Rattle.std.proofs.Common.{◌≡◌, ◌++◌, length}
+use Rattle.std.specs.Prelude.{filter, map}
+use Rattle.text_spec.specs.DomainValue.{character_device_of}
+use Rattle.text_spec.specs.Look.{is_element}
+use Rattle.text_spec.specs.Tree.{seen}
+use Rattle.domain_xml.proofs.lists.characters_among.Given as goal
+
+abbrev pub invariant-loop-tree : goal.invariant-loop-tree
+invariant-loop-tree l =
+    l.found.items ++ map character_device_of (filter (is_element l.name) (map seen l.rest))
+    ≡ map character_device_of (filter (is_element l.name) (map seen l.fn.trees))
+
+abbrev pub decreases-loop-tree : goal.decreases-loop-tree
+decreases-loop-tree l = length l.rest

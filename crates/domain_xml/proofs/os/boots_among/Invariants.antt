@@ -1,0 +1,16 @@
+use Rattle.std.proofs.Common.{◌≡◌, ◌++◌, length}
+use Rattle.std.specs.List.{filter_map}
+use Rattle.std.specs.Prelude.{filter, map}
+use Rattle.text_spec.specs.declared.vocabulary.ElementName.TheVariants as element
+use Rattle.text_spec.specs.DomainValue.{boot_in}
+use Rattle.text_spec.specs.Look.{is_element}
+use Rattle.text_spec.specs.Tree.{seen}
+use Rattle.domain_xml.proofs.os.boots_among.Given as goal
+
+abbrev pub invariant-loop-tree : goal.invariant-loop-tree
+invariant-loop-tree l =
+    l.found.items ++ filter_map boot_in (filter (is_element element.Boot) (map seen l.rest))
+    ≡ filter_map boot_in (filter (is_element element.Boot) (map seen l.fn.trees))
+
+abbrev pub decreases-loop-tree : goal.decreases-loop-tree
+decreases-loop-tree l = length l.rest
