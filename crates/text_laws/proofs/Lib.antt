@@ -5,3 +5,14 @@ mod Asides
 mod Trimmed
 mod Grown
 mod Whole
+mod Lookups
+mod Disks
+mod Macs
+mod Rows
+mod Interfaces
+mod Devices
+mod Figures
+mod Segments
+mod DomainElements
+mod DomainValues
+mod DomainFaults
