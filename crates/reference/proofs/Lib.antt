@@ -1,0 +1,4 @@
+pub mod Copies
+pub mod Masks
+pub mod Places
+pub mod Snaps
