@@ -1,18 +1,15 @@
 -- Whole packets are served whole where neither end failed.
 use Rattle.std.proofs.Common.{◌≡◌, ◌<◌, ◌^◌, ℕ, List, [], ◌∷◌, ◌++◌, length, Option, None, Some, refl, sym, ap, ◌∙◌, append_assoc, arith, inl, inr, ⊎_elim, subst}
 use Rattle.std.proofs.lemmas.List.{append-nil, length-append}
-use Rattle.std.specs.Io.KnownBytes.{Consumes, IsAtEnd}
 use Rattle.std.specs.List.{flat_map, AllByRecursion}
-use Rattle.std.specs.Prelude.{IsSome}
 use Rattle.packet.proofs.Going.{split_adds}
 use Rattle.packet.proofs.Lasting.{no_such_packet}
 use Rattle.packet.proofs.Unique.{one_split}
-use Rattle.packet.specs.Laws.{Adds}
 use Rattle.session.proofs.Courses.{each_back}
 use Rattle.session_spec.specs.Course.{Course, Ends, IsBegun, IsOver, IsServedWhole, IsWhole}
 use Rattle.session_spec.specs.declared.end.End.{End}
 use Rattle.session_spec.specs.declared.end.End.TheVariants as end
-use Rattle.virt_types.specs.declared.reference.DomainRef.{DomainRef}
+use Rattle.session_spec.specs.Definitions.{Definitions}
 use Rattle.wire_spec.specs.Packets.{IsPacket, fault, spelling}
 use Rattle.wire_spec.specs.Split.{IsRest, Splits, stream}
 use Rattle.wire_spec.specs.declared.fault.BadPacket.{BadPacket}
@@ -55,17 +52,18 @@ all_taken taken more bytes is short over = ⊎_elim
     over
 
 -- the end of a session that was told whole packets, and met no fault of its two ends
-end_of_whole : (d : DomainRef) (bytes more : List ℕ) (all packets : List Packet) (rest extra : List ℕ) (e : End) → AllByRecursion IsPacket all → bytes ≡ stream all [] → length bytes < 2 ^ 62
-    → AllByRecursion IsPacket packets → bytes ≡ stream packets rest ++ more → Ends d (Some more) (stream packets rest) rest extra e → (e ≡ end.SourceFault → ⊥) → (e ≡ end.SinkFault → ⊥) → IsServedWhole e
-end_of_whole d bytes more all packets rest extra end.Eof each_all is_all short each is ends no_source no_sink = inl refl
-end_of_whole d bytes more all packets rest extra (end.Truncated n) each_all is_all short each is ends no_source no_sink =
-    absurd (not_begun bytes all packets rest each_all is_all each (all_taken (stream packets rest) more bytes is short ends.3) ends.1)
-end_of_whole d bytes more all packets rest extra (end.BadPacket bad) each_all is_all short each is ends no_source no_sink = absurd (not_bad all packets rest more bad each_all (sym is ∙ is_all) each ends.0)
-end_of_whole d bytes more all packets rest extra end.SourceFault each_all is_all short each is ends no_source no_sink = absurd (no_source refl)
-end_of_whole d bytes more all packets rest extra end.SinkFault each_all is_all short each is ends no_source no_sink = absurd (no_sink refl)
-end_of_whole d bytes more all packets rest extra end.NoMemory each_all is_all short each is ends no_source no_sink = inr refl
+end_of_whole : (m after : Definitions) (bytes more : List ℕ) (all packets : List Packet) (rest extra : List ℕ) (e : End) → AllByRecursion IsPacket all → bytes ≡ stream all [] → length bytes < 2 ^ 62
+    → AllByRecursion IsPacket packets → bytes ≡ stream packets rest ++ more → Ends m (Some more) (stream packets rest) rest extra e after → (e ≡ end.SourceFault → ⊥) → (e ≡ end.SinkFault → ⊥) → IsServedWhole e
+end_of_whole m after bytes more all packets rest extra end.Closed each_all is_all short each is ends no_source no_sink = inr (inl refl)
+end_of_whole m after bytes more all packets rest extra end.Eof each_all is_all short each is ends no_source no_sink = inl refl
+end_of_whole m after bytes more all packets rest extra (end.Truncated n) each_all is_all short each is ends no_source no_sink =
+    absurd (not_begun bytes all packets rest each_all is_all each (all_taken (stream packets rest) more bytes is short ends.2) ends.1)
+end_of_whole m after bytes more all packets rest extra (end.BadPacket bad) each_all is_all short each is ends no_source no_sink = absurd (not_bad all packets rest more bad each_all (sym is ∙ is_all) each ends.0)
+end_of_whole m after bytes more all packets rest extra end.SourceFault each_all is_all short each is ends no_source no_sink = absurd (no_source refl)
+end_of_whole m after bytes more all packets rest extra end.SinkFault each_all is_all short each is ends no_source no_sink = absurd (no_sink refl)
+end_of_whole m after bytes more all packets rest extra end.NoMemory each_all is_all short each is ends no_source no_sink = inr (inr refl)
 
-pub complete : (d : DomainRef) (left now held wrote : Option (List ℕ)) (e : End) → Course d left now held wrote e → IsWhole left → (e ≡ end.SourceFault → ⊥) → (e ≡ end.SinkFault → ⊥) → IsServedWhole e
-complete d None now held wrote e course whole no_source no_sink = absurd whole
-complete d (Some bytes) None held wrote e course whole no_source no_sink = absurd course.taken
-complete d (Some bytes) (Some more) held wrote e course (all, each, is, short) no_source no_sink = end_of_whole d bytes more all course.packets course.rest course.extra e each is short course.each course.taken course.ends no_source no_sink
+pub complete : (m after : Definitions) (left now held wrote : Option (List ℕ)) (e : End) → Course m left now held wrote e after → IsWhole left → (e ≡ end.SourceFault → ⊥) → (e ≡ end.SinkFault → ⊥) → IsServedWhole e
+complete m after None now held wrote e course whole no_source no_sink = absurd whole
+complete m after (Some bytes) None held wrote e course whole no_source no_sink = absurd course.taken
+complete m after (Some bytes) (Some more) held wrote e course (all, each, is, short) no_source no_sink = end_of_whole course.then after bytes more all course.packets course.rest course.extra e each is short course.each course.taken course.ends no_source no_sink

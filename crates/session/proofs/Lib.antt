@@ -1,8 +1,7 @@
 pub mod Answering
-pub mod Arguments
 pub mod Complete
 pub mod Courses
-pub mod Exactly
-pub mod Kept
+pub mod Entries
+pub mod Fits
 pub mod Known
-pub mod Short
+pub mod Saying

@@ -1,3 +1,4 @@
-pub mod Laws
-pub mod Reading
+pub mod Left
+pub mod Plans
+pub mod Rising
 pub mod Steps

@@ -1,104 +1,135 @@
 -- The steps of a session, from one reply to all pieces. No public clause cites these.
-use Rattle.std.specs.Prelude.{◌≡◌, ◌+◌, ◌^◌, ◌<◌, ◌≤◌, ℕ, List, [], ◌∷◌, ◌++◌, length, take, Option, None, Some, option_to_list, Result, IsErrOf}
+use Rattle.std.specs.Prelude.{◌≡◌, ◌<◌, ◌≤◌, ℕ, Bool, true, false, List, [], ◌∷◌, ◌++◌, length, take, Option, None, Some, option_to_list, Result, IsErrOf}
 use Rattle.std.specs.List.{AllByRecursion}
 use Rattle.std.specs.Io.KnownBytes.{Appends, Consumes}
 use Rattle.outside_spec.specs.Faults.{Rose}
-use Rattle.session.specs.declared.put.Stop.{Stop}
-use Rattle.session.specs.declared.put.Stop.TheVariants as stop
-use Rattle.session_spec.specs.Course.{IsCutReply}
-use Rattle.session_spec.specs.Replies.{Answered, Answers, text}
+use Rattle.session.specs.declared.say.Flow.{Flow}
+use Rattle.session.specs.declared.say.Flow.TheVariants as flow
+use Rattle.session.specs.declared.say.Stop.{Stop}
+use Rattle.session.specs.declared.say.Stop.TheVariants as stop
+use Rattle.session_spec.specs.Course.{HasEnd, IsClosed, IsCutReply, IsStill, StaysOpen}
+use Rattle.session_spec.specs.Definitions.{Definitions}
+use Rattle.session_spec.specs.Replies.{Answered, Answers, Turn, closes, text}
 use Rattle.session_spec.specs.declared.end.End.{End}
-use Rattle.session_spec.specs.declared.end.End.TheVariants.{BadPacket, Eof, NoMemory, SinkFault, SourceFault, Truncated}
-use Rattle.virt_types.specs.declared.reference.DomainRef.{DomainRef}
-use Rattle.wire_spec.specs.Packets.{HasKind, IsPacket, fault, spelling}
+use Rattle.session_spec.specs.declared.end.End.TheVariants.{BadPacket, Eof, NoMemory, SinkFault, Truncated}
+use Rattle.session_spec.specs.declared.end.End.TheVariants as end
+use Rattle.wire_spec.specs.Packets.{IsPacket, fault, spelling}
 use Rattle.wire_spec.specs.Split.{IsRest, stream}
 use Rattle.wire_spec.specs.declared.message.Packet.{Packet}
 
--- a message that is written without a fault: its kind and status are allowed, and it is far from the longest
-pub record IsReady (message : Packet) : Type 0 where
-  pub allowed : HasKind message.header
-  pub short : length message.payload ≤ 4096
+-- a call was done, the bytes are its reply, and it closes the session or not
+pub record IsDone (m : Definitions) (call : Packet) (after : Definitions) (done : List ℕ × Bool) : Type 0 where
+  pub answer : Packet
+  pub turn : Turn m call answer after
+  pub bytes_are : done.0 ≡ spelling answer
+  pub closes_is : call.header.kind ≡ 0 → done.1 ≡ closes call
 
 -- a fault of the sink comes only where its count rose
 pub record HasSinkCause {T : Type 0} (before now : ℕ) (result : Result T Stop) : Type 0 where
   pub later : before ≤ now
   pub failed : IsErrOf result stop.SinkFault → Rose before now
 
--- a message was put in part, or not at all
-abbrev pub PutStops : Packet → Option (List ℕ) → Option (List ℕ) → Stop → Type 0
-PutStops message held wrote stop.SinkFault = (n : ℕ) × (n < length (spelling message)) × Appends held wrote (take n (spelling message))
-PutStops message held wrote stop.NoMemory = Appends held wrote []
+-- whether a packet closes the session
+abbrev pub has_closed : Flow → Bool
+has_closed flow.On = false
+has_closed flow.Closed = true
 
 -- what was put of the reply to this packet
-abbrev pub StopsAt : DomainRef → Packet → List ℕ → Stop → Type 0
-StopsAt d packet extra stop.SinkFault = (reply : Packet) × (n : ℕ) × Answers d packet (Some reply) × (extra ≡ take n (spelling reply)) × (n < length (spelling reply))
-StopsAt d packet extra stop.NoMemory = extra ≡ []
+abbrev pub StopsAt : Definitions → Packet → List ℕ → Stop → Definitions → Type 0
+StopsAt m p extra stop.SinkFault after = (reply : Packet) × (n : ℕ) × Answers m p (Some reply) after × (extra ≡ take n (spelling reply)) × (n < length (spelling reply))
+StopsAt m p extra stop.NoMemory after = IsStill m extra after
 
 -- one packet was answered
-abbrev pub SaysOne : DomainRef → Packet → Option (List ℕ) → Option (List ℕ) → Type 0
-SaysOne d packet held wrote = (reply : Option Packet) × Answers d packet reply × Appends held wrote (text (option_to_list reply))
+pub record SaysOne (m : Definitions) (p : Packet) (held wrote : Option (List ℕ)) (after : Definitions) (next : Flow) : Type 0 where
+  pub reply : Option Packet
+  pub answers : Answers m p reply after
+  pub written : Appends held wrote (text (option_to_list reply))
+  pub closes_is : has_closed next ≡ closes p
 
 -- one packet was answered in part, or not at all
-abbrev pub StopsOne : DomainRef → Packet → Option (List ℕ) → Option (List ℕ) → Stop → Type 0
-StopsOne d packet held wrote why = (extra : List ℕ) × StopsAt d packet extra why × Appends held wrote extra
+abbrev pub StopsOne : Definitions → Packet → Option (List ℕ) → Option (List ℕ) → Definitions → Stop → Type 0
+StopsOne m p held wrote after why = (extra : List ℕ) × StopsAt m p extra why after × Appends held wrote extra
 
--- a front of the packets was answered
-pub record Serves (d : DomainRef) (ready left : List Packet) (held wrote : Option (List ℕ)) : Type 0 where
+-- a front of the packets was answered, and none of them closes the session
+pub record Serves (m : Definitions) (ready left : List Packet) (held wrote : Option (List ℕ)) (after : Definitions) : Type 0 where
   pub served : List Packet
   pub messages : List Packet
   pub parts : ready ≡ served ++ left
-  pub answered : Answered d served messages
+  pub stays_open : StaysOpen served
+  pub answered : Answered m served messages after
   pub written : Appends held wrote (text messages)
 
+-- a front of the packets was answered, of which the last closes the session
+pub record Closes (m : Definitions) (ready : List Packet) (held wrote : Option (List ℕ)) (after : Definitions) : Type 0 where
+  pub served : List Packet
+  pub left : List Packet
+  pub messages : List Packet
+  pub parts : ready ≡ served ++ left
+  pub is_closed : IsClosed served
+  pub answered : Answered m served messages after
+  pub written : Appends held wrote (text messages)
+
+-- all packets were answered, or those up to a close
+abbrev pub Flows : Definitions → List Packet → List Packet → Option (List ℕ) → Option (List ℕ) → Definitions → Flow → Type 0
+Flows m ready left held wrote after flow.On = Serves m ready [] held wrote after × (left ≡ [])
+Flows m ready left held wrote after flow.Closed = Closes m ready held wrote after
+
 -- a front of the packets was answered, and the next one was not, or in part
-pub record Stopped (d : DomainRef) (ready : List Packet) (held wrote : Option (List ℕ)) (why : Stop) : Type 0 where
+pub record Stopped (m : Definitions) (ready : List Packet) (held wrote : Option (List ℕ)) (after : Definitions) (why : Stop) : Type 0 where
   pub served : List Packet
   pub next : Packet
   pub others : List Packet
   pub messages : List Packet
+  pub then : Definitions
   pub extra : List ℕ
   pub parts : ready ≡ served ++ next ∷ others
-  pub answered : Answered d served messages
+  pub stays_open : StaysOpen served
+  pub answered : Answered m served messages then
   pub written : Appends held wrote (text messages ++ extra)
-  pub stops : StopsAt d next extra why
+  pub stops : StopsAt then next extra why after
 
--- all whole packets of the bytes were answered, and no fault stands behind them
-pub record PieceDone (d : DomainRef) (bytes after : List ℕ) (held wrote : Option (List ℕ)) : Type 0 where
+-- all whole packets of the bytes were answered, none closes the session, and no fault stands behind them
+pub record PieceDone (m : Definitions) (bytes after : List ℕ) (held wrote : Option (List ℕ)) (then : Definitions) : Type 0 where
   pub packets : List Packet
   pub messages : List Packet
   pub parts : bytes ≡ stream packets after
   pub each : AllByRecursion IsPacket packets
-  pub answered : Answered d packets messages
+  pub stays_open : StaysOpen packets
+  pub answered : Answered m packets messages then
   pub written : Appends held wrote (text messages)
   pub part : IsRest after
   pub sound : fault after ≡ None
 
 -- the ends that a piece can bring
-abbrev pub EndsPiece : DomainRef → List ℕ → List ℕ → End → Type 0
-EndsPiece d rest extra (BadPacket bad) = (fault rest ≡ Some bad) × (extra ≡ [])
-EndsPiece d rest extra SinkFault = IsCutReply d rest extra
-EndsPiece d rest extra NoMemory = extra ≡ []
-EndsPiece d rest extra other = ⊥
+abbrev pub EndsPiece : Definitions → List ℕ → List ℕ → End → Definitions → Type 0
+EndsPiece m rest extra end.Closed after = IsStill m extra after
+EndsPiece m rest extra (BadPacket bad) after = (fault rest ≡ Some bad) × IsStill m extra after
+EndsPiece m rest extra SinkFault after = IsCutReply m rest extra after
+EndsPiece m rest extra NoMemory after = IsStill m extra after
+EndsPiece m rest extra other after = ⊥
 
 -- the session ended at these bytes
-pub record PieceEnds (d : DomainRef) (bytes : List ℕ) (held wrote : Option (List ℕ)) (end : End) : Type 0 where
+pub record PieceEnds (m : Definitions) (bytes : List ℕ) (held wrote : Option (List ℕ)) (after : Definitions) (end : End) : Type 0 where
   pub packets : List Packet
   pub rest : List ℕ
   pub messages : List Packet
+  pub then : Definitions
   pub extra : List ℕ
   pub parts : bytes ≡ stream packets rest
   pub each : AllByRecursion IsPacket packets
-  pub answered : Answered d packets messages
+  pub has_end : HasEnd end packets
+  pub answered : Answered m packets messages then
   pub written : Appends held wrote (text messages ++ extra)
-  pub ends : EndsPiece d rest extra end
+  pub ends : EndsPiece then rest extra end after
 
--- so many bytes were taken, and all whole packets of them answered
-pub record Going (d : DomainRef) (left now held wrote : Option (List ℕ)) (rest : List ℕ) (count : ℕ) : Type 0 where
+-- so many bytes were taken, and all whole packets of them answered, of which none closes the session
+pub record Going (m : Definitions) (left now held wrote : Option (List ℕ)) (rest : List ℕ) (count : ℕ) (then : Definitions) : Type 0 where
   pub packets : List Packet
   pub messages : List Packet
   pub taken : Consumes left now (stream packets rest)
   pub each : AllByRecursion IsPacket packets
-  pub answered : Answered d packets messages
+  pub stays_open : StaysOpen packets
+  pub answered : Answered m packets messages then
   pub written : Appends held wrote (text messages)
   pub part : IsRest rest
   pub sound : fault rest ≡ None

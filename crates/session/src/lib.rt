@@ -1,12 +1,17 @@
 //! A session over a source and a sink: each call that comes is answered, in order.
 #![tactic(auto)]
 
-mod calls;
-mod laws;
+mod answer;
+mod define;
+mod lookup;
+mod map;
+mod plan;
 mod put;
-mod replies;
+mod refuse;
+mod rising;
+mod say;
 mod serve;
 
-pub use laws::replies_exactly_where;
-pub use serve::serve_fixed;
+pub use map::PlainMap;
+pub use serve::serve_plain;
 pub use session_spec::End;

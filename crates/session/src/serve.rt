@@ -6,14 +6,14 @@ ghost use Rattle.outside_spec.specs.Faults.{HasCause, Rose};
 ghost use Rattle.packet.specs.Feeding.{Grows, IsSplit, bytes_of};
 ghost use Rattle.wire_spec.specs.Packets.{fault};
 ghost use Rattle.session_spec.specs.Course.{Course, IsServedWhole, IsWhole};
-ghost use Rattle.session.specs.Steps.{HasSinkCause, PieceDone, PieceEnds, SaysOne, Serves, Stopped, StopsOne, end_at};
+ghost use Rattle.session.specs.Steps.{Flows, HasSinkCause, PieceDone, PieceEnds, Stopped, end_at};
 
-use crate::put::{Stop, put_message};
-use crate::replies::answer;
-use packet::{BadPacket, Feed, Packet, Sink, Source};
+use crate::map::PlainMap;
+use crate::say::{Flow, Stop, say};
+use packet::{BadPacket, Feed, Sink, Source};
 use session_spec::End;
 use std::alloc::Global;
-use virt_types::{DomainRef, Failed, NoMemory, OrNoMemory};
+use virt_types::{Failed, NoMemory, OrNoMemory, Random};
 
 /// The most bytes that are taken of one source.
 const MOST: u64 = 1 << 62;
@@ -21,46 +21,29 @@ const MOST: u64 = 1 << 62;
 /// The most bytes that are taken of it at once.
 const PIECE: usize = 8192;
 
-/// Says to a packet what is to be said to it.
-fn say<K: Sink>(
+/// Answers the packets that are ready, in order, and none behind one that closes the session.
+fn serve_ready<K: Sink, R: Random>(
     alloc: Global,
-    domain: &DomainRef,
-    packet: &Packet,
-    sink: &mut K,
-) -> Result<(), Stop>
-    ensures ok { OnOk result (SaysOne domain.now packet.now (K.held sink.old) (K.held sink.new)) }
-    ensures err { IfErr result (StopsOne domain.now packet.now (K.held sink.old) (K.held sink.new)) }
-    ensures cause { HasSinkCause (K.faults sink.old) (K.faults sink.new) result }
-{
-    match answer(alloc, domain, packet) {
-        Ok(Some(message)) => put_message(alloc, &message, sink),
-        Ok(None) => Ok(()),
-        Err(NoMemory) => Err(Stop::NoMemory),
-    }
-}
-
-/// Answers the packets that are ready, in order.
-fn serve_ready<K: Sink>(
-    alloc: Global,
-    domain: &DomainRef,
+    map: &mut PlainMap,
+    random: &mut R,
     feed: &mut Feed,
     sink: &mut K,
-) -> Result<(), Stop>
-    ensures ok { OnOk result (Serves domain.now feed.old.ready []
-        (K.held sink.old) (K.held sink.new)) }
-    ensures ready { OnOk result (feed.new.ready ≡ []) }
+) -> Result<Flow, Stop>
+    ensures ok { IfOk result (Flows map.old feed.old.ready feed.new.ready
+        (K.held sink.old) (K.held sink.new) map.new) }
     ensures rest { feed.new.rest ≡ feed.old.rest }
-    ensures err { IfErr result (Stopped domain.now feed.old.ready
-        (K.held sink.old) (K.held sink.new)) }
+    ensures err { IfErr result (Stopped map.old feed.old.ready
+        (K.held sink.old) (K.held sink.new) map.new) }
     ensures cause { HasSinkCause (K.faults sink.old) (K.faults sink.new) result }
 {
     while let Some(packet) = feed.next() {
-        match say(alloc, domain, &packet, sink) {
-            Ok(()) => {}
+        match say(alloc, map, random, &packet, sink) {
+            Ok(Flow::On) => {}
+            Ok(Flow::Closed) => return Ok(Flow::Closed),
             Err(stop) => return Err(stop),
         }
     }
-    Ok(())
+    Ok(Flow::On)
 }
 
 /// Feeds a piece to a feed that has found no fault so far, and says whether it finds one now.
@@ -78,28 +61,30 @@ fn take_in(feed: &mut Feed, piece: &[u8]) -> Result<Option<BadPacket>, NoMemory>
 }
 
 /// Answers the packets that are ready. The bytes behind them have this fault.
-fn serve_taken<K: Sink>(
+fn serve_taken<K: Sink, R: Random>(
     alloc: Global,
-    domain: &DomainRef,
+    map: &mut PlainMap,
+    random: &mut R,
     feed: &mut Feed,
     bad: Option<BadPacket>,
     sink: &mut K,
 ) -> Option<End>
     requires split { IsSplit feed.old }
     requires bad { bad ≡ fault feed.old.rest }
-    ensures none { IfNone result (PieceDone domain.now (bytes_of feed.old) feed.new.rest
-        (K.held sink.old) (K.held sink.new)) }
+    ensures none { IfNone result (PieceDone map.old (bytes_of feed.old) feed.new.rest
+        (K.held sink.old) (K.held sink.new) map.new) }
     ensures ready { IfNone result (feed.new.ready ≡ []) }
-    ensures some { IfSome result (PieceEnds domain.now (bytes_of feed.old)
-        (K.held sink.old) (K.held sink.new)) }
+    ensures some { IfSome result (PieceEnds map.old (bytes_of feed.old)
+        (K.held sink.old) (K.held sink.new) map.new) }
     ensures later { K.faults sink.old ≤ K.faults sink.new }
     ensures cause { result ≡ Some End.SinkFault → Rose (K.faults sink.old) (K.faults sink.new) }
 {
-    match serve_ready(alloc, domain, feed, sink) {
-        Ok(()) => match bad {
+    match serve_ready(alloc, map, random, feed, sink) {
+        Ok(Flow::On) => match bad {
             Some(bad) => Some(End::BadPacket(bad)),
             None => None,
         },
+        Ok(Flow::Closed) => Some(End::Closed),
         Err(Stop::SinkFault) => Some(End::SinkFault),
         Err(Stop::NoMemory) => Some(End::NoMemory),
     }
@@ -107,25 +92,26 @@ fn serve_taken<K: Sink>(
 
 /// Takes a piece in, and answers the packets that are whole now. Where it gives an end the session
 /// is over.
-fn serve_piece<K: Sink>(
+fn serve_piece<K: Sink, R: Random>(
     alloc: Global,
-    domain: &DomainRef,
+    map: &mut PlainMap,
+    random: &mut R,
     feed: &mut Feed,
     piece: &[u8],
     sink: &mut K,
 ) -> Option<End>
     requires ready { feed.old.ready ≡ [] }
     requires sound { fault feed.old.rest ≡ None }
-    ensures none { IfNone result (PieceDone domain.now (feed.old.rest ++ piece.now) feed.new.rest
-        (K.held sink.old) (K.held sink.new)) }
+    ensures none { IfNone result (PieceDone map.old (feed.old.rest ++ piece.now) feed.new.rest
+        (K.held sink.old) (K.held sink.new) map.new) }
     ensures ready { IfNone result (feed.new.ready ≡ []) }
-    ensures some { IfSome result (PieceEnds domain.now (feed.old.rest ++ piece.now)
-        (K.held sink.old) (K.held sink.new)) }
+    ensures some { IfSome result (PieceEnds map.old (feed.old.rest ++ piece.now)
+        (K.held sink.old) (K.held sink.new) map.new) }
     ensures later { K.faults sink.old ≤ K.faults sink.new }
     ensures cause { result ≡ Some End.SinkFault → Rose (K.faults sink.old) (K.faults sink.new) }
 {
     match take_in(feed, piece) {
-        Ok(bad) => serve_taken(alloc, domain, feed, bad, sink),
+        Ok(bad) => serve_taken(alloc, map, random, feed, bad, sink),
         Err(NoMemory) => Some(End::NoMemory),
     }
 }
@@ -158,17 +144,18 @@ fn end_of(feed: &Feed) -> End
 }
 
 /// Serves piece by piece until the input is over, or the session.
-fn serve_pieces<S: Source, K: Sink>(
+fn serve_pieces<S: Source, K: Sink, R: Random>(
     alloc: Global,
-    domain: &DomainRef,
+    map: &mut PlainMap,
+    random: &mut R,
     feed: &mut Feed,
     source: &mut S,
     sink: &mut K,
 ) -> End
     requires ready { feed.old.ready ≡ [] }
     requires rest { feed.old.rest ≡ [] }
-    ensures course { Course domain.now (S.left source.old) (S.left source.new)
-        (K.held sink.old) (K.held sink.new) result }
+    ensures course { Course map.old (S.left source.old) (S.left source.new)
+        (K.held sink.old) (K.held sink.new) result map.new }
     ensures source_count { S.faults source.old ≤ S.faults source.new }
     ensures sink_count { K.faults sink.old ≤ K.faults sink.new }
     ensures source_fault { result ≡ End.SourceFault
@@ -184,7 +171,7 @@ fn serve_pieces<S: Source, K: Sink>(
             Ok(count) => count,
             Err(Failed) => return End::SourceFault,
         };
-        match serve_piece(alloc, domain, feed, chunk.split_at(count).0, sink) {
+        match serve_piece(alloc, map, random, feed, chunk.split_at(count).0, sink) {
             Some(end) => return end,
             None => taken += count as u64,
         }
@@ -193,14 +180,15 @@ fn serve_pieces<S: Source, K: Sink>(
 }
 
 /// Serves from the first byte on.
-fn serve_all<S: Source, K: Sink>(
+fn serve_all<S: Source, K: Sink, R: Random>(
     alloc: Global,
-    domain: &DomainRef,
+    map: &mut PlainMap,
+    random: &mut R,
     source: &mut S,
     sink: &mut K,
 ) -> End
-    ensures course { Course domain.now (S.left source.old) (S.left source.new)
-        (K.held sink.old) (K.held sink.new) result }
+    ensures course { Course map.old (S.left source.old) (S.left source.new)
+        (K.held sink.old) (K.held sink.new) result map.new }
     ensures source_count { S.faults source.old ≤ S.faults source.new }
     ensures sink_count { K.faults sink.old ≤ K.faults sink.new }
     ensures source_fault { result ≡ End.SourceFault
@@ -209,22 +197,25 @@ fn serve_all<S: Source, K: Sink>(
         → Rose (K.faults sink.old) (K.faults sink.new) }
 {
     match Feed::new(alloc) {
-        Ok(mut feed) => serve_pieces(alloc, domain, &mut feed, source, sink),
+        Ok(mut feed) => serve_pieces(alloc, map, random, &mut feed, source, sink),
         Err(NoMemory) => End::NoMemory,
     }
 }
 
-/// Serves one domain, which nothing changes, to whoever sends packets by the source: each call has
-/// one reply, put into the sink in the order of the calls. Every other packet is passed over. After
-/// 2^62 bytes the input counts as over. It gives the sink back, and how the session ended.
-pub fn serve_fixed<S: Source, K: Sink>(
+/// Serves the definitions of a map to whoever sends packets by the source: each call has one reply,
+/// put into the sink in the order of the calls, and changes the map as the procedures say. Every other
+/// packet is passed over. A call of CONNECT_CLOSE that was answered is the last, and after 2^62 bytes the
+/// input counts as over. Missing identifiers and addresses are drawn from `random`. It gives the sink
+/// back, and how the session ended.
+pub fn serve_plain<S: Source, K: Sink, R: Random>(
     alloc: Global,
-    domain: &DomainRef,
+    map: &mut PlainMap,
     source: &mut S,
     mut sink: K,
+    random: &mut R,
 ) -> (K, End)
-    ensures course { Course domain.now (S.left source.old) (S.left source.new)
-        (K.held sink) (K.held result.0) result.1 }
+    ensures course { Course map.old (S.left source.old) (S.left source.new)
+        (K.held sink) (K.held result.0) result.1 map.new }
     ensures source_count { S.faults source.old ≤ S.faults source.new }
     ensures sink_count { K.faults sink ≤ K.faults result.0 }
     ensures source_fault { result.1 ≡ End.SourceFault
@@ -236,6 +227,6 @@ pub fn serve_fixed<S: Source, K: Sink>(
         → ¬ Rose (S.faults source.old) (S.faults source.new)
         → ¬ Rose (K.faults sink) (K.faults result.0) → IsServedWhole result.1 }
 {
-    let end = serve_all(alloc, domain, source, &mut sink);
+    let end = serve_all(alloc, map, random, source, &mut sink);
     (sink, end)
 }

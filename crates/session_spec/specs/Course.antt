@@ -1,11 +1,12 @@
--- The whole course of a session: the bytes it took, the replies it wrote, and what its end means.
-use Rattle.std.specs.Prelude.{◌≡◌, ℕ, ◌^◌, ◌<◌, ◌⊎◌, List, [], ◌++◌, length, take, Option, None, Some}
+-- The whole course of a session: the bytes it took, the replies it wrote, what its end means, and the
+-- map that it leaves.
+use Rattle.std.specs.Prelude.{◌≡◌, ℕ, ◌^◌, ◌<◌, ◌⊎◌, true, false, List, [], ◌∷◌, ◌++◌, length, take, Option, None, Some}
 use Rattle.std.specs.List.{AllByRecursion}
 use Rattle.std.specs.Io.KnownBytes.{Appends, Consumes, IsAtEnd}
-use Rattle.session_spec.specs.Replies.{Answered, Answers, text}
+use Rattle.session_spec.specs.Definitions.{Definitions}
+use Rattle.session_spec.specs.Replies.{Answered, Answers, closes, text}
 use Rattle.session_spec.specs.declared.end.End.{End}
-use Rattle.session_spec.specs.declared.end.End.TheVariants.{BadPacket, Eof, NoMemory, SinkFault, SourceFault, Truncated}
-use Rattle.virt_types.specs.declared.reference.DomainRef.{DomainRef}
+use Rattle.session_spec.specs.declared.end.End.TheVariants.{BadPacket, Closed, Eof, NoMemory, SinkFault, SourceFault, Truncated}
 use Rattle.wire_spec.specs.Packets.{IsPacket, fault, spelling}
 use Rattle.wire_spec.specs.Split.{IsRest, stream}
 use Rattle.wire_spec.specs.declared.message.Packet.{Packet}
@@ -20,46 +21,72 @@ pub record IsBegun (rest : List ℕ) : Type 0 where
   pub part : IsRest rest
   pub sound : fault rest ≡ None
 
--- a front, and not the whole, of the reply to the packet that stands next
-pub record IsCutReply (d : DomainRef) (rest extra : List ℕ) : Type 0 where
+-- a front, and not the whole, of the reply to the packet that stands next; that call was done
+pub record IsCutReply (m : Definitions) (rest extra : List ℕ) (after : Definitions) : Type 0 where
   pub packet : Packet
   pub behind : List ℕ
   pub reply : Packet
   pub count : ℕ
   pub is_packet : IsPacket packet
   pub next : rest ≡ spelling packet ++ behind
-  pub answers : Answers d packet (Some reply)
+  pub answers : Answers m packet (Some reply) after
   pub front : extra ≡ take count (spelling reply)
   pub cut : count < length (spelling reply)
 
+-- nothing was written behind the whole replies, and the map is as they left it
+pub record IsStill (m : Definitions) (extra : List ℕ) (after : Definitions) : Type 0 where
+  pub nothing : extra ≡ []
+  pub same : after ≡ m
+
+-- none of these packets closes the session
+abbrev pub StaysOpen : List Packet → Type 0
+StaysOpen packets = AllByRecursion (λ p. closes p ≡ false) packets
+
+-- the last of these packets, and no other, closes it
+pub record IsClosed (packets : List Packet) : Type 0 where
+  pub front : List Packet
+  pub close : Packet
+  pub parts : packets ≡ front ++ close ∷ []
+  pub stays_open : StaysOpen front
+  pub is_close : closes close ≡ true
+
+-- what an end says of the packets that were answered
+abbrev pub HasEnd : End → List Packet → Type 0
+HasEnd Closed packets = IsClosed packets
+HasEnd _ packets = StaysOpen packets
+
 -- what an end says of the bytes that are left, of those taken, of their rest behind the answered
--- packets, and of what was written behind the whole replies
-abbrev pub Ends : DomainRef → Option (List ℕ) → List ℕ → List ℕ → List ℕ → End → Type 0
-Ends d left taken rest extra Eof = (rest ≡ []) × (extra ≡ []) × IsOver left taken
-Ends d left taken rest extra (Truncated n) = (n ≡ length rest) × IsBegun rest × (extra ≡ []) × IsOver left taken
-Ends d left taken rest extra (BadPacket bad) = (fault rest ≡ Some bad) × (extra ≡ [])
-Ends d left taken rest extra SourceFault = (fault rest ≡ None) × IsRest rest × (extra ≡ [])
-Ends d left taken rest extra SinkFault = IsCutReply d rest extra
-Ends d left taken rest extra NoMemory = extra ≡ []
+-- packets, of what was written behind the whole replies, and of the map: after a close its rest, which
+-- the session took with it, is not looked at
+abbrev pub Ends : Definitions → Option (List ℕ) → List ℕ → List ℕ → List ℕ → End → Definitions → Type 0
+Ends m left taken rest extra Closed after = IsStill m extra after
+Ends m left taken rest extra Eof after = (rest ≡ []) × IsOver left taken × IsStill m extra after
+Ends m left taken rest extra (Truncated n) after = (n ≡ length rest) × IsBegun rest × IsOver left taken × IsStill m extra after
+Ends m left taken rest extra (BadPacket bad) after = (fault rest ≡ Some bad) × IsStill m extra after
+Ends m left taken rest extra SourceFault after = (fault rest ≡ None) × IsRest rest × IsStill m extra after
+Ends m left taken rest extra SinkFault after = IsCutReply m rest extra after
+Ends m left taken rest extra NoMemory after = IsStill m extra after
 
 -- what was taken of a source and put into a sink, where they tell it: packets and a rest, and the
--- replies to these packets, in order
-pub record Course (d : DomainRef) (left now held wrote : Option (List ℕ)) (end : End) : Type 0 where
+-- replies to these packets, in order; and what became of the map
+pub record Course (before : Definitions) (left now held wrote : Option (List ℕ)) (end : End) (after : Definitions) : Type 0 where
   pub packets : List Packet
   pub rest : List ℕ
   pub messages : List Packet
+  pub then : Definitions
   pub extra : List ℕ
   pub taken : Consumes left now (stream packets rest)
   pub each : AllByRecursion IsPacket packets
-  pub answered : Answered d packets messages
+  pub answered : Answered before packets messages then
   pub written : Appends held wrote (text messages ++ extra)
-  pub ends : Ends d now (stream packets rest) rest extra end
+  pub has_end : HasEnd end packets
+  pub ends : Ends then now (stream packets rest) rest extra end after
 
 -- the bytes are told, and are whole packets, fewer than a session takes
 abbrev pub IsWhole : Option (List ℕ) → Type 0
 IsWhole None = ⊥
 IsWhole (Some bytes) = (packets : List Packet) × AllByRecursion IsPacket packets × (bytes ≡ stream packets []) × (length bytes < 2 ^ 62)
 
--- the input was served to its end, unless memory was wanting
+-- the input was served to its end, or to a close, unless memory was wanting
 abbrev pub IsServedWhole : End → Type 0
-IsServedWhole end = (end ≡ Eof) ⊎ (end ≡ NoMemory)
+IsServedWhole end = (end ≡ Eof) ⊎ ((end ≡ Closed) ⊎ (end ≡ NoMemory))

@@ -1,3 +1,6 @@
-pub mod Asks
 pub mod Course
+pub mod Defining
+pub mod Definitions
+pub mod Refused
 pub mod Replies
+pub mod Served

@@ -1,61 +1,57 @@
 -- What is said to each packet: one reply to a call, and nothing to any other (libvirt, src/rpc/virnetprotocol.x).
-use Rattle.std.specs.Prelude.{◌≡◌, ◌≢◌, ℕ, Bool, List, [], ◌∷◌, ◌++◌, take, codes, bytes_eq, Option, None, Some, option_to_list, if◌then◌else◌}
-use Rattle.std.specs.Fmt.{decimal}
+use Rattle.std.specs.Prelude.{◌≡◌, ◌≢◌, ◌==◌, ◌&&◌, ℕ, Bool, true, false, List, [], ◌∷◌, ◌++◌, Option, None, Some, option_to_list, Result, Ok, Err}
 use Rattle.std.specs.List.{flat_map}
-use Rattle.std.specs.Str.Lossy.{utf8_valid_len}
-use Rattle.procedure_spec.specs.Errors.{error_payload}
-use Rattle.procedure_spec.specs.Results.{domain_reference}
-use Rattle.session_spec.specs.Asks.{Asks}
-use Rattle.session_spec.specs.declared.asked.Asked.{Asked}
-use Rattle.session_spec.specs.declared.asked.Asked.TheVariants.{LookUp, Malformed, NotBuilt, Open}
-use Rattle.virt_types.specs.declared.reference.DomainRef.{DomainRef}
+use Rattle.procedure_spec.specs.Calls.{call_of}
+use Rattle.procedure_spec.specs.Errors.{refusal_payload}
+use Rattle.procedure_spec.specs.Results.{reply_header, result}
+use Rattle.procedure_spec.specs.declared.fault.ArgFault.{ArgFault}
+use Rattle.session_spec.specs.Definitions.{Definitions}
+use Rattle.session_spec.specs.Refused.{unread}
+use Rattle.session_spec.specs.Served.{Serves}
+use Rattle.virt_types.specs.declared.request.Request.{Request}
+use Rattle.virt_types.specs.declared.request.Request.TheVariants as request
+use Rattle.virt_types.specs.declared.value.Reply.{Reply}
+use Rattle.virt_types.specs.declared.value.Reply.TheVariants as reply
 use Rattle.wire_spec.specs.Packets.{spelling}
 use Rattle.wire_spec.specs.declared.message.Header.{Header}
 use Rattle.wire_spec.specs.declared.message.Packet.{Packet}
 
--- the call's own program, version, procedure and serial; kind 1 is a reply
-abbrev pub reply_header : Header → ℕ → Header
-reply_header call status = record call { kind = 1; status = status }
+-- what a call asks for over a map, as its header and payload are read: the reply, and the map after it
+abbrev pub Gives : Definitions → Header → Result Request ArgFault → Reply → Definitions → Type 0
+Gives m call (Ok asked) said after = Serves m asked said after
+Gives m call (Err bad) said after = (said ≡ reply.No (unread call bad)) × (after ≡ m)
 
--- all is well, with this result
-abbrev pub accepted : Header → List ℕ → Packet
-accepted call result = record { header = reply_header call 0; payload = result }
+-- the packet of a reply: the call's own program, version, procedure and serial; status 1 is an error
+abbrev pub reply_packet : Header → Reply → Packet
+reply_packet call (reply.Ok v) = record { header = reply_header call 0; payload = result v }
+reply_packet call (reply.No why) = record { header = reply_header call 1; payload = refusal_payload why }
 
--- of a text the longest front of whole characters within 1,024 bytes
-abbrev pub kept_text : List ℕ → List ℕ
-kept_text text = take (utf8_valid_len (take 1024 text)) text
-
--- a refusal, with its code, its message and what it keeps of a text
-abbrev pub refused : Header → ℕ → List ℕ → List ℕ → Packet
-refused call code message text = record { header = reply_header call 1; payload = error_payload code message (kept_text text) }
-
--- the domain where the name is its own, else a refusal that keeps the name asked
-abbrev pub found : DomainRef → Header → List ℕ → Packet
-found d call name = if bytes_eq name d.name then accepted call (domain_reference d) else refused call 42 (codes "no domain") name
-
--- what is said to a call that asks for this
-abbrev pub reply_of : DomainRef → Header → Asked → Packet
-reply_of d call Open = accepted call []
-reply_of d call (LookUp name) = found d call name
-reply_of d call (Malformed at) = refused call 39 (codes "malformed call") (codes "at " ++ decimal at)
-reply_of d call NotBuilt = refused call 206 (codes "not built") (decimal call.procedure)
-
--- the reply to a call, by what it asks for
-pub record IsReply (d : DomainRef) (call reply : Packet) : Type 0 where
-  pub asked : Asked
-  pub asks : Asks call asked
-  pub reply_is : reply ≡ reply_of d call.header asked
+-- one call over a map: its reply is the one that the map before it gives, and the map after it is the
+-- one that the call leaves
+pub record Turn (m : Definitions) (call answer : Packet) (after : Definitions) : Type 0 where
+  pub said : Reply
+  pub gives : Gives m call.header (call_of call.header call.payload) said after
+  pub answer_is : answer ≡ reply_packet call.header said
 
 -- kind 0 is a call: it has one reply, and no other packet has any
-abbrev pub Answers : DomainRef → Packet → Option Packet → Type 0
-Answers d packet None = packet.header.kind ≢ 0
-Answers d packet (Some reply) = (packet.header.kind ≡ 0) × IsReply d packet reply
+abbrev pub Answers : Definitions → Packet → Option Packet → Definitions → Type 0
+Answers m packet None after = (packet.header.kind ≢ 0) × (after ≡ m)
+Answers m packet (Some answer) after = (packet.header.kind ≡ 0) × Turn m packet answer after
 
--- the messages are the replies to these packets, in their order
-abbrev pub Answered : DomainRef → List Packet → List Packet → Type 0
-Answered d [] messages = messages ≡ []
-Answered d (packet ∷ packets) messages = (first : Option Packet) × (others : List Packet) × Answers d packet first × Answered d packets others × (messages ≡ option_to_list first ++ others)
+-- the messages are the replies to these packets, in their order, each over the map that the ones before left
+abbrev pub Answered : Definitions → List Packet → List Packet → Definitions → Type 0
+Answered m [] messages after = (messages ≡ []) × (after ≡ m)
+Answered m (packet ∷ packets) messages after = (first : Option Packet) × (then : Definitions) × (others : List Packet)
+    × Answers m packet first then × Answered then packets others after × (messages ≡ option_to_list first ++ others)
 
 -- messages, one behind the other
 abbrev pub text : List Packet → List ℕ
 text messages = flat_map spelling messages
+
+-- a call of CONNECT_CLOSE
+abbrev pub asks_to_close : Result Request ArgFault → Bool
+asks_to_close (Ok request.ConnectClose) = true
+asks_to_close _ = false
+
+abbrev pub closes : Packet → Bool
+closes packet = (packet.header.kind == 0) && asks_to_close (call_of packet.header packet.payload)

@@ -3,6 +3,8 @@ use wire_spec::BadPacket;
 /// How a session ended.
 #[derive(Clone, Copy, Debug, PartialEq, Eq)]
 pub enum End {
+    /// A call of CONNECT_CLOSE was answered.
+    Closed,
     /// The input ended behind a packet.
     Eof,
     /// The input ended inside a packet.

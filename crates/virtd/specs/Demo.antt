@@ -1,6 +1,10 @@
 -- The one domain of `virtd demo`.
-use Rattle.std.specs.Prelude.{ℕ, List, [], ◌∷◌, codes, negsuc}
-use Rattle.virt_types.specs.declared.reference.DomainRef.{DomainRef}
+use Rattle.std.specs.Prelude.{ℕ, List, [], ◌∷◌, codes, Some, None}
+use Rattle.session_spec.specs.Definitions.{Definitions}
+use Rattle.virt_types.specs.declared.domain_def.CrashAction.TheVariants as crash
+use Rattle.virt_types.specs.declared.domain_def.DomainDef.{DomainDef}
+use Rattle.virt_types.specs.declared.domain_def.DomainType.TheVariants as type
+use Rattle.virt_types.specs.declared.domain_def.LifecycleAction.TheVariants as action
 
 -- the words by which it is served
 abbrev pub demo_words : List (List ℕ)
@@ -10,6 +14,32 @@ demo_words = codes "demo" ∷ []
 abbrev pub demo_uuid : List ℕ
 demo_uuid = 0 ∷ 0 ∷ 0 ∷ 0 ∷ 0 ∷ 0 ∷ 0x40 ∷ 0 ∷ 0x80 ∷ 0 ∷ 0 ∷ 0 ∷ 0 ∷ 0 ∷ 0 ∷ 1 ∷ []
 
--- it is not active: its number is -1
-abbrev pub demo : DomainRef
-demo = record { name = codes "demo"; uuid = demo_uuid; id = negsuc 0 }
+-- 1 GiB of memory, one processor, no devices
+unfoldable pub demo_def : DomainDef
+demo_def = record {
+  kind = type.Qemu;
+  name = codes "demo";
+  uuid = Some demo_uuid;
+  title = None;
+  description = None;
+  guest = record { text = []; entries = [] };
+  memory = 1048576;
+  current_memory = 1048576;
+  vcpus = 1;
+  current_vcpus = 1;
+  os = record { kind = codes "hvm"; arch = None; machine = None; boot = [] };
+  on_poweroff = action.Destroy;
+  on_reboot = action.Restart;
+  on_crash = crash.Destroy;
+  emulator = None;
+  disks = [];
+  interfaces = [];
+  serials = [];
+  consoles = [];
+  graphics = [];
+  memballoon = None;
+}
+
+-- the map that is served
+abbrev pub demo_map : Definitions
+demo_map = (demo_uuid, demo_def) ∷ []

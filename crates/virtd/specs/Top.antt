@@ -2,12 +2,14 @@
 use Rattle.std.specs.Prelude.{◌≡◌, ◌⊎◌, ℕ, List, Option, None, Some}
 use Rattle.outside_spec.specs.Faults.{Rose}
 use Rattle.session_spec.specs.Course.{Course, IsWhole}
+use Rattle.session_spec.specs.Definitions.{Definitions}
 use Rattle.session_spec.specs.declared.end.End.{End}
-use Rattle.session_spec.specs.declared.end.End.TheVariants.{BadPacket, Eof, NoMemory, SinkFault, SourceFault, Truncated}
-use Rattle.virtd.specs.Demo.{demo}
+use Rattle.session_spec.specs.declared.end.End.TheVariants.{BadPacket, Closed, Eof, NoMemory, SinkFault, SourceFault, Truncated}
+use Rattle.virtd.specs.Demo.{demo_map}
 
 -- the status of a session's end
 abbrev pub status : End → ℕ
+status Closed = 0
 status Eof = 0
 status SourceFault = 5
 status SinkFault = 5
@@ -21,11 +23,12 @@ pub record MakesNothing {T : Type 0} (made back made' back' : T) : Type 0 where
   pub back_none : back' ≡ back
 
 module _ {S K : Type 0} (left : S → Option (List ℕ)) (source_faults : S → ℕ) (held : K → Option (List ℕ)) (sink_faults : K → ℕ) where
-  -- one session over demo went over both ends, from what they were made as to what they are as they come back
+  -- one session over the map of demo went over both ends, from what they were made as to what they are as they come back
   pub record IsServed (source : S) (sink : K) (source' : S) (sink' : K) (code : ℕ) : Type 0 where
     pub end : End
+    pub after : Definitions
     pub code_is : code ≡ status end
-    pub course : Course demo (left source) (left source') (held sink) (held sink') end
+    pub course : Course demo_map (left source) (left source') (held sink) (held sink') end after
     pub source_fault : end ≡ SourceFault → Rose (source_faults source) (source_faults source')
     pub sink_fault : end ≡ SinkFault → Rose (sink_faults sink) (sink_faults sink')
     pub complete : IsWhole (left source) → ¬ Rose (source_faults source) (source_faults source')

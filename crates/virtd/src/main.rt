@@ -9,14 +9,17 @@ mod tests;
 mod top;
 mod world;
 
-use process::{Process, words};
+use process::{Process, SystemWords, no_words, words};
 use std::process::ExitCode;
 pub use top::virtd;
 use virt_types::NoMemory;
 pub use world::World;
 
 fn main(rt: HostRuntime) -> ExitCode {
-    let mut world = Process::new(&rt);
+    let Ok(random) = SystemWords::new(&rt) else {
+        return ExitCode::from(no_words(&rt));
+    };
+    let mut world = Process::new(&rt, random);
     match words(&rt) {
         Ok(words) => ExitCode::from(virtd(rt.alloc(), words.as_slice(), &mut world)),
         Err(NoMemory) => ExitCode::from(top::out_of_memory(&mut world)),

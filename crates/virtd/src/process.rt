@@ -4,11 +4,14 @@ ghost use Rattle.std.specs.Prelude.{◌≡◌};
 
 use crate::world::World;
 use packet::{Sink, Source};
+use rand::make_rng;
+use rand::rngs::StdRng;
+use rand_core::{Rng, SeedableRng};
 use std::env;
 use std::io::{ErrorKind, Read, Write};
 use std::rt::{Stderr, Stdin, Stdout};
 use std::snapshot::Snapshot;
-use virt_types::{Failed, NoMemory};
+use virt_types::{Failed, NoMemory, Random};
 
 /// Standard input, with the number of its faults. It tells no bytes.
 #[derive(Drop)]
@@ -61,22 +64,52 @@ impl Sink for StandardOutput {
     }
 }
 
+/// Words of a generator that begins with what the system gave.
+#[derive(Drop)]
+pub(crate) struct SystemWords {
+    generator: StdRng,
+}
+
+impl SystemWords {
+    /// A generator of its own, or a fault where the system gives nothing to begin with.
+    pub(crate) fn new(rt: &HostRuntime) -> Result<SystemWords, Failed> {
+        match make_rng(rt) {
+            Ok(generator) => Ok(SystemWords { generator }),
+            Err(_) => Err(Failed),
+        }
+    }
+}
+
+impl Random for SystemWords {
+    fn word(&mut self) -> u64 {
+        self.generator.next_u64()
+    }
+
+    fn another(&mut self) -> SystemWords {
+        SystemWords {
+            generator: StdRng::from_rng(&mut self.generator),
+        }
+    }
+}
+
 /// The process.
 #[derive(Drop)]
 pub(crate) struct Process {
     input: Stdin,
     output: Stdout,
     error: Stderr,
+    words: SystemWords,
     made: Option<Snapshot<(StandardInput, StandardOutput)>>,
     back: Option<Snapshot<(StandardInput, StandardOutput)>>,
 }
 
 impl Process {
-    pub(crate) fn new(rt: &HostRuntime) -> Process {
+    pub(crate) fn new(rt: &HostRuntime, words: SystemWords) -> Process {
         Process {
             input: rt.stdin(),
             output: rt.stdout(),
             error: rt.stderr(),
+            words,
             made: None,
             back: None,
         }
@@ -89,6 +122,8 @@ impl World for Process {
     type S = StandardInput;
 
     type K = StandardOutput;
+
+    type R = SystemWords;
 
     ghost made = { λ p. option_map (λ s. s.value) p.made };
 
@@ -114,6 +149,10 @@ impl World for Process {
         self.back = Some(Snapshot::of(&ends));
     }
 
+    fn random(&mut self) -> SystemWords {
+        self.words.another()
+    }
+
     fn say(&mut self, line: &[u8]) {
         let _ = self.error.write_all(line);
         let _ = self.error.write_all(b"\n");
@@ -133,4 +172,10 @@ pub(crate) fn words(rt: &HostRuntime) -> Result<Vec<String>, NoMemory> {
         Err(error) if error.kind() == ErrorKind::OutOfMemory => Err(NoMemory),
         Err(_) => Ok(words),
     }
+}
+
+/// The system gave nothing that words could begin with: the status of a link that failed.
+pub(crate) fn no_words(rt: &HostRuntime) -> u8 {
+    let _ = rt.stderr().write_all(b"virtd: link\n");
+    5
 }

@@ -53,7 +53,7 @@ pub(crate) fn say_end<W: World>(alloc: Global, world: &mut W, end: &End)
     ensures back { W.back world.new ≡ W.back world.old }
 {
     match *end {
-        End::Eof => {}
+        End::Closed | End::Eof => {}
         End::Truncated { rest } => {
             say_line(world, format!(in alloc; "virtd: truncated {rest}"));
         }

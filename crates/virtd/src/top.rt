@@ -1,15 +1,15 @@
 // The top call: from the words to the status.
 ghost use Rattle.std.specs.Prelude.{◌≡◌, ◌≢◌, ◌↔◌, IsTrue, map};
 ghost use Rattle.std.specs.String.{string_bytes};
-ghost use Rattle.virtd.specs.Demo.{demo, demo_words};
+ghost use Rattle.virtd.specs.Demo.{demo_map, demo_words};
 ghost use Rattle.virtd.specs.Top.{MakesNothing, ServesDemo, ServesStdio, status};
 
-use crate::demo::demo_domain;
+use crate::demo::demo_domains;
 use crate::say::{say_end, say_out_of_memory, say_usage};
 use crate::world::World;
-use session::{End, serve_fixed};
+use session::{End, PlainMap, serve_plain};
 use std::alloc::Global;
-use virt_types::{DomainRef, NoMemory};
+use virt_types::NoMemory;
 
 /// The words are those of no command.
 const USAGE: u8 = 2;
@@ -22,7 +22,7 @@ fn status_of(end: &End) -> u8
     ensures { result ≡ status end.now }
 {
     match end {
-        End::Eof => 0,
+        End::Closed | End::Eof => 0,
         End::SourceFault | End::SinkFault => 5,
         End::BadPacket(_) => 7,
         End::Truncated { .. } => 8,
@@ -30,14 +30,15 @@ fn status_of(end: &End) -> u8
     }
 }
 
-/// Serves the domain over standard input and output.
-fn serve_stdio<W: World>(alloc: Global, domain: &DomainRef, world: &mut W) -> u8
-    requires { domain.now ≡ demo }
+/// Serves the domains over standard input and output.
+fn serve_stdio<W: World>(alloc: Global, map: &mut PlainMap, world: &mut W) -> u8
+    requires { map.old ≡ demo_map }
     ensures { ServesStdio W.S.left W.S.faults W.K.held W.K.faults
         (W.made world.new) (W.back world.new) result }
 {
+    let mut random = world.random();
     let (mut source, sink) = world.stdio();
-    let (sink, end) = serve_fixed(alloc, domain, &mut source, sink);
+    let (sink, end) = serve_plain(alloc, map, &mut source, sink, &mut random);
     world.ended(source, sink);
     say_end(alloc, world, &end);
     status_of(&end)
@@ -58,8 +59,8 @@ fn serve_demo<W: World>(alloc: Global, world: &mut W) -> u8
     ensures { ServesDemo W.S.left W.S.faults W.K.held W.K.faults
         (W.made world.old) (W.back world.old) (W.made world.new) (W.back world.new) result }
 {
-    match demo_domain(alloc) {
-        Ok(domain) => serve_stdio(alloc, &domain, world),
+    match demo_domains(alloc) {
+        Ok(mut map) => serve_stdio(alloc, &mut map, world),
         Err(NoMemory) => out_of_memory(world),
     }
 }

@@ -3,6 +3,7 @@ ghost use Rattle.std.specs.Prelude.{◌≡◌, Some};
 ghost use Rattle.std.specs.declared.option.Option.{Option};
 
 use packet::{Sink, Source};
+use virt_types::Random;
 
 /// What the program is given of the outside. It knows what it made last, and what it got back last.
 pub trait World {
@@ -11,6 +12,9 @@ pub trait World {
 
     /// Where replies go to.
     type K: Sink;
+
+    /// Where new identifiers and addresses come from.
+    type R: Random + Drop;
 
     // The two ends that were made last.
     ghost made: { Self → Option (Self.S × Self.K) };
@@ -27,6 +31,11 @@ pub trait World {
     fn ended(&mut self, source: Self::S, sink: Self::K)
         ensures made { made self.new ≡ made self.old }
         ensures back { back self.new ≡ Some (source, sink) };
+
+    /// A source of words without a pattern.
+    fn random(&mut self) -> Self::R
+        ensures made { made self.new ≡ made self.old }
+        ensures back { back self.new ≡ back self.old };
 
     /// Writes a line for a person on standard error. Its faults are passed over.
     fn say(&mut self, line: &[u8])

@@ -6,6 +6,7 @@ use crate::world::World;
 use packet::memory::{Failing, MemorySink, MemorySource};
 use std::alloc::{AllocError, Global};
 use std::snapshot::Snapshot;
+use virt_types::Random;
 
 /// How the two ends behave.
 #[derive(Clone, Copy)]
@@ -59,6 +60,23 @@ pub(super) fn writing(write_most: usize, writes: Failing) -> Ends
     }
 }
 
+/// Words that count up.
+#[derive(Clone, Copy)]
+struct CountedWords {
+    last: u64,
+}
+
+impl Random for CountedWords {
+    fn word(&mut self) -> u64 {
+        self.last = self.last.wrapping_add(1);
+        self.last
+    }
+
+    fn another(&mut self) -> CountedWords {
+        *self
+    }
+}
+
 #[derive(Drop)]
 struct MemoryWorld {
     alloc: Global,
@@ -76,6 +94,8 @@ impl World for MemoryWorld {
     type S = MemorySource;
 
     type K = MemorySink;
+
+    type R = CountedWords;
 
     ghost made = { λ w. option_map (λ s. s.value) w.made };
 
@@ -99,6 +119,10 @@ impl World for MemoryWorld {
         let ends = (source, sink);
         self.back = Some(Snapshot::of(&ends));
         self.output = Vec::from_slice(self.alloc, ends.1.bytes()).ok();
+    }
+
+    fn random(&mut self) -> CountedWords {
+        CountedWords { last: 0 }
     }
 
     fn say(&mut self, line: &[u8]) {

@@ -1,6 +1,6 @@
-use Rattle.std.proofs.Common.{◌≡◌, ◌+◌, ◌++◌, take, drop, arith}
+use Rattle.std.proofs.Common.{arith}
 use Rattle.std.proofs.Math.Seq.{take-add}
-use Rattle.session.proofs.Known.{Appends-kept, Appends-then}
+use Rattle.session.proofs.Known.{Appends-then}
 use Rattle.session.proofs.put.put_all.Goals as goal
 
 pub loop-sent-preserved : goal.loop-sent-preserved

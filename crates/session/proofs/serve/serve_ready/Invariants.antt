@@ -4,7 +4,7 @@ use Rattle.session.proofs.serve.serve_ready.Given as goal
 
 abbrev pub invariant-loop-packet : goal.invariant-loop-packet
 invariant-loop-packet g l = record {
-  serves : Serves l.domain l.fn.feed.ready l.feed.ready (g.K.Sink.held l.fn.sink) (g.K.Sink.held l.sink);
+  serves : Serves l.fn.map l.fn.feed.ready l.feed.ready (g.K.Sink.held l.fn.sink) (g.K.Sink.held l.sink) l.map;
   rest : l.feed.rest ≡ l.fn.feed.rest;
   later : g.K.Sink.faults l.fn.sink ≤ g.K.Sink.faults l.sink;
 }

@@ -1,0 +1,33 @@
+-- What a call is to leave. No public clause cites these.
+use Rattle.std.specs.Prelude.{◌≡◌, ◌≤◌, ℕ, length, Result}
+use Rattle.procedure_spec.specs.Results.{HasResult, HasShape, result}
+use Rattle.procedure_spec.specs.declared.fault.ArgFault.{ArgFault}
+use Rattle.procedure_spec.specs.declared.procedure.ResultShape.{ResultShape}
+use Rattle.session_spec.specs.Definitions.{Definitions}
+use Rattle.session_spec.specs.Replies.{Gives, asks_to_close}
+use Rattle.session.specs.Left.{left}
+use Rattle.session.specs.declared.plan.Plan.{Plan}
+use Rattle.virt_types.specs.declared.request.Request.{Request}
+use Rattle.virt_types.specs.declared.value.Reply.{Reply}
+use Rattle.virt_types.specs.declared.value.Reply.TheVariants as reply
+use Rattle.wire_spec.specs.declared.message.Header.{Header}
+
+-- the payload of a reply is short beside the longest packet
+abbrev pub most_result : ℕ
+most_result = 1000000
+
+-- the value has this shape and a short payload; a refusal keeps no more than refusals keep
+abbrev pub IsShort : ResultShape → Reply → Type 0
+IsShort shape (reply.Ok v) = HasShape v shape × (length (result v) ≤ most_result)
+IsShort shape (reply.No why) = length why.kept ≤ 1024
+
+-- the reply can be written as the one to a call of this header
+abbrev pub IsSayable : Header → Reply → Type 0
+IsSayable call (reply.Ok v) = HasResult call v × (length (result v) ≤ most_result)
+IsSayable call (reply.No why) = length why.kept ≤ 1024
+
+-- the plan for a call over a map, as the call is read
+pub record IsPlan (m : Definitions) (call : Header) (read : Result Request ArgFault) (plan : Plan) : Type 0 where
+  pub gives : Gives m call read plan.said (left m plan.put)
+  pub closes : plan.closes ≡ asks_to_close read
+  pub sayable : IsSayable call plan.said

@@ -1,0 +1,230 @@
+// DOMAIN_DEFINE_XML.
+ghost use Rattle.std.specs.Prelude.{◌≡◌, ◌≤◌, IfOk, IfNone, IfSome, length, false};
+ghost use Rattle.procedure_spec.specs.Calls.{Finds};
+ghost use Rattle.session_spec.specs.Defining.{Defines, Puts, clash as clash_of, exists_or, definition_in, full as full_of, other_identifier, other_name as other_name_of, refused_put, too_long};
+ghost use Rattle.session_spec.specs.Definitions.{IsKept, identified, named, text_of};
+ghost use Rattle.text_spec.specs.Text.{most_bytes};
+ghost use Rattle.session_spec.specs.Refused.{at_place};
+ghost use Rattle.procedure_spec.specs.declared.procedure.ResultShape.TheVariants as shape;
+ghost use Rattle.session.specs.Left.{left};
+ghost use Rattle.virt_types.specs.Name.{IsName};
+ghost use Rattle.session.specs.Plans.{IsShort};
+
+use crate::lookup::reference;
+use crate::map::PlainMap;
+use crate::plan::Plan;
+use crate::refuse::{refuse, refuse_at};
+use definition_fill::fill_domain;
+use definition_print::print_domain;
+use domain_xml::read;
+use markup::read_tree;
+use std::alloc::Global;
+use virt_types::{
+    DomainDef, NoMemory, OrNoMemory, Random, Refusal, RefusalCode, Reply, Text, TryCopy, Uuid,
+    Value,
+};
+
+/// The most domains.
+const MOST_DOMAINS: usize = 64;
+
+/// The most bytes of a definition's text.
+const MOST_BYTES: usize = 65_536;
+
+fn at_text(alloc: Global, at: u64) -> Result<Text, NoMemory>
+    ensures { IfOk result (λ kept. kept ≡ at_place at) }
+{
+    Ok(Text::of(format!(in alloc; "at {at}")?))
+}
+
+/// The definition that a text is, or what the refusal keeps.
+fn read_definition(alloc: Global, text: &[u8]) -> Result<DomainDef, OrNoMemory<Text>>
+    ensures { Finds result (definition_in text.now) }
+{
+    match read_tree(alloc, text) {
+        Ok(tree) => match read(alloc, &tree) {
+            Ok(def) => Ok(def),
+            Err(OrNoMemory::Fault(fault)) => Err(OrNoMemory::Fault(fault.path)),
+            Err(OrNoMemory::NoMemory) => Err(OrNoMemory::NoMemory),
+        },
+        Err(OrNoMemory::Fault(fault)) => match at_text(alloc, fault.at) {
+            Ok(kept) => Err(OrNoMemory::Fault(kept)),
+            Err(NoMemory) => Err(OrNoMemory::NoMemory),
+        },
+        Err(OrNoMemory::NoMemory) => Err(OrNoMemory::NoMemory),
+    }
+}
+
+/// The identifier of another domain that has the name.
+fn other_uuid(
+    alloc: Global,
+    map: &PlainMap,
+    uuid: &Uuid,
+    def: &DomainDef,
+) -> Result<Option<Text>, NoMemory>
+    ensures { IfOk result (λ kept. kept ≡ other_identifier uuid.now (named def.now.name map.now)) }
+{
+    match map.named(def.name.as_str()) {
+        Some((held, _)) if held.as_bytes() != uuid.as_bytes() => {
+            let mut buffer = Uuid::encode_buffer();
+            let text = held.hyphenated().encode_lower(&mut buffer);
+            Ok(Some(Text::copy_of(alloc, text)?))
+        }
+        _ => Ok(None),
+    }
+}
+
+/// Another name, under which the identifier is held.
+fn other_name(
+    alloc: Global,
+    map: &PlainMap,
+    uuid: &Uuid,
+    def: &DomainDef,
+) -> Result<Option<Text>, NoMemory>
+    ensures { IfOk result (λ kept. kept ≡ other_name_of def.now.name (identified uuid.now map.now)) }
+{
+    match map.identified(uuid) {
+        Some(held) if held.name.as_bytes() != def.name.as_bytes() => {
+            Ok(Some(Text::copy_of(alloc, held.name.as_str())?))
+        }
+        _ => Ok(None),
+    }
+}
+
+fn clash(
+    alloc: Global,
+    map: &PlainMap,
+    uuid: &Uuid,
+    def: &DomainDef,
+) -> Result<Option<Text>, NoMemory>
+    ensures { IfOk result (λ kept. kept ≡ clash_of map.now (uuid.now, def.now)) }
+{
+    match other_uuid(alloc, map, uuid, def)? {
+        Some(kept) => Ok(Some(kept)),
+        None => other_name(alloc, map, uuid, def),
+    }
+}
+
+/// Why there is no room for one more.
+fn full(alloc: Global, map: &PlainMap, uuid: &Uuid) -> Result<Option<Refusal>, NoMemory>
+    ensures why { IfOk result (λ why. why ≡ full_of (length map.now) (identified uuid.now map.now)) }
+    ensures short { IfOk result (λ why. IfSome why (λ why. length why.kept ≤ 1024)) }
+{
+    if map.identified(uuid).is_some() || map.len() < MOST_DOMAINS {
+        return Ok(None);
+    }
+    Ok(Some(refuse(alloc, RefusalCode::ListFull, "64")?))
+}
+
+/// Why a definition whose name and identifier are held by another, or that is one too many, is not put
+/// into the map.
+fn refuse_held(
+    alloc: Global,
+    map: &PlainMap,
+    uuid: &Uuid,
+    def: &DomainDef,
+) -> Result<Option<Refusal>, NoMemory>
+    ensures why { IfOk result (λ why. why ≡ exists_or (clash_of map.now (uuid.now, def.now)) (full_of (length map.now) (identified uuid.now map.now))) }
+    ensures short { IfOk result (λ why. IfSome why (λ why. length why.kept ≤ 1024)) }
+{
+    match clash(alloc, map, uuid, def)? {
+        Some(kept) => Ok(Some(refuse(alloc, RefusalCode::DomainExists, kept.as_str())?)),
+        None => full(alloc, map, uuid),
+    }
+}
+
+/// Why a definition whose text is too long is not put into the map.
+fn refuse_long(alloc: Global, def: &DomainDef) -> Result<Option<Refusal>, NoMemory>
+    ensures why { IfOk result (λ why. why ≡ too_long def.now) }
+    ensures short { IfOk result (λ why. IfSome why (λ why. length why.kept ≤ 1024)) }
+    ensures told { IfOk result (λ why. IfNone why (length (text_of def.now) ≤ most_bytes)) }
+{
+    let text = print_domain(alloc, def)?;
+    if text.len() > MOST_BYTES {
+        return Ok(Some(refuse(alloc, RefusalCode::BadDefinition, "/domain")?));
+    }
+    Ok(None)
+}
+
+/// Why a definition is not put into the map.
+fn refuse_put(
+    alloc: Global,
+    map: &PlainMap,
+    uuid: &Uuid,
+    def: &DomainDef,
+) -> Result<Option<Refusal>, NoMemory>
+    ensures why { IfOk result (λ why. why ≡ refused_put map.now (uuid.now, def.now)) }
+    ensures short { IfOk result (λ why. IfSome why (λ why. length why.kept ≤ 1024)) }
+    ensures told { IfOk result (λ why. IfNone why (length (text_of def.now) ≤ most_bytes)) }
+{
+    match refuse_long(alloc, def)? {
+        Some(why) => Ok(Some(why)),
+        None => refuse_held(alloc, map, uuid, def),
+    }
+}
+
+/// What a define of this filled definition is to leave.
+fn plan_put(alloc: Global, map: &PlainMap, uuid: Uuid, def: DomainDef) -> Result<Plan, NoMemory>
+    requires identifier { length uuid ≡ 16 }
+    requires name { IsName def.name }
+    ensures puts { IfOk result (λ plan. Puts map.now (uuid, def) (refused_put map.now (uuid, def)) plan.said (left map.now plan.put)) }
+    ensures kept { IfOk result (λ plan. IfSome plan.put IsKept) }
+    ensures short { IfOk result (λ plan. IsShort shape.Domain plan.said) }
+    ensures goes_on { IfOk result (λ plan. plan.closes ≡ false) }
+{
+    match refuse_put(alloc, map, &uuid, &def)? {
+        Some(why) => Ok(Plan::of(Reply::No(why))),
+        None => Ok(Plan {
+            said: Reply::Ok(Value::Domain(reference(uuid, &def)?)),
+            put: Some((uuid, def)),
+            closes: false,
+        }),
+    }
+}
+
+fn identifier_bytes(uuid: &Uuid) -> &[u8]
+    ensures value { result.now ≡ uuid.now }
+    ensures size { length uuid.now ≡ 16 }
+{
+    uuid.as_bytes()
+}
+
+/// Each identifier has 16 bytes, and the name of a definition is one.
+fn is_entry(uuid: &Uuid, def: &DomainDef)
+    ensures identifier { length uuid.now ≡ 16 }
+    ensures name { IsName def.now.name }
+{
+    let _identifier = identifier_bytes(uuid);
+    let _name = def.name.as_bytes();
+}
+
+/// DOMAIN_DEFINE_XML of this text.
+pub(crate) fn plan_define<R: Random>(
+    alloc: Global,
+    map: &PlainMap,
+    random: &mut R,
+    text: &[u8],
+) -> Result<Plan, NoMemory>
+    ensures defines { IfOk result (λ plan. Defines map.now (definition_in text.now) plan.said (left map.now plan.put)) }
+    ensures kept { IfOk result (λ plan. IfSome plan.put IsKept) }
+    ensures short { IfOk result (λ plan. IsShort shape.Domain plan.said) }
+    ensures goes_on { IfOk result (λ plan. plan.closes ≡ false) }
+{
+    match read_definition(alloc, text) {
+        Ok(read) => {
+            let def = fill_domain(alloc, read, random);
+            match def.uuid {
+                Some(uuid) => {
+                    is_entry(&uuid, &def);
+                    plan_put(alloc, map, uuid, def)
+                }
+                None => unreachable!(),
+            }
+        }
+        Err(OrNoMemory::Fault(kept)) => Ok(Plan::of(Reply::No(refuse(
+            alloc,
+            RefusalCode::BadDefinition,
+            kept.as_str(),
+        )?))),
+        Err(OrNoMemory::NoMemory) => Err(NoMemory),
+    }
+}
