@@ -16,3 +16,8 @@ mod Segments
 mod DomainElements
 mod DomainValues
 mod DomainFaults
+mod Plain
+mod Names
+mod Tagged
+mod Printed
+mod RoundTrip

@@ -1,5 +1,5 @@
 -- What definitions satisfy that reading can give.
-use Rattle.std.specs.Prelude.{◌≡◌, ℕ, ◌+◌, ◌^◌, ◌<◌, ◌≤◌, List, [], ◌∷◌, length, map, false, Option, Some, None, ◌==◌}
+use Rattle.std.specs.Prelude.{◌≡◌, ℕ, ◌+◌, ◌^◌, ◌<◌, ◌≤◌, List, [], ◌∷◌, length, map, chars, IsUtf8, false, Option, Some, None, ◌==◌}
 use Rattle.std.specs.List.{AllByRecursion}
 use Rattle.std.specs.Char.{to_ascii_lowercase}
 use Rattle.virt_types.specs.Name.{bad_place}
@@ -12,9 +12,15 @@ use Rattle.virt_types.specs.declared.mac.Mac.{Mac}
 use Rattle.text_spec.specs.GuestScript.{entries_of}
 use Rattle.text_spec.specs.Spelling.{mac_text}
 use Rattle.text_spec.specs.Tag.{is_among}
+use Rattle.text_spec.specs.Writable.{AreChars}
 
 abbrev pub AreBytes : List ℕ → Type 0
 AreBytes bytes = AllByRecursion (λ b. b < 256) bytes
+
+-- the value of an attribute: characters that a text may hold
+pub record IsValue (value : List ℕ) : Type 0 where
+  pub utf8 : IsUtf8 value
+  pub value_chars : AreChars (chars value)
 
 -- ---- devices
 -- an address of six bytes

@@ -1,2 +1,4 @@
 pub mod Formed
 pub mod Given
+pub mod Texts
+pub mod ReadsAs
