@@ -2,12 +2,14 @@
 #![tactic(auto)]
 
 mod feed;
+mod payload;
 
 use feed::feed_packets;
+use payload::define;
 use std::alloc::Global;
 use std::process::ExitCode;
 use std::{env, io};
-use virt_types::OrNoMemory;
+use virt_types::{NoMemory, OrNoMemory};
 
 /// What the words choose.
 #[derive(Drop)]
@@ -17,6 +19,12 @@ enum Work {
         size: usize,
         piece: usize,
         times: u32,
+    },
+    /// Calls that define a domain by a text of `size` bytes are read and their replies written, in
+    /// so many rounds.
+    Define {
+        size: u32,
+        rounds: u32,
     },
     /// No work is called so.
     Unknown,
@@ -30,6 +38,13 @@ fn work_of(words: &[String]) -> Work {
                 _ => Work::Unknown,
             }
         }
+        [_, name, size, rounds] if name.as_str() == "define" => match (
+            size.parse(),
+            rounds.parse(),
+        ) {
+            (Ok(size), Ok(rounds)) => Work::Define { size, rounds },
+            _ => Work::Unknown,
+        },
         _ => Work::Unknown,
     }
 }
@@ -53,8 +68,15 @@ fn main(rt: HostRuntime) -> io::Result<ExitCode> {
             Err(OrNoMemory::Fault(_)) => Ok(ExitCode::from(7)),
             Err(OrNoMemory::NoMemory) => Ok(ExitCode::from(12)),
         },
+        Work::Define { size, rounds } => match define(alloc, size, rounds) {
+            Ok(served) => {
+                println!(rt; "{served} calls")?;
+                Ok(ExitCode::SUCCESS)
+            }
+            Err(NoMemory) => Ok(ExitCode::from(12)),
+        },
         Work::Unknown => {
-            println!(rt; "bench feed SIZE PIECE TIMES")?;
+            println!(rt; "bench feed SIZE PIECE TIMES or bench define SIZE ROUNDS")?;
             Ok(ExitCode::from(2))
         }
     }
