@@ -7,3 +7,4 @@ pub mod OwedProofs
 pub mod OpenProofs
 pub mod PhaseBoots
 pub mod PhaseExits
+pub mod WholeProofs

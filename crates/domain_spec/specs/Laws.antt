@@ -3,8 +3,12 @@ use Rattle.std.specs.Prelude.{◌≡◌, ℕ, ◌+◌, ◌<◌, ◌≤◌, List,
 use Rattle.domain_spec.specs.Types.{Answer, Call, Refusal, State, Transition}
 use Rattle.domain_spec.specs.declared.mark.Mark.{Mark}
 use Rattle.domain_spec.specs.declared.mark.Mark.TheVariants as mark
+use Rattle.domain_spec.specs.declared.open.OpenOperation.{OpenOperation}
+use Rattle.domain_spec.specs.declared.progress.Progress.{Progress}
 use Rattle.domain_spec.specs.declared.standing.Base.{Base}
 use Rattle.domain_spec.specs.declared.standing.Standing.{Standing}
+use Rattle.domain_spec.specs.declared.step.Outcome.{Outcome}
+use Rattle.domain_spec.specs.declared.step.Outcome.TheVariants as outcome
 use Rattle.domain_spec.specs.Fold.{after, at_base, standing}
 use Rattle.domain_spec.specs.Legal.{IsLegal}
 use Rattle.domain_spec.specs.Owed.{all_transitions, owed}
@@ -13,6 +17,7 @@ use Rattle.domain_spec.specs.Reading.{boots_of, is_live, live_boot}
 use Rattle.domain_spec.specs.CallResult.{refused}
 use Rattle.domain_spec.specs.Sequential.{meets_ended, seq}
 use Rattle.domain_spec.specs.Tests.{refusal_of}
+use Rattle.domain_spec.specs.WholeOperation.{is_through, whole_operation}
 
 -- the state of a history is that of its parts, one after the other
 abbrev pub PartsFollow : Type 0
@@ -120,3 +125,16 @@ boots_made s (m ∷ marks) = made_in s.state (live_boot (after s m).state) ++ bo
 -- comes twice and none that has ended comes again
 abbrev pub BootsAreNew : Type 0
 BootsAreNew = (s : Standing) (marks : List (Mark ℕ)) → IsCounted s → RiseAbove (boots_of s.state) (boots_made s marks)
+
+-- the due phase waits for an answer
+abbrev pub WaitsAt : Progress → Outcome → Type 0
+WaitsAt at (outcome.Over r) = Unit {0}
+WaitsAt at (outcome.On p) = is_through at ≡ false
+
+-- the operation is over, or its due phase waits for an answer
+abbrev pub IsOverOrWaits : Progress → Type 0
+IsOverOrWaits at = WaitsAt at at.operation.outcome
+
+-- a whole operation stops only where it is over or waits for one more answer
+abbrev pub OperationsGoOn : Type 0
+OperationsGoOn = (s : State) (o : OpenOperation) (answers : List Answer) → IsOverOrWaits (whole_operation s o answers)

@@ -21,3 +21,4 @@ pub mod Sequential
 pub mod Snapshots
 pub mod Tests
 pub mod Types
+pub mod WholeOperation

@@ -1,5 +1,5 @@
 // Laws of the definitions: each function's contract is one, and its body does nothing.
-ghost use Rattle.domain_spec.specs.Laws.{BeginningIsLegal, BootsAreNew, BootsNeverFall, EachEndsOnce, OneJobAtATime, OneOperationAtATime, OwedInOrder, PartsAreLegal, PartsFollow, RefusalChangesNothing};
+ghost use Rattle.domain_spec.specs.Laws.{BeginningIsLegal, BootsAreNew, BootsNeverFall, EachEndsOnce, OneJobAtATime, OneOperationAtATime, OperationsGoOn, OwedInOrder, PartsAreLegal, PartsFollow, RefusalChangesNothing};
 
 /// The state of a history is that of its parts, one after the other.
 pub fn parts_follow()
@@ -49,4 +49,9 @@ pub fn boots_are_new()
 /// In a legal history boots end in the order of their numbers, so none ends twice.
 pub fn each_boot_ends_once()
     ensures { EachEndsOnce }
+{}
+
+/// A whole operation stops only where it is over or its due phase waits for one more answer.
+pub fn operations_go_on()
+    ensures { OperationsGoOn }
 {}
