@@ -17,7 +17,10 @@ mod DomainElements
 mod DomainValues
 mod DomainFaults
 mod Plain
+mod Lengths
+mod Bare
 mod Names
 mod Tagged
 mod Printed
 mod RoundTrip
+mod Filled

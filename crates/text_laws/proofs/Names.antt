@@ -1,5 +1,5 @@
 -- The names of elements and attributes are names of XML.
-use Rattle.std.proofs.Common.{◌≡◌, ℕ, List, [], ◌∷◌, Bool, true, refl}
+use Rattle.std.proofs.Common.{refl}
 use Rattle.text_spec.specs.declared.vocabulary.AttributeName.{AttributeName}
 use Rattle.text_spec.specs.declared.vocabulary.AttributeName.TheVariants as attribute
 use Rattle.text_spec.specs.declared.vocabulary.ElementName.{ElementName}

@@ -1,22 +1,18 @@
 -- Texts of ASCII letters, digits and signs are texts and values of XML, and most are names.
-use Rattle.std.proofs.Common.{◌≡◌, ℕ, zero, suc, ◌+◌, ◌/◌, ◌%◌, ◌^◌, ◌<◌, ◌≤◌, List, [], ◌∷◌, ◌++◌, length, Bool, true, false, Option, Some, None, refl, sym, ◌∙◌, ap, subst, arith, get_or}
-use Rattle.std.specs.Prelude.{◌&&◌, ◌||◌, ◌==◌, nat_le, codes, chars, reverse, map, IsUtf8, if◌then◌else◌}
-use Rattle.std.specs.Char.{digit_char, digit_value}
+use Rattle.std.proofs.Common.{◌≡◌, ℕ, zero, suc, ◌^◌, ◌<◌, ◌≤◌, List, [], ◌∷◌, Bool, true, false, refl, sym, ◌∙◌, ap, subst, arith}
+use Rattle.std.specs.Prelude.{◌&&◌, nat_le, chars, reverse}
+use Rattle.std.specs.Char.{digit_value}
 use Rattle.std.specs.Fmt.{decimal}
-use Rattle.std.specs.List.{AllByRecursion, list_all, join_with_byte}
+use Rattle.std.specs.List.{AllByRecursion, list_all}
 use Rattle.std.specs.Str.{IsAscii}
 use Rattle.std.specs.Str.Parse.{AllDigits}
 use Rattle.std.proofs.lemmas.Bool.Decides.{nat_tests}
 use Rattle.std.proofs.lemmas.Fmt.{decimal_is_IsNumeral}
 use Rattle.std.proofs.lemmas.List.{reverse-append}
 use Rattle.std.proofs.lemmas.Str.{chars-IsAscii, IsUtf8-from_ascii}
-use Rattle.uuid.specs.Text.{by_index, hex_digit, is_hex_digit, nibble, hyphenated_text, lower, is_hyphen_place, digit_place}
-use Rattle.uuid.proofs.TextLemmas.{nibble_small}
-use Rattle.virt_types.specs.declared.mac.Mac.{Mac}
 use Rattle.text_spec.specs.Character.{is_char, is_blank, is_name_start, is_name_char, starts_blank}
-use Rattle.text_spec.specs.Spelling.{byte_text, colon, mac_text}
 use Rattle.text_spec.specs.Writable.{AreChars, IsName, IsNamed, IsText}
-use Rattle.text_laws.specs.Given.{AreBytes, IsMac, IsValue}
+use Rattle.text_laws.specs.Given.{IsValue}
 use Rattle.text_laws.proofs.Allowed.{both_all}
 use Rattle.text_laws.proofs.Parts.{both_of}
 
@@ -27,7 +23,7 @@ Plain c = (33 ≤ c) × (c < 127)
 abbrev pub ArePlain : List ℕ → Type 0
 ArePlain cs = AllByRecursion Plain cs
 
-ascii : (cs : List ℕ) → ArePlain cs → IsAscii cs
+pub ascii : (cs : List ℕ) → ArePlain cs → IsAscii cs
 ascii [] all i = omega arith
 ascii (c ∷ cs) all zero = omega (arith, all.0.1)
 ascii (c ∷ cs) all (suc i) = ascii cs all.1 i
@@ -97,7 +93,7 @@ named_by c cs e start all =
     let same : chars (c ∷ cs) ≡ c ∷ cs = chars-IsAscii (c ∷ cs) (ascii (c ∷ cs) plain) in
     record { utf8 = IsUtf8-from_ascii (c ∷ cs) (ascii (c ∷ cs) plain); name_chars = subst IsName (sym same) (start, all_name (c ∷ cs) all) }
 
--- ---- numbers, addresses, identifiers
+-- ---- numbers
 digit_plain : (c : ℕ) → digit_value c < 10 → Plain c
 digit_plain c h = (grind (arith, nat_tests), grind (arith, nat_tests))
 
@@ -107,42 +103,3 @@ digits_plain (c ∷ cs) h = (digit_plain c h.0, digits_plain cs h.1)
 
 pub decimal_plain : (n : ℕ) → n < 2 ^ 64 → ArePlain (decimal n)
 decimal_plain n fits = digits_plain (decimal n) (decimal_is_IsNumeral n fits).0.1
-
-hex_plain : (d : ℕ) → d < 16 → Plain (digit_char d)
-hex_plain d h = (grind (arith, nat_tests), grind (arith, nat_tests))
-
-byte_plain : (b : ℕ) → b < 256 → ArePlain (byte_text b)
-byte_plain b h =
-    let high : b / 16 < 16 = omega arith in
-    let low : b % 16 < 16 = omega arith in
-    (hex_plain (b / 16) high, (hex_plain (b % 16) low, tt))
-
-joined_plain : (bs : List ℕ) → AreBytes bs → ArePlain (join_with_byte colon (map byte_text bs))
-joined_plain [] all = tt
-joined_plain (b ∷ []) all = byte_plain b all.0
-joined_plain (b ∷ c ∷ bs) all =
-    both_all Plain (byte_text b) (colon ∷ join_with_byte colon (map byte_text (c ∷ bs))) (byte_plain b all.0)
-    ((omega arith, omega arith), joined_plain (c ∷ bs) all.1)
-
-pub mac_plain : (m : Mac) → IsMac m → ArePlain (mac_text m)
-unfolding mac_text
-mac_plain m is = joined_plain m.bytes is.bytes
-
-is_hex : (d : ℕ) → d < 16 → is_hex_digit (hex_digit lower d) ≡ true
-is_hex d h = grind (arith, nat_tests)
-
-hex_digit_plain : (c : ℕ) → is_hex_digit c ≡ true → Plain c
-hex_digit_plain c h = (grind (arith, nat_tests), grind (arith, nat_tests))
-
-place_plain : (xs : List ℕ) (k : ℕ) (b : Bool) → Plain (if b then 45 else hex_digit lower (nibble xs (digit_place k)))
-place_plain xs k true = (omega arith, omega arith)
-place_plain xs k false = hex_digit_plain _ (is_hex (nibble xs (digit_place k)) (nibble_small xs (digit_place k)))
-
-indexed_plain : (n : ℕ) (f : ℕ → ℕ) → ((k : ℕ) → Plain (f k)) → ArePlain (by_index n f)
-unfolding by_index
-indexed_plain zero f all = tt
-indexed_plain (suc n) f all = both_all Plain (by_index n f) (f n ∷ []) (indexed_plain n f all) (all n, tt)
-
-pub uuid_plain : (xs : List ℕ) → ArePlain (hyphenated_text lower xs)
-uuid_plain xs =
-    indexed_plain 36 (λ k. if is_hyphen_place k then 45 else hex_digit lower (nibble xs (digit_place k))) (λ k. place_plain xs k (is_hyphen_place k))

@@ -1,6 +1,6 @@
 -- The trees that definitions are printed as are formed.
-use Rattle.std.proofs.Common.{◌≡◌, ℕ, zero, suc, ◌+◌, ◌^◌, ◌<◌, ◌≤◌, List, [], ◌∷◌, ◌++◌, length, Bool, true, false, Option, Some, None, refl, sym, ◌∙◌, ap, subst, append-nil, arith}
-use Rattle.std.specs.Prelude.{map, codes, nat_lt, nat_le, ◌==◌, ◌&&◌, if◌then◌else◌}
+use Rattle.std.proofs.Common.{◌≡◌, ℕ, suc, ◌^◌, ◌<◌, List, [], ◌∷◌, ◌++◌, length, Bool, true, false, Option, Some, None, refl, sym, ap, subst, append-nil, arith}
+use Rattle.std.specs.Prelude.{map, codes, nat_lt, ◌==◌, if◌then◌else◌}
 use Rattle.std.specs.Fmt.{decimal}
 use Rattle.std.specs.List.{AllByRecursion}
 use Rattle.std.specs.Str.{chars}
@@ -39,15 +39,16 @@ use Rattle.text_spec.specs.declared.vocabulary.AttributeName.TheVariants as attr
 use Rattle.text_spec.specs.declared.vocabulary.ElementName.{ElementName}
 use Rattle.text_spec.specs.declared.vocabulary.ElementName.TheVariants as element
 use Rattle.text_spec.specs.DevicePrinted.{driver_tree, disk_source_tree, target_tree, disk_attributes, disk_children, disk_tree, mac_tree, interface_source_tree, interface_model_tree, interface_children, interface_tree, device_tree}
-use Rattle.text_spec.specs.DomainPrinted.{uuid_tree, script_tree, script_trees, memory_tree, current_attribute, vcpu_tree, boot_tree, os_type_tree, os_tree, character_tree, graphics_tree, memballoon_tree, other_device_trees, device_trees, gathered, front_trees, size_trees, action_trees, middle_trees, domain_children, domain_tree}
-use Rattle.text_spec.specs.Spelling.{pair, pairs, worded, holding, present, flagged, mac_text}
+use Rattle.text_spec.specs.DomainPrinted.{uuid_tree, script_tree, script_trees, memory_tree, current_attribute, vcpu_tree, boot_tree, os_type_tree, os_tree, character_tree, graphics_tree, memballoon_tree, device_trees, gathered, front_trees, middle_trees, domain_children, domain_tree}
+use Rattle.text_spec.specs.Spelling.{pair, pairs, worded, present, flagged, mac_text}
 use Rattle.text_spec.specs.Tree.{Tree}
 use Rattle.text_spec.specs.Words.{domain_type_word, boot_device_word, lifecycle_action_word, crash_action_word, disk_type_word, disk_device_word, interface_type_word}
 use Rattle.text_spec.specs.Writable.{AreAttributes, IsText, IsTree}
-use Rattle.text_laws.specs.Given.{IsValue, IsMac, IsMacOf, IsInterface, IsWithin, IsUuidOf, IsDomain, IsDevice}
+use Rattle.text_laws.specs.Given.{IsValue, IsMac, IsMacOf, IsInterface, IsDomain, IsDevice}
 use Rattle.text_laws.specs.Texts.{Of, IsDriverText, IsDiskSourceText, IsDiskText, IsInterfaceSourceText, IsModelText, IsInterfaceText, IsDeviceText, IsCharacterText, IsGraphicsText, IsMemballoonText, IsDomainText}
 use Rattle.text_laws.proofs.Allowed.{both_all}
-use Rattle.text_laws.proofs.Plain.{plain_text, plain_value, no_text, word_text, word_value, decimal_plain, mac_plain, uuid_plain}
+use Rattle.text_laws.proofs.Bare.{mac_plain, uuid_plain}
+use Rattle.text_laws.proofs.Plain.{plain_text, plain_value, no_text, word_text, word_value, decimal_plain}
 use Rattle.text_laws.proofs.Tagged.{attributes, formed, part_formed, all_formed}
 
 -- ---- words

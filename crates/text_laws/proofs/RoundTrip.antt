@@ -1,6 +1,6 @@
 -- Definitions that are printed as texts and read again.
-use Rattle.std.proofs.Common.{◌≡◌, ℕ, ◌≤◌, length, Bool, true, false, Ok, refl, ◌∙◌, arith}
-use Rattle.std.specs.Prelude.{◌&&◌, nat_le}
+use Rattle.std.proofs.Common.{◌≡◌, length, true, Ok, arith}
+use Rattle.std.specs.Prelude.{nat_le}
 use Rattle.std.proofs.lemmas.Bool.Decides.{nat_tests}
 use Rattle.virt_types.specs.declared.device_def.DeviceDef.{DeviceDef}
 use Rattle.virt_types.specs.declared.domain_def.DomainDef.{DomainDef}

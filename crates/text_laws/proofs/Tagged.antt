@@ -1,6 +1,6 @@
 -- Elements and attributes that are put together are formed.
-use Rattle.std.proofs.Common.{◌≡◌, ℕ, zero, suc, List, [], ◌∷◌, ◌++◌, Bool, true, false, Option, Some, None, refl, sym, ◌∙◌, ap, subst, append-nil}
-use Rattle.std.specs.Prelude.{◌&&◌, not, chars, map, option_map}
+use Rattle.std.proofs.Common.{◌≡◌, ℕ, suc, List, [], ◌∷◌, ◌++◌, Bool, true, false, Option, Some, None, refl}
+use Rattle.std.specs.Prelude.{◌&&◌, not, chars, map}
 use Rattle.std.specs.List.{AllByRecursion}
 use Rattle.text_spec.specs.declared.pair.Pair.{Pair}
 use Rattle.text_spec.specs.declared.vocabulary.AttributeName.{AttributeName}
@@ -8,12 +8,11 @@ use Rattle.text_spec.specs.declared.vocabulary.ElementName.{ElementName}
 use Rattle.text_spec.specs.Spelling.{pair, pairs, filled, present}
 use Rattle.text_spec.specs.Tag.{is_among}
 use Rattle.text_spec.specs.Tree.{Tree, trees}
-use Rattle.text_spec.specs.Vocabulary.{element_word, attribute_word}
+use Rattle.text_spec.specs.Vocabulary.{attribute_word}
 use Rattle.text_spec.specs.Writable.{IsAttribute, AreAttributes, IsText, IsTree, AreTrees}
 use Rattle.text_laws.specs.Given.{IsValue}
 use Rattle.text_laws.specs.Texts.{Of}
 use Rattle.text_laws.proofs.Names.{element_named, attribute_named}
-use Rattle.text_laws.proofs.Allowed.{both_all}
 use Rattle.text_laws.proofs.Parts.{both_of}
 
 -- ---- attributes
