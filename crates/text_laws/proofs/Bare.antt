@@ -115,14 +115,14 @@ place_bare : (xs : List ℕ) (k : ℕ) (b : Bool) → Bare (if b then 45 else he
 place_bare xs k true = record { low = omega arith; high = omega arith; less = refl; greater = refl }
 place_bare xs k false = digit_bare (nibble xs (digit_place k)) (nibble_small xs (digit_place k))
 
-indexed_bare : (n : ℕ) (f : ℕ → ℕ) → ((k : ℕ) → Bare (f k)) → AreBare (by_index n f)
+pub indexed_all : (P : ℕ → Type 0) (n : ℕ) (f : ℕ → ℕ) → ((k : ℕ) → P (f k)) → AllByRecursion P (by_index n f)
 unfolding by_index
-indexed_bare zero f all = tt
-indexed_bare (suc n) f all = both_all Bare (by_index n f) (f n ∷ []) (indexed_bare n f all) (all n, tt)
+indexed_all P zero f all = tt
+indexed_all P (suc n) f all = both_all P (by_index n f) (f n ∷ []) (indexed_all P n f all) (all n, tt)
 
 pub uuid_bare : (xs : List ℕ) → AreBare (hyphenated_text lower xs)
 uuid_bare xs =
-    indexed_bare 36 (λ k. if is_hyphen_place k then 45 else hex_digit lower (nibble xs (digit_place k))) (λ k. place_bare xs k (is_hyphen_place k))
+    indexed_all Bare 36 (λ k. if is_hyphen_place k then 45 else hex_digit lower (nibble xs (digit_place k))) (λ k. place_bare xs k (is_hyphen_place k))
 
 pub uuid_length : (xs : List ℕ) → length (hyphenated_text lower xs) ≡ 36
 uuid_length xs = by_index_length 36 _

@@ -68,7 +68,7 @@ interface_longer i a b macs =
 any_is : IsMac any_mac
 any_is = record { six = refl; bytes = omega arith }
 
-local_is : (tail : ℕ) → tail < tails → IsMac (local_mac tail)
+pub local_is : (tail : ℕ) → tail < tails → IsMac (local_mac tail)
 unfolding local_mac
 local_is tail h = record { six = refl; bytes = (omega arith, (omega arith, (omega arith, (omega arith, (omega arith, (omega arith, tt)))))) }
 
@@ -76,7 +76,7 @@ either_below : (b : Bool) (x y most : ℕ) → x < most → y < most → (if b t
 either_below true x y most p q = p
 either_below false x y most p q = q
 
-raised_below : (n : ℕ) (interfaces : List Interface) (tail : ℕ) → tail < tails → raised n interfaces tail < tails
+pub raised_below : (n : ℕ) (interfaces : List Interface) (tail : ℕ) → tail < tails → raised n interfaces tail < tails
 unfolding raised
 raised_below zero interfaces tail h = h
 raised_below (suc n) interfaces tail h =

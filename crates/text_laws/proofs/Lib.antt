@@ -24,3 +24,14 @@ mod Tagged
 mod Printed
 mod RoundTrip
 mod Filled
+mod Found
+mod ReadTexts
+mod Ranges
+mod ReadMacs
+mod ReadRows
+mod ReadDevices
+mod ReadValues
+mod ReadSound
+mod Free
+mod Apart
+mod FilledSound

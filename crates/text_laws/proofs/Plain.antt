@@ -65,6 +65,9 @@ plain_text cs all =
 pub no_text : IsText []
 no_text = plain_text [] tt
 
+pub no_value : IsValue []
+no_value = plain_value [] tt
+
 -- ---- a test that computes
 abbrev is_plain : ℕ → Bool
 is_plain c = nat_le 33 c && nat_le c 126
