@@ -22,7 +22,7 @@ use Rattle.text_spec.specs.Tree.{Tree}
 use Rattle.text_laws.specs.Given.{IsMacOf, IsDisk, IsInterface, AreDisksApart, mac_key, IsApart, with_mac_key, AreInterfacesApart}
 use Rattle.text_laws.specs.Texts.{Of}
 use Rattle.text_laws.proofs.ReadMacs.{Read, mac_read}
-use Rattle.text_laws.proofs.ReadRows.{or_none, first_row, Valued, needed_value, Perhaps, absent, there, optional_value, good_is}
+use Rattle.text_laws.proofs.ReadRows.{or_none, first_row, later_rows, Valued, needed_value, Perhaps, absent, there, optional_value, good_is}
 
 fresh : (b : Bool) → not b ≡ true → b ≡ false
 fresh true e = absurd cc
@@ -46,15 +46,8 @@ filled_is t v = record { key = v.value; is_key = v.is_value; some = fresh (lengt
 disk_keyed : (names : List ElementName) (t : Tree) → rows_fault names disk_rows t ≡ None → Keyed t
 unfolding disk_rows
 disk_keyed names t e =
-    let a = (first_row names _ _ t e).1 in
-    let b = (first_row names _ _ t a).1 in
-    let c = (first_row names _ _ t b).1 in
-    let d = (first_row names _ _ t c).1 in
-    let f = (first_row names _ _ t d).1 in
-    let g = (first_row names _ _ t f).1 in
-    let h = (first_row names _ _ t g).1 in
-    let i = (first_row names _ _ t h).1 in
-    filled_is t (needed_value (place.Child element.Target) (source.Attribute attribute.Dev) content.Filled t (first_row names _ _ t i).0)
+    filled_is t (needed_value (place.Child element.Target) (source.Attribute attribute.Dev) content.Filled t
+    (first_row names _ _ t (later_rows 8 names disk_rows t e)).0)
 
 dev_is : (t : Tree) (key : List ℕ) → target_dev t ≡ Some key → (disk_of t).target.dev ≡ key
 unfolding disk_of
@@ -114,8 +107,8 @@ key_by t (there v) = key_there t v.value (mac_of v.value) v.is_value refl v.good
 interface_keyed : (names : List ElementName) (t : Tree) → rows_fault names interface_rows t ≡ None → key_in of.Interface t ≡ option_map mac_key (mac_in t)
 unfolding interface_rows
 interface_keyed names t e =
-    let a = (first_row names _ _ t e).1 in
-    key_by t (optional_value (place.Child element.Mac) (source.Attribute attribute.Address) content.Mac t (first_row names _ _ t a).0)
+    key_by t (optional_value (place.Child element.Mac) (source.Attribute attribute.Address) content.Mac t
+    (first_row names _ _ t (later_rows 1 names interface_rows t e)).0)
 
 apart_by : (names : List ElementName) (keys : List (List ℕ)) (own : Option Mac) → key_fault of.Interface names keys (option_map mac_key own) ≡ None
     → IsApart keys own

@@ -21,7 +21,7 @@ use Rattle.text_spec.specs.Tree.{Tree}
 use Rattle.text_laws.specs.Given.{IsDomain}
 use Rattle.text_laws.proofs.Ranges.{memory_is, current_memory_is, vcpus_is, current_vcpus_is, uuid_is}
 use Rattle.text_laws.proofs.ReadDevices.{disks_read, interfaces_read}
-use Rattle.text_laws.proofs.ReadRows.{or_none, first_row, Valued, needed_value, Perhaps, absent, there, optional_value, good_is, none_is, known_is}
+use Rattle.text_laws.proofs.ReadRows.{or_none, first_row, later_rows, Valued, needed_value, Perhaps, absent, there, optional_value, good_is, none_is, known_is}
 
 name_by : (t : Tree) → Valued (place.Child element.Name) source.Text content.Name t → bad_place (unwrap_or (own_text element.Name t) []) ≡ None
 unfolding content_fault
@@ -43,17 +43,11 @@ pub record Rows (t : Tree) : Type 0 where
 
 rows_of : (names : List ElementName) (t : Tree) → rows_fault names domain_rows t ≡ None → Rows t
 unfolding domain_rows
-rows_of names t e =
-    let a = (first_row names _ _ t e).1 in
-    let b = first_row names _ _ t a in
-    let c = first_row names _ _ t b.1 in
-    let d = first_row names _ _ t c.1 in
-    let f = first_row names _ _ t d.1 in
-    let g = first_row names _ _ t f.1 in
-    record {
-      name = name_by t (needed_value (place.Child element.Name) source.Text content.Name t b.0);
-      guest = script_at t (optional_value (place.Inside element.Metadata element.Guest) source.Text content.Script t g.0);
-    }
+rows_of names t e = record {
+  name = name_by t (needed_value (place.Child element.Name) source.Text content.Name t (first_row names _ _ t (later_rows 1 names domain_rows t e)).0);
+  guest = script_at t (optional_value (place.Inside element.Metadata element.Guest) source.Text content.Script t
+      (first_row names _ _ t (later_rows 5 names domain_rows t e)).0);
+}
 
 few_by : (told : DefFault) (n : ℕ) (b : Bool) → nat_lt 30 n ≡ b → ◌≡◌ {A = Option DefFault} (if b then Some told else None) None → n ≤ 30
 few_by told n true is e = absurd cc

@@ -8,7 +8,10 @@ mod fitting;
 mod sound;
 mod writable;
 
-pub use again::{printed_device_reads_back, printed_domain_reads_back};
+pub use again::{
+    printed_device_reads_back, printed_domain_reads_back, read_device_reads_back,
+    read_domain_reads_back,
+};
 pub use back::{printed_device_is_read, printed_domain_is_read};
 pub use fitting::{filled_device_fits, filled_domain_fits};
 pub use sound::{
