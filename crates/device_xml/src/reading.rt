@@ -41,6 +41,9 @@ fn read_by_table(alloc: Global, tree: &Tree) -> Result<DeviceDef, OrNoMemory<Def
 /// The fault is the first one in the order of the table: another root element, a needed value that
 /// is absent, a value that may not stand there. It is `TooLong`, with the root's path, where the
 /// device's own text, once it is filled in, would pass the limits of a text.
+///
+/// What is read of the tree of a whole text is sound (`text_laws::read_device_is_sound`), so that it
+/// reads back from the text that is printed of it, filled in or not.
 #[tactic(auto, unfolding(text_spec::specs::Definition::device_read))]
 pub fn read(alloc: Global, tree: &Tree) -> Result<DeviceDef, OrNoMemory<DefFault>>
     ensures { Reads result (device_read (seen tree.now)) }

@@ -178,6 +178,9 @@ fn read_by_table(alloc: Global, tree: &Tree) -> Result<DomainDef, OrNoMemory<Def
 /// attribute that is absent, a value that may not stand there, a number outside its range, the key
 /// of an earlier device, more than 30 disks and interfaces. It is `TooLong`, with the root's path,
 /// where the definition's own text, once it is filled in, would pass the limits of a text.
+///
+/// What is read of the tree of a whole text is sound (`text_laws::read_domain_is_sound`), so that it
+/// reads back from the text that is printed of it, filled in or not.
 #[tactic(auto, unfolding(text_spec::specs::Definition::domain_read))]
 pub fn read(alloc: Global, tree: &Tree) -> Result<DomainDef, OrNoMemory<DefFault>>
     ensures { Reads result (domain_read (seen tree.now)) }
