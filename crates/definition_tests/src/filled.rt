@@ -1,6 +1,4 @@
 // What is filled in, and what stays.
-use definition_fill::{fill_device, fill_domain};
-use definition_print::{print_device, print_domain};
 use markup::read_tree;
 use std::alloc::Global;
 use std::test::Fail;
@@ -59,16 +57,16 @@ fn filled(alloc: Global, text: &str, first: u64) -> Option<Text> {
     let tree = read_tree(alloc, text.as_bytes()).ok()?;
     let def = domain_xml::read(alloc, &tree).ok()?;
     let mut random = Rising { next: first };
-    let full = fill_domain(alloc, def, &mut random);
-    print_domain(alloc, &full).ok()
+    let full = domain_xml::fill_domain(alloc, def, &mut random);
+    domain_xml::print_domain(alloc, &full).ok()
 }
 
 fn device_filled(alloc: Global, text: &str, first: u64) -> Option<Text> {
     let tree = read_tree(alloc, text.as_bytes()).ok()?;
     let device = device_xml::read(alloc, &tree).ok()?;
     let mut random = Rising { next: first };
-    let full = fill_device(device, &mut random);
-    print_device(alloc, &full).ok()
+    let full = device_xml::fill_device(device, &mut random);
+    device_xml::print_device(alloc, &full).ok()
 }
 
 // The third word ends in ff:ff:ff, which the second interface has; the fourth in 00:00:00, which the

@@ -1,5 +1,4 @@
 // The worked domain: what a tool makes, and the one text that is printed of it.
-use definition_print::{print_device, print_domain};
 use markup::read_tree;
 use std::alloc::Global;
 use std::test::Fail;
@@ -82,13 +81,13 @@ const DISK_PRINTED: &str =
 fn printed(alloc: Global, text: &str) -> Option<Text> {
     let tree = read_tree(alloc, text.as_bytes()).ok()?;
     let def = domain_xml::read(alloc, &tree).ok()?;
-    print_domain(alloc, &def).ok()
+    domain_xml::print_domain(alloc, &def).ok()
 }
 
 fn device_printed(alloc: Global, text: &str) -> Option<Text> {
     let tree = read_tree(alloc, text.as_bytes()).ok()?;
     let device = device_xml::read(alloc, &tree).ok()?;
-    print_device(alloc, &device).ok()
+    device_xml::print_device(alloc, &device).ok()
 }
 
 #[test]

@@ -1,4 +1,5 @@
-//! Device definitions: what a tree of a disk or an interface says, and the tests of many of them.
+//! Device definitions: what a tree of a disk or an interface says, and the tests of many of them; with
+//! what prints them and fills them in.
 #![tactic(auto)]
 
 mod devices;
@@ -8,6 +9,8 @@ mod keys;
 mod reading;
 mod table;
 
+pub use definition_fill::fill_device;
+pub use definition_print::print_device;
 pub use devices::devices_test;
 pub use disk::disk_of;
 pub use interface::interface_of;

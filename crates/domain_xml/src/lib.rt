@@ -1,4 +1,4 @@
-//! Domain definitions: what a tree of a domain says.
+//! Domain definitions: what a tree of a domain says; with what prints them and fills them in.
 #![tactic(auto)]
 
 mod devices;
@@ -9,5 +9,7 @@ mod reading;
 mod resources;
 mod table;
 
+pub use definition_fill::fill_domain;
+pub use definition_print::print_domain;
 pub use reading::{read, what_is_read_fits};
 pub use text_spec::{DefFault, DefKind};
