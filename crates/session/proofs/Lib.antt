@@ -5,3 +5,4 @@ pub mod Entries
 pub mod Fits
 pub mod Known
 pub mod Saying
+pub mod Told

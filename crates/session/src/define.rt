@@ -1,24 +1,26 @@
 // DOMAIN_DEFINE_XML.
-ghost use Rattle.std.specs.Prelude.{◌≡◌, ◌≤◌, IfOk, IfNone, IfSome, length, false};
+ghost use Rattle.std.specs.Prelude.{◌≡◌, ◌≤◌, ℕ, IfOk, IfSome, List, Ok, length, false};
 ghost use Rattle.procedure_spec.specs.Calls.{Finds};
-ghost use Rattle.session_spec.specs.Defining.{Defines, Puts, clash as clash_of, exists_or, definition_in, full as full_of, other_identifier, other_name as other_name_of, refused_put, too_long};
+ghost use Rattle.session_spec.specs.Defining.{Defines, Puts, clash as clash_of, definition_in, full as full_of, other_identifier, other_name as other_name_of, refused_put};
 ghost use Rattle.session_spec.specs.Definitions.{IsKept, identified, named, text_of};
+ghost use Rattle.text_spec.specs.Fill.{IsFilled};
 ghost use Rattle.text_spec.specs.Text.{most_bytes};
 ghost use Rattle.session_spec.specs.Refused.{at_place};
 ghost use Rattle.procedure_spec.specs.declared.procedure.ResultShape.TheVariants as shape;
 ghost use Rattle.session.specs.Left.{left};
 ghost use Rattle.virt_types.specs.Name.{IsName};
+ghost use Rattle.virt_types.specs.declared.domain_def.DomainDef.{DomainDef as Definition};
 ghost use Rattle.session.specs.Plans.{IsShort};
 
 use crate::lookup::reference;
 use crate::map::PlainMap;
 use crate::plan::Plan;
-use crate::refuse::{refuse, refuse_at};
+use crate::refuse::refuse;
 use definition_fill::fill_domain;
-use definition_print::print_domain;
-use domain_xml::read;
+use domain_xml::{read, what_is_read_fits};
 use markup::read_tree;
 use std::alloc::Global;
+use text_laws::filled_domain_fits;
 use virt_types::{
     DomainDef, NoMemory, OrNoMemory, Random, Refusal, RefusalCode, Reply, Text, TryCopy, Uuid,
     Value,
@@ -26,9 +28,6 @@ use virt_types::{
 
 /// The most domains.
 const MOST_DOMAINS: usize = 64;
-
-/// The most bytes of a definition's text.
-const MOST_BYTES: usize = 65_536;
 
 fn at_text(alloc: Global, at: u64) -> Result<Text, NoMemory>
     ensures { IfOk result (λ kept. kept ≡ at_place at) }
@@ -115,37 +114,8 @@ fn full(alloc: Global, map: &PlainMap, uuid: &Uuid) -> Result<Option<Refusal>, N
     Ok(Some(refuse(alloc, RefusalCode::ListFull, "64")?))
 }
 
-/// Why a definition whose name and identifier are held by another, or that is one too many, is not put
-/// into the map.
-fn refuse_held(
-    alloc: Global,
-    map: &PlainMap,
-    uuid: &Uuid,
-    def: &DomainDef,
-) -> Result<Option<Refusal>, NoMemory>
-    ensures why { IfOk result (λ why. why ≡ exists_or (clash_of map.now (uuid.now, def.now)) (full_of (length map.now) (identified uuid.now map.now))) }
-    ensures short { IfOk result (λ why. IfSome why (λ why. length why.kept ≤ 1024)) }
-{
-    match clash(alloc, map, uuid, def)? {
-        Some(kept) => Ok(Some(refuse(alloc, RefusalCode::DomainExists, kept.as_str())?)),
-        None => full(alloc, map, uuid),
-    }
-}
-
-/// Why a definition whose text is too long is not put into the map.
-fn refuse_long(alloc: Global, def: &DomainDef) -> Result<Option<Refusal>, NoMemory>
-    ensures why { IfOk result (λ why. why ≡ too_long def.now) }
-    ensures short { IfOk result (λ why. IfSome why (λ why. length why.kept ≤ 1024)) }
-    ensures told { IfOk result (λ why. IfNone why (length (text_of def.now) ≤ most_bytes)) }
-{
-    let text = print_domain(alloc, def)?;
-    if text.len() > MOST_BYTES {
-        return Ok(Some(refuse(alloc, RefusalCode::BadDefinition, "/domain")?));
-    }
-    Ok(None)
-}
-
-/// Why a definition is not put into the map.
+/// Why a definition is not put into the map: another holds its name or its identifier, or it is one too
+/// many.
 fn refuse_put(
     alloc: Global,
     map: &PlainMap,
@@ -154,18 +124,16 @@ fn refuse_put(
 ) -> Result<Option<Refusal>, NoMemory>
     ensures why { IfOk result (λ why. why ≡ refused_put map.now (uuid.now, def.now)) }
     ensures short { IfOk result (λ why. IfSome why (λ why. length why.kept ≤ 1024)) }
-    ensures told { IfOk result (λ why. IfNone why (length (text_of def.now) ≤ most_bytes)) }
 {
-    match refuse_long(alloc, def)? {
-        Some(why) => Ok(Some(why)),
-        None => refuse_held(alloc, map, uuid, def),
+    match clash(alloc, map, uuid, def)? {
+        Some(kept) => Ok(Some(refuse(alloc, RefusalCode::DomainExists, kept.as_str())?)),
+        None => full(alloc, map, uuid),
     }
 }
 
 /// What a define of this filled definition is to leave.
 fn plan_put(alloc: Global, map: &PlainMap, uuid: Uuid, def: DomainDef) -> Result<Plan, NoMemory>
-    requires identifier { length uuid ≡ 16 }
-    requires name { IsName def.name }
+    requires { IsKept (uuid, def) }
     ensures puts { IfOk result (λ plan. Puts map.now (uuid, def) (refused_put map.now (uuid, def)) plan.said (left map.now plan.put)) }
     ensures kept { IfOk result (λ plan. IfSome plan.put IsKept) }
     ensures short { IfOk result (λ plan. IsShort shape.Domain plan.said) }
@@ -197,6 +165,15 @@ fn is_entry(uuid: &Uuid, def: &DomainDef)
     let _name = def.name.as_bytes();
 }
 
+/// What a text is read as is told, once it is filled in, by a text that is not too long to be read.
+fn filled_is_told()
+    ensures { (text : List ℕ) → (read filled : Definition) → definition_in text ≡ Ok read → IsFilled read filled
+        → length (text_of filled) ≤ most_bytes }
+{
+    what_is_read_fits();
+    filled_domain_fits();
+}
+
 /// DOMAIN_DEFINE_XML of this text.
 pub(crate) fn plan_define<R: Random>(
     alloc: Global,
@@ -212,6 +189,7 @@ pub(crate) fn plan_define<R: Random>(
     match read_definition(alloc, text) {
         Ok(read) => {
             let def = fill_domain(alloc, read, random);
+            filled_is_told();
             match def.uuid {
                 Some(uuid) => {
                     is_entry(&uuid, &def);

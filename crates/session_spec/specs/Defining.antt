@@ -1,11 +1,11 @@
 -- DOMAIN_DEFINE_XML: a definition is read from its text, filled in, and put under its identifier.
 use Rattle.std.specs.Prelude.{◌≡◌, ℕ, List, codes, bytes_eq, length, nat_lt, negsuc, Option, Some, None, Result, Ok, Err, if◌then◌else◌}
 use Rattle.std.specs.Option.{option_or}
-use Rattle.session_spec.specs.Definitions.{Definitions, Entry, identified, most_domains, named, text_of, with_definition}
+use Rattle.session_spec.specs.Definitions.{Definitions, Entry, identified, most_domains, named, with_definition}
 use Rattle.session_spec.specs.Refused.{at_place, refusal}
 use Rattle.text_spec.specs.Definition.{domain_read}
 use Rattle.text_spec.specs.Fill.{IsFilled}
-use Rattle.text_spec.specs.Text.{most_bytes, read_of}
+use Rattle.text_spec.specs.Text.{read_of}
 use Rattle.text_spec.specs.Tree.{Tree}
 use Rattle.text_spec.specs.declared.definition.DefFault.{DefFault}
 use Rattle.text_spec.specs.declared.fault.TextFault.{TextFault}
@@ -54,13 +54,9 @@ abbrev pub exists_or : Option (List ℕ) → Option Refusal → Option Refusal
 exists_or (Some kept) other = Some (refusal code.DomainExists kept)
 exists_or None other = other
 
--- a text that is too long to be read again: that of what was read never is
-abbrev pub too_long : DomainDef → Option Refusal
-too_long def = if nat_lt most_bytes (length (text_of def)) then Some (refusal code.BadDefinition (codes "/domain")) else None
-
 -- why a definition is not put into the map
 abbrev pub refused_put : Definitions → Entry → Option Refusal
-refused_put m e = option_or (too_long e.1) (exists_or (clash m e) (full (length m) (identified e.0 m)))
+refused_put m e = exists_or (clash m e) (full (length m) (identified e.0 m))
 
 -- how replies name a domain: it is not active, so its number is -1
 abbrev pub reference : Entry → DomainRef

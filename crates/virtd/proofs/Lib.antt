@@ -1,2 +1,3 @@
 pub mod DemoName
+pub mod DemoText
 pub mod Words

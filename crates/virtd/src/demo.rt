@@ -1,10 +1,7 @@
 // The one domain of `virtd demo`.
-ghost use Rattle.std.specs.Prelude.{◌≡◌, ◌≤◌, codes, IfOk, length, true};
-ghost use Rattle.session_spec.specs.Definitions.{text_of};
-ghost use Rattle.text_spec.specs.Text.{most_bytes};
+ghost use Rattle.std.specs.Prelude.{◌≡◌, codes, IfOk};
 ghost use Rattle.virtd.specs.Demo.{demo_def, demo_map, demo_uuid};
 
-use definition_print::print_domain;
 use session::PlainMap;
 use std::alloc::Global;
 use virt_types::{
@@ -14,9 +11,6 @@ use virt_types::{
 
 /// 00000000-0000-4000-8000-000000000001
 const UUID: [u8; 16] = [0, 0, 0, 0, 0, 0, 0x40, 0, 0x80, 0, 0, 0, 0, 0, 0, 1];
-
-/// The most bytes of a definition's text.
-const MOST_BYTES: usize = 65_536;
 
 /// Its memory, in KiB.
 const MEMORY: u64 = 1_048_576;
@@ -78,13 +72,6 @@ fn define_demo(alloc: Global, name: Name, system: Text, script: Text) -> DomainD
     }
 }
 
-/// Whether a text of the length of the definition's is read.
-fn is_told(alloc: Global, def: &DomainDef) -> Result<bool, NoMemory>
-    ensures { IfOk result (λ told. told ≡ true → length (text_of def.now) ≤ most_bytes) }
-{
-    Ok(print_domain(alloc, def)?.len() <= MOST_BYTES)
-}
-
 /// The map with the domain `demo` alone.
 pub(crate) fn demo_domains(alloc: Global) -> Result<PlainMap, NoMemory>
     ensures { IfOk result (λ map. map ≡ demo_map) }
@@ -94,10 +81,6 @@ pub(crate) fn demo_domains(alloc: Global) -> Result<PlainMap, NoMemory>
     let script = Text::copy_of(alloc, "")?;
     let def = define_demo(alloc, name, system, script);
     let _name = def.name.as_bytes();
-    // The text has 347 bytes: this is said by no proof, and so it is measured.
-    if !is_told(alloc, &def)? {
-        return Err(NoMemory);
-    }
     let mut map = PlainMap::new(alloc);
     map.put(demo_uuid_bytes(), def)?;
     Ok(map)
