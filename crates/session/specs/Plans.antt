@@ -1,11 +1,12 @@
 -- What a call is to leave. No public clause cites these.
-use Rattle.std.specs.Prelude.{◌≡◌, ◌≤◌, ℕ, length, Result}
+use Rattle.std.specs.Prelude.{◌≡◌, ◌≤◌, ℕ, length, Option, option_map, Result}
 use Rattle.procedure_spec.specs.Results.{HasResult, HasShape, result}
 use Rattle.procedure_spec.specs.declared.fault.ArgFault.{ArgFault}
 use Rattle.procedure_spec.specs.declared.procedure.ResultShape.{ResultShape}
-use Rattle.session_spec.specs.Definitions.{Definitions}
+use Rattle.session_spec.specs.Definitions.{Definitions, Entry}
 use Rattle.session_spec.specs.Replies.{Gives, asks_to_close}
 use Rattle.session.specs.Left.{left}
+use Rattle.session.specs.Said.{reply_of}
 use Rattle.session.specs.declared.plan.Plan.{Plan}
 use Rattle.virt_types.specs.declared.request.Request.{Request}
 use Rattle.virt_types.specs.declared.value.Reply.{Reply}
@@ -26,8 +27,12 @@ abbrev pub IsSayable : Header → Reply → Type 0
 IsSayable call (reply.Ok v) = HasResult call v × (length (result v) ≤ most_result)
 IsSayable call (reply.No why) = length why.kept ≤ 1024
 
+-- what a plan puts into the map
+abbrev pub put_of : Plan → Option Entry
+put_of plan = option_map (λ e. e.value) plan.put
+
 -- the plan for a call over a map, as the call is read
 pub record IsPlan (m : Definitions) (call : Header) (read : Result Request ArgFault) (plan : Plan) : Type 0 where
-  pub gives : Gives m call read plan.said (left m plan.put)
+  pub gives : Gives m call read (reply_of plan.said) (left m (put_of plan))
   pub closes : plan.closes ≡ asks_to_close read
-  pub sayable : IsSayable call plan.said
+  pub sayable : IsSayable call (reply_of plan.said)

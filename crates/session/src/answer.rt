@@ -7,7 +7,8 @@ ghost use Rattle.session_spec.specs.Definitions.{IsKept};
 ghost use Rattle.session_spec.specs.Replies.{asks_to_close, reply_packet};
 ghost use Rattle.session_spec.specs.Served.{Serves, ServesDomain};
 ghost use Rattle.session.specs.Left.{left};
-ghost use Rattle.session.specs.Plans.{IsPlan, IsSayable, IsShort};
+ghost use Rattle.session.specs.Plans.{IsPlan, IsSayable, IsShort, put_of};
+ghost use Rattle.session.specs.Said.{reply_of};
 ghost use Rattle.session.specs.Steps.{IsDone};
 ghost use Rattle.virt_types.specs.declared.value.Reply.TheVariants as reply;
 ghost use Rattle.wire_spec.specs.Packets.{spelling};
@@ -17,12 +18,12 @@ use crate::lookup::{by_name, by_uuid, describe, list};
 use crate::map::PlainMap;
 use crate::plan::{Plan, keep};
 use crate::refuse::unread;
+use crate::said::Said;
 use packet::{Header, Packet, WriteFault};
 use remote_args::{ArgFault, read_call, write_error, write_reply};
 use std::alloc::Global;
 use virt_types::{
-    Bytes, DomainRequest, DomainTarget, NoMemory, OrNoMemory, Random, Refusal, Reply, Request,
-    Value,
+    Bytes, DomainRequest, DomainTarget, NoMemory, OrNoMemory, Random, Refusal, Request, Value,
 };
 
 /// What is asked of one domain.
@@ -31,10 +32,10 @@ fn serve_domain(
     map: &PlainMap,
     domain: &DomainTarget,
     asked: &DomainRequest,
-) -> Result<Reply, NoMemory>
+) -> Result<Said, NoMemory>
     requires { HasDomainArguments domain.now asked.now }
-    ensures serves { IfOk result (ServesDomain map.now domain.now.uuid asked.now) }
-    ensures short { IfOk result (IsShort (domain_result asked.now)) }
+    ensures serves { IfOk result (λ said. ServesDomain map.now domain.now.uuid asked.now (reply_of said)) }
+    ensures short { IfOk result (λ said. IsShort (domain_result asked.now) (reply_of said)) }
 {
     match asked {
         DomainRequest::GetXmlDesc { .. } => describe(alloc, map, &domain.uuid),
@@ -43,7 +44,7 @@ fn serve_domain(
 }
 
 /// The plan that leaves the map as it is.
-fn only_said(said: Result<Reply, NoMemory>) -> Result<Plan, NoMemory>
+fn only_said(said: Result<Said, NoMemory>) -> Result<Plan, NoMemory>
     ensures said { IfOk result (λ plan. said ≡ Ok plan.said) }
     ensures put { IfOk result (λ plan. plan.put ≡ None) }
     ensures goes_on { IfOk result (λ plan. plan.closes ≡ false) }
@@ -62,15 +63,15 @@ fn plan_request<R: Random>(
     asked: &Request,
 ) -> Result<Plan, NoMemory>
     requires { HasArguments asked.now }
-    ensures serves { IfOk result (λ plan. Serves map.now asked.now plan.said (left map.now plan.put)) }
-    ensures short { IfOk result (λ plan. IsShort (result_shape asked.now) plan.said) }
+    ensures serves { IfOk result (λ plan. Serves map.now asked.now (reply_of plan.said) (left map.now (put_of plan))) }
+    ensures short { IfOk result (λ plan. IsShort (result_shape asked.now) (reply_of plan.said)) }
     ensures closes { IfOk result (λ plan. plan.closes ≡ asks_to_close (Ok asked.now)) }
-    ensures kept { IfOk result (λ plan. IfSome plan.put IsKept) }
+    ensures kept { IfOk result (λ plan. IfSome (put_of plan) IsKept) }
 {
     match asked {
-        Request::ConnectOpen { .. } => Ok(Plan::of(Reply::Ok(Value::Nothing))),
+        Request::ConnectOpen { .. } => Ok(Plan::of(Said::Done)),
         Request::ConnectClose => Ok(Plan {
-            said: Reply::Ok(Value::Nothing),
+            said: Said::Done,
             put: None,
             closes: true,
         }),
@@ -95,7 +96,7 @@ fn plan_refusal(
     ensures plan { IfOk result (IsPlan map.now call.now (Err fault)) }
     ensures put { IfOk result (λ plan. plan.put ≡ None) }
 {
-    Ok(Plan::of(Reply::No(unread(alloc, call, fault)?)))
+    Ok(Plan::of(Said::No(unread(alloc, call, fault)?)))
 }
 
 /// The plan for a call that asks for this.
@@ -109,7 +110,7 @@ fn plan_asked<R: Random>(
     requires found { IsCall call.now.header call.now.payload asked.now }
     requires read { call_of call.now.header call.now.payload ≡ Ok asked.now }
     ensures plan { IfOk result (IsPlan map.now call.now.header (call_of call.now.header call.now.payload)) }
-    ensures kept { IfOk result (λ plan. IfSome plan.put IsKept) }
+    ensures kept { IfOk result (λ plan. IfSome (put_of plan) IsKept) }
 {
     let plan = plan_request(alloc, map, random, asked)?;
     Ok(plan)
@@ -123,7 +124,7 @@ fn plan_call<R: Random>(
     call: &Packet,
 ) -> Result<Plan, NoMemory>
     ensures plan { IfOk result (IsPlan map.now call.now.header (call_of call.now.header call.now.payload)) }
-    ensures kept { IfOk result (λ plan. IfSome plan.put IsKept) }
+    ensures kept { IfOk result (λ plan. IfSome (put_of plan) IsKept) }
 {
     match read_call(alloc, &call.header, call.payload.as_slice()) {
         Ok(asked) => plan_asked(alloc, map, random, call, &asked),
@@ -158,13 +159,16 @@ fn write_refusal(alloc: Global, call: &Header, why: &Refusal) -> Result<Bytes, N
 }
 
 /// The reply as bytes.
-fn write(alloc: Global, call: &Header, said: &Reply) -> Result<Bytes, NoMemory>
-    requires { IsSayable call.now said.now }
-    ensures { IfOk result (λ bytes. bytes ≡ spelling (reply_packet call.now said.now)) }
+fn write(alloc: Global, call: &Header, said: Said) -> Result<Bytes, NoMemory>
+    requires { IsSayable call.now (reply_of said) }
+    ensures { IfOk result (λ bytes. bytes ≡ spelling (reply_packet call.now (reply_of said))) }
 {
     match said {
-        Reply::Ok(value) => write_value(alloc, call, value),
-        Reply::No(why) => write_refusal(alloc, call, why),
+        Said::Done => write_value(alloc, call, &Value::Nothing),
+        Said::Domain(domain) => write_value(alloc, call, &Value::Domain(domain)),
+        Said::Text(text) => write_value(alloc, call, &Value::Text(text)),
+        Said::Names(names) => write_value(alloc, call, &Value::Names(names)),
+        Said::No(why) => write_refusal(alloc, call, &why),
     }
 }
 
@@ -178,8 +182,8 @@ pub(crate) fn answer<R: Random>(
     ensures done { IfOk result (IsDone map.old call.now map.new) }
     ensures err { OnErr result (map.new ≡ map.old) }
 {
-    let plan = plan_call(alloc, map, random, call)?;
-    let bytes = write(alloc, &call.header, &plan.said)?;
-    keep(map, plan.put)?;
-    Ok((bytes, plan.closes))
+    let Plan { said, put, closes } = plan_call(alloc, map, random, call)?;
+    let bytes = write(alloc, &call.header, said)?;
+    keep(map, put)?;
+    Ok((bytes, closes))
 }

@@ -10,20 +10,21 @@ ghost use Rattle.procedure_spec.specs.declared.procedure.ResultShape.TheVariants
 ghost use Rattle.session.specs.Left.{left};
 ghost use Rattle.virt_types.specs.Name.{IsName};
 ghost use Rattle.virt_types.specs.declared.domain_def.DomainDef.{DomainDef as Definition};
-ghost use Rattle.session.specs.Plans.{IsShort};
+ghost use Rattle.session.specs.Plans.{IsShort, put_of};
+ghost use Rattle.session.specs.Said.{reply_of};
 
 use crate::lookup::reference;
 use crate::map::PlainMap;
 use crate::plan::Plan;
 use crate::refuse::refuse;
+use crate::said::Said;
 use definition_fill::fill_domain;
 use domain_xml::{read, what_is_read_fits};
 use markup::read_tree;
 use std::alloc::Global;
 use text_laws::filled_domain_fits;
 use virt_types::{
-    DomainDef, NoMemory, OrNoMemory, Random, Refusal, RefusalCode, Reply, Text, TryCopy, Uuid,
-    Value,
+    DomainDef, NoMemory, OrNoMemory, Random, Refusal, RefusalCode, Text, TryCopy, Uuid,
 };
 
 /// The most domains.
@@ -134,16 +135,16 @@ fn refuse_put(
 /// What a define of this filled definition is to leave.
 fn plan_put(alloc: Global, map: &PlainMap, uuid: Uuid, def: DomainDef) -> Result<Plan, NoMemory>
     requires { IsKept (uuid, def) }
-    ensures puts { IfOk result (λ plan. Puts map.now (uuid, def) (refused_put map.now (uuid, def)) plan.said (left map.now plan.put)) }
-    ensures kept { IfOk result (λ plan. IfSome plan.put IsKept) }
-    ensures short { IfOk result (λ plan. IsShort shape.Domain plan.said) }
+    ensures puts { IfOk result (λ plan. Puts map.now (uuid, def) (refused_put map.now (uuid, def)) (reply_of plan.said) (left map.now (put_of plan))) }
+    ensures kept { IfOk result (λ plan. IfSome (put_of plan) IsKept) }
+    ensures short { IfOk result (λ plan. IsShort shape.Domain (reply_of plan.said)) }
     ensures goes_on { IfOk result (λ plan. plan.closes ≡ false) }
 {
     match refuse_put(alloc, map, &uuid, &def)? {
-        Some(why) => Ok(Plan::of(Reply::No(why))),
+        Some(why) => Ok(Plan::of(Said::No(why))),
         None => Ok(Plan {
-            said: Reply::Ok(Value::Domain(reference(uuid, &def)?)),
-            put: Some((uuid, def)),
+            said: Said::Domain(reference(uuid, &def)?),
+            put: Some(Box::new(alloc, (uuid, def))?),
             closes: false,
         }),
     }
@@ -181,9 +182,9 @@ pub(crate) fn plan_define<R: Random>(
     random: &mut R,
     text: &[u8],
 ) -> Result<Plan, NoMemory>
-    ensures defines { IfOk result (λ plan. Defines map.now (definition_in text.now) plan.said (left map.now plan.put)) }
-    ensures kept { IfOk result (λ plan. IfSome plan.put IsKept) }
-    ensures short { IfOk result (λ plan. IsShort shape.Domain plan.said) }
+    ensures defines { IfOk result (λ plan. Defines map.now (definition_in text.now) (reply_of plan.said) (left map.now (put_of plan))) }
+    ensures kept { IfOk result (λ plan. IfSome (put_of plan) IsKept) }
+    ensures short { IfOk result (λ plan. IsShort shape.Domain (reply_of plan.said)) }
     ensures goes_on { IfOk result (λ plan. plan.closes ≡ false) }
 {
     match read_definition(alloc, text) {
@@ -198,7 +199,7 @@ pub(crate) fn plan_define<R: Random>(
                 None => unreachable!(),
             }
         }
-        Err(OrNoMemory::Fault(kept)) => Ok(Plan::of(Reply::No(refuse(
+        Err(OrNoMemory::Fault(kept)) => Ok(Plan::of(Said::No(refuse(
             alloc,
             RefusalCode::BadDefinition,
             kept.as_str(),

@@ -9,6 +9,7 @@ mod plan;
 mod put;
 mod refuse;
 mod rising;
+mod said;
 mod say;
 mod serve;
 
