@@ -11,26 +11,11 @@ ghost use Rattle.domain_spec.specs.declared.step.Outcome.TheVariants as outcome;
 use crate::clients::clients_after;
 use domain_spec::{Mark, OpenJob, OpenOperation, Outcome, Standing};
 use reference::{
-    begin_state, due_phase, event_state, exit_state, has_lost, is_live, live_boot, phase_of, seq,
+    begin_state, due_phase, event_state, exit_state, live_boot, lost_boot, phase_of, seq,
     without_operation,
 };
 use std::alloc::Global;
 use virt_types::{Answer, Call, EndReason, GuestEvent, Job, NoMemory, State, TryCopy, Who};
-
-fn lost_boot(state: &State, boot: Option<u64>, answers: &[Answer]) -> Option<u64>
-    ensures { result ≡ fold.lost_boot state.now boot answers.now }
-{
-    match boot {
-        None => None,
-        Some(boot) => {
-            if has_lost(answers) && is_live(state, boot) {
-                Some(boot)
-            } else {
-                None
-            }
-        }
-    }
-}
 
 fn carries(carried: Option<u64>, boot: u64) -> bool
     ensures { result ≡ fold.carries carried boot }
