@@ -22,12 +22,12 @@ pub enum AnswerValue {
 
 impl TryCopy for AnswerValue {
     fn copy(&self) -> Result<AnswerValue, NoMemory> {
-        match self {
-            AnswerValue::Nothing => Ok(AnswerValue::Nothing),
-            AnswerValue::Number(it) => Ok(AnswerValue::Number(*it)),
-            AnswerValue::Bytes(it) => Ok(AnswerValue::Bytes(it.copy()?)),
-            AnswerValue::Front(it) => Ok(AnswerValue::Front(*it)),
-        }
+        Ok(match self {
+            AnswerValue::Nothing => AnswerValue::Nothing,
+            AnswerValue::Number(it) => AnswerValue::Number(*it),
+            AnswerValue::Bytes(it) => AnswerValue::Bytes(it.copy()?),
+            AnswerValue::Front(it) => AnswerValue::Front(*it),
+        })
     }
 }
 
@@ -50,14 +50,14 @@ pub enum Answer {
 
 impl TryCopy for Answer {
     fn copy(&self) -> Result<Answer, NoMemory> {
-        match self {
-            Answer::Ok(it) => Ok(Answer::Ok(it.copy()?)),
-            Answer::Refused(it) => Ok(Answer::Refused(*it)),
-            Answer::Ended(it) => Ok(Answer::Ended(*it)),
-            Answer::Lost => Ok(Answer::Lost),
-            Answer::Device => Ok(Answer::Device),
-            Answer::NoMemory => Ok(Answer::NoMemory),
-        }
+        Ok(match self {
+            Answer::Ok(it) => Answer::Ok(it.copy()?),
+            Answer::Refused(it) => Answer::Refused(*it),
+            Answer::Ended(it) => Answer::Ended(*it),
+            Answer::Lost => Answer::Lost,
+            Answer::Device => Answer::Device,
+            Answer::NoMemory => Answer::NoMemory,
+        })
     }
 }
 

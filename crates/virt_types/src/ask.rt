@@ -68,33 +68,33 @@ pub enum Command {
 
 impl TryCopy for Command {
     fn copy(&self) -> Result<Command, NoMemory> {
-        match self {
-            Command::QueryStatus => Ok(Command::QueryStatus),
-            Command::QueryMemory => Ok(Command::QueryMemory),
-            Command::Cont => Ok(Command::Cont),
-            Command::Stop => Ok(Command::Stop),
-            Command::Powerdown => Ok(Command::Powerdown),
-            Command::Reset => Ok(Command::Reset),
-            Command::Quit => Ok(Command::Quit),
-            Command::SetMemory(it) => Ok(Command::SetMemory(*it)),
-            Command::SetVcpus(it) => Ok(Command::SetVcpus(*it)),
-            Command::AddBackend { slot, device } => Ok(Command::AddBackend {
+        Ok(match self {
+            Command::QueryStatus => Command::QueryStatus,
+            Command::QueryMemory => Command::QueryMemory,
+            Command::Cont => Command::Cont,
+            Command::Stop => Command::Stop,
+            Command::Powerdown => Command::Powerdown,
+            Command::Reset => Command::Reset,
+            Command::Quit => Command::Quit,
+            Command::SetMemory(it) => Command::SetMemory(*it),
+            Command::SetVcpus(it) => Command::SetVcpus(*it),
+            Command::AddBackend { slot, device } => Command::AddBackend {
                 slot: *slot,
                 device: device.copy()?,
-            }),
-            Command::AddDevice { slot, device } => Ok(Command::AddDevice {
+            },
+            Command::AddDevice { slot, device } => Command::AddDevice {
                 slot: *slot,
                 device: device.copy()?,
-            }),
-            Command::RemoveDevice(it) => Ok(Command::RemoveDevice(*it)),
-            Command::RemoveBackend(it) => Ok(Command::RemoveBackend(*it)),
-            Command::CopyBegin => Ok(Command::CopyBegin),
-            Command::CopyPoll => Ok(Command::CopyPoll),
-            Command::CopyTake => Ok(Command::CopyTake),
-            Command::CopyCancel => Ok(Command::CopyCancel),
-            Command::LoadState(it) => Ok(Command::LoadState(it.copy()?)),
-            Command::Kick(it) => Ok(Command::Kick(*it)),
-        }
+            },
+            Command::RemoveDevice(it) => Command::RemoveDevice(*it),
+            Command::RemoveBackend(it) => Command::RemoveBackend(*it),
+            Command::CopyBegin => Command::CopyBegin,
+            Command::CopyPoll => Command::CopyPoll,
+            Command::CopyTake => Command::CopyTake,
+            Command::CopyCancel => Command::CopyCancel,
+            Command::LoadState(it) => Command::LoadState(it.copy()?),
+            Command::Kick(it) => Command::Kick(*it),
+        })
     }
 }
 
@@ -171,24 +171,24 @@ pub enum Ask {
 
 impl TryCopy for Ask {
     fn copy(&self) -> Result<Ask, NoMemory> {
-        match self {
-            Ask::Command(it) => Ok(Ask::Command(it.copy()?)),
-            Ask::Make { definition, boot } => Ok(Ask::Make {
+        Ok(match self {
+            Ask::Command(it) => Ask::Command(it.copy()?),
+            Ask::Make { definition, boot } => Ask::Make {
                 definition: definition.copy()?,
                 boot: *boot,
-            }),
+            },
             Ask::Put {
                 definition,
                 autostart,
-            } => Ok(Ask::Put {
+            } => Ask::Put {
                 definition: definition.copy()?,
                 autostart: *autostart,
-            }),
-            Ask::Drop(it) => Ok(Ask::Drop(*it)),
-            Ask::Lease { network, mac } => Ok(Ask::Lease {
+            },
+            Ask::Drop(it) => Ask::Drop(*it),
+            Ask::Lease { network, mac } => Ask::Lease {
                 network: network.copy()?,
                 mac: *mac,
-            }),
+            },
             Ask::WriteImage {
                 name,
                 kind,
@@ -200,15 +200,15 @@ impl TryCopy for Ask {
                     name.copy(),
                     both(definition.copy(), bytes.copy()),
                 )?;
-                Ok(Ask::WriteImage {
+                Ask::WriteImage {
                     name,
                     kind: *kind,
                     definition,
                     running: *running,
                     bytes,
-                })
+                }
             }
-        }
+        })
     }
 }
 

@@ -72,45 +72,45 @@ pub enum Call {
 
 impl TryCopy for Call {
     fn copy(&self) -> Result<Call, NoMemory> {
-        match self {
-            Call::Suspend => Ok(Call::Suspend),
-            Call::Resume => Ok(Call::Resume),
-            Call::Shutdown => Ok(Call::Shutdown),
-            Call::Reboot => Ok(Call::Reboot),
-            Call::Destroy => Ok(Call::Destroy),
-            Call::Define(it) => Ok(Call::Define(it.copy()?)),
-            Call::Undefine => Ok(Call::Undefine),
-            Call::SetAutostart(it) => Ok(Call::SetAutostart(*it)),
-            Call::SetMemory(it) => Ok(Call::SetMemory(*it)),
-            Call::SetVcpus(it) => Ok(Call::SetVcpus(*it)),
-            Call::Attach(it) => Ok(Call::Attach(it.copy()?)),
-            Call::Detach(it) => Ok(Call::Detach(it.copy()?)),
-            Call::MemoryStats => Ok(Call::MemoryStats),
-            Call::Kick(it) => Ok(Call::Kick(*it)),
-            Call::Abort => Ok(Call::Abort),
-            Call::SnapDelete { name, children } => Ok(Call::SnapDelete {
+        Ok(match self {
+            Call::Suspend => Call::Suspend,
+            Call::Resume => Call::Resume,
+            Call::Shutdown => Call::Shutdown,
+            Call::Reboot => Call::Reboot,
+            Call::Destroy => Call::Destroy,
+            Call::Define(it) => Call::Define(it.copy()?),
+            Call::Undefine => Call::Undefine,
+            Call::SetAutostart(it) => Call::SetAutostart(*it),
+            Call::SetMemory(it) => Call::SetMemory(*it),
+            Call::SetVcpus(it) => Call::SetVcpus(*it),
+            Call::Attach(it) => Call::Attach(it.copy()?),
+            Call::Detach(it) => Call::Detach(it.copy()?),
+            Call::MemoryStats => Call::MemoryStats,
+            Call::Kick(it) => Call::Kick(*it),
+            Call::Abort => Call::Abort,
+            Call::SnapDelete { name, children } => Call::SnapDelete {
                 name: name.copy()?,
                 children: *children,
-            }),
-            Call::Start => Ok(Call::Start),
-            Call::Create(it) => Ok(Call::Create(it.copy()?)),
+            },
+            Call::Start => Call::Start,
+            Call::Create(it) => Call::Create(it.copy()?),
             Call::Restore {
                 definition,
                 running,
                 saved,
             } => {
                 let (definition, saved) = both(definition.copy(), saved.copy())?;
-                Ok(Call::Restore {
+                Call::Restore {
                     definition,
                     running: *running,
                     saved,
-                })
+                }
             }
-            Call::Save(it) => Ok(Call::Save(it.copy()?)),
-            Call::Dump(it) => Ok(Call::Dump(it.copy()?)),
-            Call::Snapshot(it) => Ok(Call::Snapshot(it.copy()?)),
-            Call::Revert(it) => Ok(Call::Revert(it.copy()?)),
-        }
+            Call::Save(it) => Call::Save(it.copy()?),
+            Call::Dump(it) => Call::Dump(it.copy()?),
+            Call::Snapshot(it) => Call::Snapshot(it.copy()?),
+            Call::Revert(it) => Call::Revert(it.copy()?),
+        })
     }
 }
 
@@ -140,15 +140,15 @@ pub enum Query {
 
 impl TryCopy for Query {
     fn copy(&self) -> Result<Query, NoMemory> {
-        match self {
-            Query::Reference => Ok(Query::Reference),
-            Query::Text { stored } => Ok(Query::Text { stored: *stored }),
-            Query::Autostart => Ok(Query::Autostart),
-            Query::Info => Ok(Query::Info),
-            Query::JobInfo => Ok(Query::JobInfo),
-            Query::SnapNames => Ok(Query::SnapNames),
-            Query::SnapParent(it) => Ok(Query::SnapParent(it.copy()?)),
-            Query::SnapText(it) => Ok(Query::SnapText(it.copy()?)),
-        }
+        Ok(match self {
+            Query::Reference => Query::Reference,
+            Query::Text { stored } => Query::Text { stored: *stored },
+            Query::Autostart => Query::Autostart,
+            Query::Info => Query::Info,
+            Query::JobInfo => Query::JobInfo,
+            Query::SnapNames => Query::SnapNames,
+            Query::SnapParent(it) => Query::SnapParent(it.copy()?),
+            Query::SnapText(it) => Query::SnapText(it.copy()?),
+        })
     }
 }

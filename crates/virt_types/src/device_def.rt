@@ -1,5 +1,5 @@
 // Devices that a definition describes and that are attached and detached: disks and interfaces.
-use crate::copy::TryCopy;
+use crate::copy::{TryCopy, both};
 use crate::list::ListOf;
 use crate::mac::Mac;
 use crate::memory::NoMemory;
@@ -62,11 +62,14 @@ pub struct DiskSource {
 
 impl TryCopy for DiskSource {
     fn copy(&self) -> Result<DiskSource, NoMemory> {
+        let local = both(self.file.copy(), self.dev.copy());
+        let pooled = both(self.pool.copy(), self.volume.copy());
+        let ((file, dev), (pool, volume)) = both(local, pooled)?;
         Ok(DiskSource {
-            file: self.file.copy()?,
-            dev: self.dev.copy()?,
-            pool: self.pool.copy()?,
-            volume: self.volume.copy()?,
+            file,
+            dev,
+            pool,
+            volume,
         })
     }
 }
@@ -108,12 +111,16 @@ pub struct Disk {
 
 impl TryCopy for Disk {
     fn copy(&self) -> Result<Disk, NoMemory> {
+        let (driver, (source, target)) = both(
+            self.driver.copy(),
+            both(self.source.copy(), self.target.copy()),
+        )?;
         Ok(Disk {
             kind: self.kind,
             device: self.device,
-            driver: self.driver.copy()?,
-            source: self.source.copy()?,
-            target: self.target.copy()?,
+            driver,
+            source,
+            target,
             readonly: self.readonly,
         })
     }
@@ -198,10 +205,10 @@ pub enum DeviceDef {
 
 impl TryCopy for DeviceDef {
     fn copy(&self) -> Result<DeviceDef, NoMemory> {
-        match self {
-            DeviceDef::Disk(it) => Ok(DeviceDef::Disk(it.copy()?)),
-            DeviceDef::Interface(it) => Ok(DeviceDef::Interface(it.copy()?)),
-        }
+        Ok(match self {
+            DeviceDef::Disk(it) => DeviceDef::Disk(it.copy()?),
+            DeviceDef::Interface(it) => DeviceDef::Interface(it.copy()?),
+        })
     }
 }
 

@@ -159,9 +159,9 @@ pub enum State {
 
 impl TryCopy for State {
     fn copy(&self) -> Result<State, NoMemory> {
-        match self {
-            State::Vacant { boots } => Ok(State::Vacant { boots: *boots }),
-            State::Held(it) => Ok(State::Held(it.copy()?)),
-        }
+        Ok(match self {
+            State::Vacant { boots } => State::Vacant { boots: *boots },
+            State::Held(it) => State::Held(it.copy()?),
+        })
     }
 }

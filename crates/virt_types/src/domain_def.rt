@@ -54,11 +54,16 @@ pub struct Os {
 
 impl TryCopy for Os {
     fn copy(&self) -> Result<Os, NoMemory> {
+        let machine = both(self.arch.copy(), self.machine.copy());
+        let ((arch, machine), (kind, boot)) = both(
+            machine,
+            both(self.kind.copy(), self.boot.copy()),
+        )?;
         Ok(Os {
-            kind: self.kind.copy()?,
-            arch: self.arch.copy()?,
-            machine: self.machine.copy()?,
-            boot: self.boot.copy()?,
+            kind,
+            arch,
+            machine,
+            boot,
         })
     }
 }

@@ -118,55 +118,51 @@ pub enum DomainRequest {
 
 impl TryCopy for DomainRequest {
     fn copy(&self) -> Result<DomainRequest, NoMemory> {
-        match self {
-            DomainRequest::AttachDevice { xml } => Ok(DomainRequest::AttachDevice {
-                xml: xml.copy()?,
-            }),
-            DomainRequest::Create => Ok(DomainRequest::Create),
-            DomainRequest::Destroy => Ok(DomainRequest::Destroy),
-            DomainRequest::DetachDevice { xml } => Ok(DomainRequest::DetachDevice {
-                xml: xml.copy()?,
-            }),
-            DomainRequest::GetXmlDesc { flags } => Ok(DomainRequest::GetXmlDesc { flags: *flags }),
-            DomainRequest::GetAutostart => Ok(DomainRequest::GetAutostart),
-            DomainRequest::GetInfo => Ok(DomainRequest::GetInfo),
-            DomainRequest::Reboot { flags } => Ok(DomainRequest::Reboot { flags: *flags }),
-            DomainRequest::Resume => Ok(DomainRequest::Resume),
-            DomainRequest::SetAutostart { autostart } => Ok(DomainRequest::SetAutostart {
+        Ok(match self {
+            DomainRequest::AttachDevice { xml } => DomainRequest::AttachDevice { xml: xml.copy()? },
+            DomainRequest::Create => DomainRequest::Create,
+            DomainRequest::Destroy => DomainRequest::Destroy,
+            DomainRequest::DetachDevice { xml } => DomainRequest::DetachDevice { xml: xml.copy()? },
+            DomainRequest::GetXmlDesc { flags } => DomainRequest::GetXmlDesc { flags: *flags },
+            DomainRequest::GetAutostart => DomainRequest::GetAutostart,
+            DomainRequest::GetInfo => DomainRequest::GetInfo,
+            DomainRequest::Reboot { flags } => DomainRequest::Reboot { flags: *flags },
+            DomainRequest::Resume => DomainRequest::Resume,
+            DomainRequest::SetAutostart { autostart } => DomainRequest::SetAutostart {
                 autostart: *autostart,
-            }),
-            DomainRequest::SetMemory { memory } => Ok(DomainRequest::SetMemory { memory: *memory }),
-            DomainRequest::SetVcpus { vcpus } => Ok(DomainRequest::SetVcpus { vcpus: *vcpus }),
-            DomainRequest::Shutdown => Ok(DomainRequest::Shutdown),
-            DomainRequest::Suspend => Ok(DomainRequest::Suspend),
-            DomainRequest::Undefine => Ok(DomainRequest::Undefine),
-            DomainRequest::CoreDump { to, flags } => Ok(DomainRequest::CoreDump {
+            },
+            DomainRequest::SetMemory { memory } => DomainRequest::SetMemory { memory: *memory },
+            DomainRequest::SetVcpus { vcpus } => DomainRequest::SetVcpus { vcpus: *vcpus },
+            DomainRequest::Shutdown => DomainRequest::Shutdown,
+            DomainRequest::Suspend => DomainRequest::Suspend,
+            DomainRequest::Undefine => DomainRequest::Undefine,
+            DomainRequest::CoreDump { to, flags } => DomainRequest::CoreDump {
                 to: to.copy()?,
                 flags: *flags,
-            }),
-            DomainRequest::Save { to } => Ok(DomainRequest::Save { to: to.copy()? }),
-            DomainRequest::JobInfo => Ok(DomainRequest::JobInfo),
-            DomainRequest::JobAbort => Ok(DomainRequest::JobAbort),
-            DomainRequest::SnapCreate { xml } => Ok(DomainRequest::SnapCreate { xml: xml.copy()? }),
-            DomainRequest::SnapList => Ok(DomainRequest::SnapList),
-            DomainRequest::SnapParent { snapshot } => Ok(DomainRequest::SnapParent {
+            },
+            DomainRequest::Save { to } => DomainRequest::Save { to: to.copy()? },
+            DomainRequest::JobInfo => DomainRequest::JobInfo,
+            DomainRequest::JobAbort => DomainRequest::JobAbort,
+            DomainRequest::SnapCreate { xml } => DomainRequest::SnapCreate { xml: xml.copy()? },
+            DomainRequest::SnapList => DomainRequest::SnapList,
+            DomainRequest::SnapParent { snapshot } => DomainRequest::SnapParent {
                 snapshot: snapshot.copy()?,
-            }),
-            DomainRequest::SnapDelete { snapshot, children } => Ok(DomainRequest::SnapDelete {
+            },
+            DomainRequest::SnapDelete { snapshot, children } => DomainRequest::SnapDelete {
                 snapshot: snapshot.copy()?,
                 children: *children,
-            }),
-            DomainRequest::SnapRevert { snapshot } => Ok(DomainRequest::SnapRevert {
+            },
+            DomainRequest::SnapRevert { snapshot } => DomainRequest::SnapRevert {
                 snapshot: snapshot.copy()?,
-            }),
-            DomainRequest::SnapXml { snapshot } => Ok(DomainRequest::SnapXml {
+            },
+            DomainRequest::SnapXml { snapshot } => DomainRequest::SnapXml {
                 snapshot: snapshot.copy()?,
-            }),
-            DomainRequest::EventRegister => Ok(DomainRequest::EventRegister),
-            DomainRequest::EventDeregister => Ok(DomainRequest::EventDeregister),
-            DomainRequest::MemoryStats => Ok(DomainRequest::MemoryStats),
-            DomainRequest::Kick { action } => Ok(DomainRequest::Kick { action: *action }),
-        }
+            },
+            DomainRequest::EventRegister => DomainRequest::EventRegister,
+            DomainRequest::EventDeregister => DomainRequest::EventDeregister,
+            DomainRequest::MemoryStats => DomainRequest::MemoryStats,
+            DomainRequest::Kick { action } => DomainRequest::Kick { action: *action },
+        })
     }
 }
 
@@ -230,22 +226,22 @@ pub enum PoolRequest {
 
 impl TryCopy for PoolRequest {
     fn copy(&self) -> Result<PoolRequest, NoMemory> {
-        match self {
-            PoolRequest::Create => Ok(PoolRequest::Create),
-            PoolRequest::Destroy => Ok(PoolRequest::Destroy),
-            PoolRequest::Undefine => Ok(PoolRequest::Undefine),
-            PoolRequest::Xml => Ok(PoolRequest::Xml),
-            PoolRequest::SetAutostart { autostart } => Ok(PoolRequest::SetAutostart {
+        Ok(match self {
+            PoolRequest::Create => PoolRequest::Create,
+            PoolRequest::Destroy => PoolRequest::Destroy,
+            PoolRequest::Undefine => PoolRequest::Undefine,
+            PoolRequest::Xml => PoolRequest::Xml,
+            PoolRequest::SetAutostart { autostart } => PoolRequest::SetAutostart {
                 autostart: *autostart,
-            }),
-            PoolRequest::VolCreate { xml } => Ok(PoolRequest::VolCreate { xml: xml.copy()? }),
-            PoolRequest::VolDelete { volume } => Ok(PoolRequest::VolDelete {
+            },
+            PoolRequest::VolCreate { xml } => PoolRequest::VolCreate { xml: xml.copy()? },
+            PoolRequest::VolDelete { volume } => PoolRequest::VolDelete {
                 volume: volume.copy()?,
-            }),
-            PoolRequest::VolList => Ok(PoolRequest::VolList),
-            PoolRequest::VolXml { volume } => Ok(PoolRequest::VolXml {
+            },
+            PoolRequest::VolList => PoolRequest::VolList,
+            PoolRequest::VolXml { volume } => PoolRequest::VolXml {
                 volume: volume.copy()?,
-            }),
-        }
+            },
+        })
     }
 }

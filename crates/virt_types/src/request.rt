@@ -1,5 +1,5 @@
 // Requests: what a session is asked, one variant for each procedure of the two programs' tables.
-use crate::copy::TryCopy;
+use crate::copy::{TryCopy, both};
 use crate::list::ListOf;
 use crate::memory::NoMemory;
 use crate::object_request::{DomainRequest, NetworkRequest, PoolRequest};
@@ -115,47 +115,45 @@ pub type RequestList = ListOf<Request>;
 
 impl TryCopy for Request {
     fn copy(&self) -> Result<Request, NoMemory> {
-        match self {
-            Request::ConnectOpen { name, flags } => Ok(Request::ConnectOpen {
+        Ok(match self {
+            Request::ConnectOpen { name, flags } => Request::ConnectOpen {
                 name: name.copy()?,
                 flags: *flags,
-            }),
-            Request::ConnectClose => Ok(Request::ConnectClose),
-            Request::DomainCreateXml { xml, flags } => Ok(Request::DomainCreateXml {
+            },
+            Request::ConnectClose => Request::ConnectClose,
+            Request::DomainCreateXml { xml, flags } => Request::DomainCreateXml {
                 xml: xml.copy()?,
                 flags: *flags,
-            }),
-            Request::DomainDefineXml { xml } => Ok(Request::DomainDefineXml { xml: xml.copy()? }),
-            Request::ListDefinedDomains { most } => Ok(Request::ListDefinedDomains { most: *most }),
-            Request::DomainLookupByName { name } => Ok(Request::DomainLookupByName {
+            },
+            Request::DomainDefineXml { xml } => Request::DomainDefineXml { xml: xml.copy()? },
+            Request::ListDefinedDomains { most } => Request::ListDefinedDomains { most: *most },
+            Request::DomainLookupByName { name } => Request::DomainLookupByName {
                 name: name.copy()?,
-            }),
-            Request::DomainLookupByUuid { uuid } => Ok(Request::DomainLookupByUuid { uuid: *uuid }),
-            Request::ListDefinedNetworks { most } => Ok(Request::ListDefinedNetworks {
-                most: *most,
-            }),
-            Request::ListNetworks { most } => Ok(Request::ListNetworks { most: *most }),
-            Request::NetworkDefineXml { xml } => Ok(Request::NetworkDefineXml { xml: xml.copy()? }),
-            Request::NetworkLookupByName { name } => Ok(Request::NetworkLookupByName {
+            },
+            Request::DomainLookupByUuid { uuid } => Request::DomainLookupByUuid { uuid: *uuid },
+            Request::ListDefinedNetworks { most } => Request::ListDefinedNetworks { most: *most },
+            Request::ListNetworks { most } => Request::ListNetworks { most: *most },
+            Request::NetworkDefineXml { xml } => Request::NetworkDefineXml { xml: xml.copy()? },
+            Request::NetworkLookupByName { name } => Request::NetworkLookupByName {
                 name: name.copy()?,
-            }),
-            Request::DomainRestore { from } => Ok(Request::DomainRestore { from: from.copy()? }),
-            Request::ListAll => Ok(Request::ListAll),
-            Request::PoolDefine { xml } => Ok(Request::PoolDefine { xml: xml.copy()? }),
-            Request::PoolLookup { name } => Ok(Request::PoolLookup { name: name.copy()? }),
-            Request::PoolList => Ok(Request::PoolList),
-            Request::OnDomain { domain, request } => Ok(Request::OnDomain {
-                domain: domain.copy()?,
-                request: request.copy()?,
-            }),
-            Request::OnNetwork { network, request } => Ok(Request::OnNetwork {
+            },
+            Request::DomainRestore { from } => Request::DomainRestore { from: from.copy()? },
+            Request::ListAll => Request::ListAll,
+            Request::PoolDefine { xml } => Request::PoolDefine { xml: xml.copy()? },
+            Request::PoolLookup { name } => Request::PoolLookup { name: name.copy()? },
+            Request::PoolList => Request::PoolList,
+            Request::OnDomain { domain, request } => {
+                let (domain, request) = both(domain.copy(), request.copy())?;
+                Request::OnDomain { domain, request }
+            }
+            Request::OnNetwork { network, request } => Request::OnNetwork {
                 network: network.copy()?,
                 request: *request,
-            }),
-            Request::OnPool { pool, request } => Ok(Request::OnPool {
-                pool: pool.copy()?,
-                request: request.copy()?,
-            }),
-        }
+            },
+            Request::OnPool { pool, request } => {
+                let (pool, request) = both(pool.copy(), request.copy())?;
+                Request::OnPool { pool, request }
+            }
+        })
     }
 }

@@ -157,27 +157,27 @@ pub enum Value {
 
 impl TryCopy for Value {
     fn copy(&self) -> Result<Value, NoMemory> {
-        match self {
-            Value::Nothing => Ok(Value::Nothing),
-            Value::Domain(it) => Ok(Value::Domain(it.copy()?)),
-            Value::Network(it) => Ok(Value::Network(it.copy()?)),
-            Value::Pool(it) => Ok(Value::Pool(it.copy()?)),
-            Value::Text(it) => Ok(Value::Text(it.copy()?)),
-            Value::Autostart(it) => Ok(Value::Autostart(*it)),
-            Value::Info(it) => Ok(Value::Info(*it)),
-            Value::Names(it) => Ok(Value::Names(it.copy()?)),
-            Value::Domains(it) => Ok(Value::Domains(it.copy()?)),
-            Value::Pools(it) => Ok(Value::Pools(it.copy()?)),
-            Value::Job(it) => Ok(Value::Job(*it)),
-            Value::Name(it) => Ok(Value::Name(it.copy()?)),
-            Value::Parent(it) => Ok(Value::Parent(it.copy()?)),
-            Value::Memory(it) => Ok(Value::Memory(*it)),
-            Value::Leases(it) => Ok(Value::Leases(it.copy()?)),
-            Value::Reference(it) => Ok(Value::Reference(it.copy()?)),
-            Value::Definition(it) => Ok(Value::Definition(it.copy()?)),
-            Value::Live(it) => Ok(Value::Live(it.copy()?)),
-            Value::Snapshot(it) => Ok(Value::Snapshot(it.copy()?)),
-        }
+        Ok(match self {
+            Value::Nothing => Value::Nothing,
+            Value::Domain(it) => Value::Domain(it.copy()?),
+            Value::Network(it) => Value::Network(it.copy()?),
+            Value::Pool(it) => Value::Pool(it.copy()?),
+            Value::Text(it) => Value::Text(it.copy()?),
+            Value::Autostart(it) => Value::Autostart(*it),
+            Value::Info(it) => Value::Info(*it),
+            Value::Names(it) => Value::Names(it.copy()?),
+            Value::Domains(it) => Value::Domains(it.copy()?),
+            Value::Pools(it) => Value::Pools(it.copy()?),
+            Value::Job(it) => Value::Job(*it),
+            Value::Name(it) => Value::Name(it.copy()?),
+            Value::Parent(it) => Value::Parent(it.copy()?),
+            Value::Memory(it) => Value::Memory(*it),
+            Value::Leases(it) => Value::Leases(it.copy()?),
+            Value::Reference(it) => Value::Reference(it.copy()?),
+            Value::Definition(it) => Value::Definition(it.copy()?),
+            Value::Live(it) => Value::Live(it.copy()?),
+            Value::Snapshot(it) => Value::Snapshot(it.copy()?),
+        })
     }
 }
 
@@ -192,10 +192,10 @@ pub enum Reply {
 
 impl TryCopy for Reply {
     fn copy(&self) -> Result<Reply, NoMemory> {
-        match self {
-            Reply::Ok(it) => Ok(Reply::Ok(it.copy()?)),
-            Reply::No(it) => Ok(Reply::No(it.copy()?)),
-        }
+        Ok(match self {
+            Reply::Ok(it) => Reply::Ok(it.copy()?),
+            Reply::No(it) => Reply::No(it.copy()?),
+        })
     }
 }
 
@@ -222,21 +222,21 @@ pub enum Note {
 
 impl TryCopy for Note {
     fn copy(&self) -> Result<Note, NoMemory> {
-        match self {
+        Ok(match self {
             Note::Event {
                 name,
                 uuid,
                 transition,
-            } => Ok(Note::Event {
+            } => Note::Event {
                 name: name.copy()?,
                 uuid: *uuid,
                 transition: *transition,
-            }),
-            Note::Lost { name, uuid } => Ok(Note::Lost {
+            },
+            Note::Lost { name, uuid } => Note::Lost {
                 name: name.copy()?,
                 uuid: *uuid,
-            }),
-        }
+            },
+        })
     }
 }
 
