@@ -3,7 +3,7 @@ ghost use Rattle.std.specs.Prelude.{◌≡◌, ◌++◌, ◌∷◌, [], map, OnO
 ghost use Rattle.std.specs.Char.{digit_char};
 ghost use Rattle.std.specs.List.{join_with_byte};
 ghost use Rattle.std.specs.String.{string_bytes};
-ghost use Rattle.text_spec.specs.Spelling as spec;
+ghost use Rattle.virt_types.specs.Mac as spec;
 
 use std::alloc::Global;
 use virt_types::{Mac, NoMemory};
@@ -56,7 +56,7 @@ fn push_bytes(out: &mut String, bytes: &[u8]) -> Result<(), NoMemory>
 }
 
 /// The text of an address.
-#[tactic(auto, unfolding(text_spec::specs::Spelling::mac_text))]
+#[tactic(auto, unfolding(virt_types::specs::Mac::mac_text))]
 pub(crate) fn mac_text(alloc: Global, mac: Mac) -> Result<String, NoMemory>
     ensures { IfOk result (λ text. string_bytes text ≡ spec.mac_text mac) }
 {

@@ -1,7 +1,8 @@
 -- The devices of a live guest, each at a slot: first the disks, then the interfaces, in order
 -- (libvirt's domain XML: disks are told apart by `target dev`, interfaces by `mac address`).
-use Rattle.std.specs.Prelude.{ℕ, ◌+◌, ◌-◌, ◌/◌, ◌%◌, ◌==◌, ◌++◌, ◌∷◌, [], List, Bool, true, false, not, nat_lt, if◌then◌else◌, map, length, take, drop, remove, find, position, slice_get, bytes_eq, Option, None, Some, unwrap_or}
+use Rattle.std.specs.Prelude.{ℕ, ◌+◌, ◌-◌, ◌==◌, ◌++◌, ◌∷◌, [], List, Bool, true, false, not, nat_lt, if◌then◌else◌, map, length, take, drop, remove, find, position, slice_get, bytes_eq, Option, None, Some, unwrap_or}
 use Rattle.std.specs.List.{list_any}
+use Rattle.virt_types.specs.Mac.{mac_text}
 use Rattle.domain_spec.specs.Types.{DeviceDef, DomainDef, Interface, InterfaceSource, InterfaceType, Live, Mac}
 use Rattle.domain_spec.specs.Types.device
 use Rattle.domain_spec.specs.Types.interface
@@ -31,18 +32,9 @@ is_taken slots slot = list_any (λ taken. taken == slot) slots
 abbrev pub free_slot : List ℕ → Option ℕ
 free_slot slots = find (λ slot. not (is_taken slots slot)) all_slots
 
-abbrev pub hex_digit : ℕ → ℕ
-hex_digit n = if nat_lt n 10 then 48 + n else 87 + n
-
--- six pairs of small hexadecimal digits, with colons between them
-abbrev pub mac_text : List ℕ → List ℕ
-mac_text [] = []
-mac_text (b ∷ []) = hex_digit (b / 16) ∷ hex_digit (b % 16) ∷ []
-mac_text (b ∷ bs) = hex_digit (b / 16) ∷ hex_digit (b % 16) ∷ 58 ∷ mac_text bs
-
 abbrev pub mac_key : Option Mac → List ℕ
 mac_key None = []
-mac_key (Some mac) = mac_text mac.bytes
+mac_key (Some mac) = mac_text mac
 
 -- the key of a device: a disk's target, an interface's MAC; empty where it has no MAC
 abbrev pub key_of : DeviceDef → List ℕ

@@ -1,7 +1,10 @@
 // The devices of a guest, each at a slot.
-ghost use Rattle.std.specs.Prelude.{◌≡◌, ◌++◌, ◌/◌, ◌%◌, ◌<◌, ◌==◌, ◌∷◌, [], IfOk, map, position, remove, unwrap_or};
-ghost use Rattle.domain_spec.specs.Devices.{all_slots, device_like, devices_of, free_slot, has_same_key, hex_digit, is_on_network, is_same_mac, is_taken, key_of, mac_key, mac_text, network_in, network_of, placed, slots_at_start, slots_from, with_device, without_place, without_placed, without_slot};
+ghost use Rattle.std.specs.Prelude.{◌≡◌, ◌++◌, ◌<◌, ◌==◌, ◌∷◌, [], IfOk, map, position, remove, unwrap_or};
+ghost use Rattle.domain_spec.specs.Devices.{all_slots, device_like, devices_of, free_slot, has_same_key, is_on_network, is_same_mac, is_taken, key_of, mac_key, network_in, network_of, placed, slots_at_start, slots_from, with_device, without_place, without_placed, without_slot};
 ghost use Rattle.domain_spec.specs.Types.device;
+ghost use Rattle.std.specs.Char.{digit_char};
+ghost use Rattle.std.specs.List.{join_with_byte};
+ghost use Rattle.virt_types.specs.Mac.{byte_text, colon};
 
 use crate::lists::{joined, led_by, value_at, with_at, without_at};
 use std::alloc::Global;
@@ -83,24 +86,25 @@ pub fn free_slot(slots: &[u32]) -> Option<u32>
 
 fn hex_digit(n: u8) -> u8
     requires { n < 16 }
-    ensures { result ≡ hex_digit n }
+    ensures { result ≡ digit_char n }
 {
     if n < 10 { 48 + n } else { 87 + n }
 }
 
-fn mac_text(alloc: Global, bytes: &[u8]) -> Result<ListOf<u8>, NoMemory>
-    ensures { IfOk result (λ text. text ≡ mac_text bytes.now) }
+// Bytes as pairs of digits, with colons between them.
+fn bytes_text(alloc: Global, bytes: &[u8]) -> Result<ListOf<u8>, NoMemory>
+    ensures { IfOk result (λ text. text ≡ join_with_byte colon (map byte_text bytes.now)) }
 {
     match bytes {
         [] => Ok(ListOf::new(alloc)),
         [only] => two_digits(*only, ListOf::new(alloc)),
-        [first, rest @ ..] => two_digits(*first, led_by(b':', mac_text(alloc, rest)?)?),
+        [first, rest @ ..] => two_digits(*first, led_by(b':', bytes_text(alloc, rest)?)?),
     }
 }
 
 // Two hexadecimal digits before the others.
 fn two_digits(byte: u8, rest: ListOf<u8>) -> Result<ListOf<u8>, NoMemory>
-    ensures { IfOk result (λ all. all ≡ hex_digit (byte / 16) ∷ hex_digit (byte % 16) ∷ rest) }
+    ensures { IfOk result (λ all. all ≡ byte_text byte ++ rest) }
 {
     led_by(hex_digit(byte / 16), led_by(hex_digit(byte % 16), rest)?)
 }
@@ -115,12 +119,13 @@ fn text_of(bytes: ListOf<u8>) -> Result<Text, NoMemory>
     }
 }
 
+#[tactic(auto, unfolding(virt_types::specs::Mac::mac_text))]
 fn mac_key(alloc: Global, mac: Option<Mac>) -> Result<Text, NoMemory>
     ensures { IfOk result (λ key. key ≡ mac_key mac) }
 {
     match mac {
         None => Text::copy_of(alloc, ""),
-        Some(mac) => text_of(mac_text(alloc, mac.bytes.as_slice())?),
+        Some(mac) => text_of(bytes_text(alloc, mac.bytes.as_slice())?),
     }
 }
 

@@ -7,7 +7,7 @@ use Rattle.virt_types.specs.declared.device_def.Interface.{Interface}
 use Rattle.virt_types.specs.declared.mac.Mac.{Mac}
 use Rattle.text_spec.specs.Fill.{tails, has_mac, is_taken, mac_among, IsMacFilled, AreMacsFilled}
 use Rattle.text_spec.specs.MacText.{mac_of}
-use Rattle.text_spec.specs.Spelling.{mac_text}
+use Rattle.virt_types.specs.Mac.{mac_text}
 use Rattle.text_spec.specs.Tag.{is_among}
 use Rattle.text_laws.specs.Given.{IsMac, IsMacOf, IsInterface, mac_key, IsApart, with_mac_key, AreInterfacesApart}
 use Rattle.text_laws.proofs.Allowed.{both_all, front_of_all}

@@ -17,7 +17,7 @@ use Rattle.text_spec.specs.DeviceList.{device_in}
 use Rattle.text_spec.specs.DevicePrinted.{target_tree, mac_tree, disk_tree, interface_tree, device_tree}
 use Rattle.text_spec.specs.DeviceText.{disk_rows, interface_rows}
 use Rattle.text_spec.specs.Look.{is_element, first_of}
-use Rattle.text_spec.specs.Spelling.{mac_text}
+use Rattle.virt_types.specs.Mac.{mac_text}
 use Rattle.text_spec.specs.Table.{rows_fault, wrong_at, optional}
 use Rattle.text_spec.specs.Words.{disk_type_word, disk_device_word, interface_type_word}
 use Rattle.text_laws.proofs.Rows.{clean, none_left, text_row, optional_row, needed_row, absent_row}

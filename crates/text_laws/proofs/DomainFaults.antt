@@ -32,7 +32,8 @@ use Rattle.text_spec.specs.DomainPrinted.{uuid_tree, script_tree, memory_tree, v
 use Rattle.text_spec.specs.DomainText.{domain_rows, devices_at, domain_fault, domain_in}
 use Rattle.text_spec.specs.GuestScript.{entries_of}
 use Rattle.text_spec.specs.Look.{is_element, attribute_of, first_of, element_at, value_in}
-use Rattle.text_spec.specs.Spelling.{worded, mac_text}
+use Rattle.text_spec.specs.Spelling.{worded}
+use Rattle.virt_types.specs.Mac.{mac_text}
 use Rattle.text_spec.specs.Table.{needed, optional, each, wrong_in_each, wrong_at, rows_fault}
 use Rattle.text_spec.specs.Tree.{Tree}
 use Rattle.text_spec.specs.Words.{domain_type_word, lifecycle_action_word, crash_action_word}

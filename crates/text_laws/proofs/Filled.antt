@@ -14,7 +14,8 @@ use Rattle.text_spec.specs.declared.vocabulary.ElementName.TheVariants as elemen
 use Rattle.text_spec.specs.DevicePrinted.{any_mac, with_mac, mac_tree, interface_source_tree, interface_model_tree, interface_children, interface_tree, disk_tree, device_tree, device_fits}
 use Rattle.text_spec.specs.DomainPrinted.{any_uuid, uuid_tree, script_trees, other_device_trees, device_trees, gathered, front_trees, middle_trees, domain_children, domain_tree, stood_in, domain_fits}
 use Rattle.text_spec.specs.Fill.{tails, local_mac, is_taken, next_tail, raised, mac_among, with_own, IsUuidFilled, IsMacFilled, AreMacsFilled, IsFilled, IsAloneFilled, IsDeviceFilled}
-use Rattle.text_spec.specs.Spelling.{pair, worded, present, mac_text, fits}
+use Rattle.text_spec.specs.Spelling.{pair, worded, present, fits}
+use Rattle.virt_types.specs.Mac.{mac_text}
 use Rattle.text_spec.specs.Tree.{Tree}
 use Rattle.text_spec.specs.Vocabulary.{attribute_word}
 use Rattle.text_spec.specs.Words.{interface_type_word, domain_type_word}

@@ -13,7 +13,8 @@ use Rattle.text_spec.specs.DevicePrinted.{mac_tree, interface_source_tree, inter
 use Rattle.text_spec.specs.DeviceText.{interface_source_of, interface_model_of, mac_in, interface_of}
 use Rattle.text_spec.specs.Look.{is_element, is_attribute, attribute_of, first_of}
 use Rattle.text_spec.specs.MacText.{mac_of}
-use Rattle.text_spec.specs.Spelling.{pair, pairs, present, mac_text}
+use Rattle.text_spec.specs.Spelling.{pair, pairs, present}
+use Rattle.virt_types.specs.Mac.{mac_text}
 use Rattle.text_spec.specs.Tree.{Tree}
 use Rattle.text_spec.specs.Words.{interface_type_word, interface_type_of}
 use Rattle.text_laws.proofs.Lookups.{here, past, alone, other, first_in, found, passed, found_last, passed_last}

@@ -40,7 +40,8 @@ use Rattle.text_spec.specs.declared.vocabulary.ElementName.{ElementName}
 use Rattle.text_spec.specs.declared.vocabulary.ElementName.TheVariants as element
 use Rattle.text_spec.specs.DevicePrinted.{driver_tree, disk_source_tree, target_tree, disk_attributes, disk_children, disk_tree, mac_tree, interface_source_tree, interface_model_tree, interface_children, interface_tree, device_tree}
 use Rattle.text_spec.specs.DomainPrinted.{uuid_tree, script_tree, script_trees, memory_tree, current_attribute, vcpu_tree, boot_tree, os_type_tree, os_tree, character_tree, graphics_tree, memballoon_tree, device_trees, gathered, front_trees, middle_trees, domain_children, domain_tree}
-use Rattle.text_spec.specs.Spelling.{pair, pairs, worded, present, flagged, mac_text}
+use Rattle.text_spec.specs.Spelling.{pair, pairs, worded, present, flagged}
+use Rattle.virt_types.specs.Mac.{mac_text}
 use Rattle.text_spec.specs.Tree.{Tree}
 use Rattle.text_spec.specs.Words.{domain_type_word, boot_device_word, lifecycle_action_word, crash_action_word, disk_type_word, disk_device_word, interface_type_word}
 use Rattle.text_spec.specs.Writable.{AreAttributes, IsText, IsTree}

@@ -10,7 +10,7 @@ use Rattle.virt_types.specs.declared.device_def.Interface.{Interface}
 use Rattle.virt_types.specs.declared.domain_def.DomainDef.{DomainDef}
 use Rattle.virt_types.specs.declared.mac.Mac.{Mac}
 use Rattle.text_spec.specs.GuestScript.{entries_of}
-use Rattle.text_spec.specs.Spelling.{mac_text}
+use Rattle.virt_types.specs.Mac.{mac_text}
 use Rattle.text_spec.specs.Tag.{is_among}
 use Rattle.text_spec.specs.Writable.{AreChars}
 

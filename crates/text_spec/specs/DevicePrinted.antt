@@ -14,7 +14,8 @@ use Rattle.virt_types.specs.declared.mac.Mac.{Mac}
 use Rattle.text_spec.specs.declared.pair.Pair.{Pair}
 use Rattle.text_spec.specs.declared.vocabulary.AttributeName.TheVariants as attribute
 use Rattle.text_spec.specs.declared.vocabulary.ElementName.TheVariants as element
-use Rattle.text_spec.specs.Spelling.{pair, pairs, tagged, holding, present, flagged, mac_text, fits}
+use Rattle.text_spec.specs.Spelling.{pair, pairs, tagged, holding, present, flagged, fits}
+use Rattle.virt_types.specs.Mac.{mac_text}
 use Rattle.text_spec.specs.Tree.{Tree}
 use Rattle.text_spec.specs.Words.{disk_type_word, disk_device_word, interface_type_word}
 use Rattle.text_spec.specs.Written.{written}

@@ -1,9 +1,6 @@
 -- How the parts of a definition stand in its tree: attributes, elements, and what is absent.
-use Rattle.std.specs.Prelude.{ℕ, ◌/◌, ◌%◌, List, [], ◌∷◌, map, length, Option, option_map, if◌then◌else◌, Bool, ◌&&◌, nat_le}
+use Rattle.std.specs.Prelude.{ℕ, List, [], ◌∷◌, length, Option, option_map, if◌then◌else◌, Bool, ◌&&◌, nat_le}
 use Rattle.std.specs.Option.{option_to_list}
-use Rattle.std.specs.List.{join_with_byte}
-use Rattle.std.specs.Char.{digit_char}
-use Rattle.virt_types.specs.declared.mac.Mac.{Mac}
 use Rattle.text_spec.specs.declared.pair.Pair.{Pair}
 use Rattle.text_spec.specs.declared.vocabulary.AttributeName.{AttributeName}
 use Rattle.text_spec.specs.declared.vocabulary.ElementName.{ElementName}
@@ -44,17 +41,6 @@ present tree_of part = option_to_list (option_map tree_of part)
 -- an element that stands where this is so
 abbrev pub flagged : ElementName → Bool → List Tree
 flagged n flag = if flag then tagged n [] ∷ [] else []
-
--- a byte as two hexadecimal digits
-abbrev pub byte_text : ℕ → List ℕ
-byte_text byte = digit_char (byte / 16) ∷ digit_char (byte % 16) ∷ []
-
--- an address as pairs of small hexadecimal digits, with colons between them (IEEE 802, EUI-48)
-abbrev pub colon : ℕ
-colon = 58
-
-unfoldable pub mac_text : Mac → List ℕ
-mac_text mac = join_with_byte colon (map byte_text mac.bytes)
 
 -- a tree whose text is within the limits of a text
 unfoldable pub fits : Tree → Bool

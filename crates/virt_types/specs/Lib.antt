@@ -1,4 +1,5 @@
 pub mod Front
+pub mod Mac
 pub mod Name
 pub mod Numbers
 pub mod Refusal
