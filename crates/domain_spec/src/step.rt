@@ -1,4 +1,4 @@
-use virt_types::{ListOf, Phase, Reply, State, Transition};
+use virt_types::{ListOf, NoMemory, Phase, Reply, State, Transition, TryCopy};
 
 /// What a call leaves where it is done.
 #[derive(Drop)]
@@ -18,6 +18,15 @@ pub enum Outcome {
     On(Phase),
     /// The operation is over, with this reply.
     Over(Reply),
+}
+
+impl TryCopy for Outcome {
+    fn copy(&self) -> Result<Outcome, NoMemory> {
+        Ok(match self {
+            Outcome::On(phase) => Outcome::On(*phase),
+            Outcome::Over(reply) => Outcome::Over(reply.copy()?),
+        })
+    }
 }
 
 /// What a phase of an operation leaves.

@@ -164,15 +164,6 @@ fn start(
     Ok(())
 }
 
-fn copy_of_outcome(next: &Outcome) -> Result<Outcome, NoMemory>
-    ensures { IfOk result (λ it. it ≡ next.now) }
-{
-    match next {
-        Outcome::On(phase) => Ok(Outcome::On(*phase)),
-        Outcome::Over(reply) => Ok(Outcome::Over(reply.copy()?)),
-    }
-}
-
 fn state_of_phase(
     alloc: Global,
     state: &State,
@@ -198,7 +189,7 @@ fn finish_phase(
         None => Ok(()),
         Some(operation) => {
             let state = state_of_phase(alloc, &s.state, operation, answers)?;
-            set_outcome(operation, copy_of_outcome(next)?);
+            set_outcome(operation, next.copy()?);
             s.lost = lost_boot(&state, operation.boot, answers);
             set_state(s, state);
             close_job(s);

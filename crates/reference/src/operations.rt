@@ -84,15 +84,6 @@ fn is_through(alloc: Global, at: &Progress) -> Result<bool, NoMemory>
     Ok(left.is_empty())
 }
 
-fn copy_of_outcome(outcome: &Outcome) -> Result<Outcome, NoMemory>
-    ensures { IfOk result (λ it. it ≡ outcome.now) }
-{
-    match outcome {
-        Outcome::On(phase) => Ok(Outcome::On(*phase)),
-        Outcome::Over(reply) => Ok(Outcome::Over(reply.copy()?)),
-    }
-}
-
 // What listeners are told with a phase: of its boot's end where that came first, and where it follows.
 fn all_told(
     alloc: Global,
@@ -122,7 +113,7 @@ fn done_phase(
         phase_asked(alloc, &at.state, &at.operation, at.left.as_slice()),
         at.left.copy(),
     );
-    let (outcome, (asks, answers)) = both(copy_of_outcome(outcome), asked)?;
+    let (outcome, (asks, answers)) = both(outcome.copy(), asked)?;
     Ok(DonePhase {
         phase,
         asks,
@@ -219,7 +210,7 @@ fn take_answers(alloc: Global, at: &mut Progress, answers: &[Answer]) -> Result<
 fn copy_of_operation(operation: &OpenOperation) -> Result<OpenOperation, NoMemory>
     ensures { IfOk result (λ it. it ≡ operation.now) }
 {
-    let (call, outcome) = both(operation.call.copy(), copy_of_outcome(&operation.outcome))?;
+    let (call, outcome) = both(operation.call.copy(), operation.outcome.copy())?;
     Ok(OpenOperation {
         number: operation.number,
         who: operation.who,
