@@ -15,12 +15,15 @@ use xdr_codec::Writer;
 /// The longest packet, in bytes.
 const MOST: usize = 4_194_304;
 
+// What is set aside for a packet at first: enough for one that carries a reference to a domain.
+const ROOM: usize = 128;
+
 /// A writer that stands behind this header; its length word is not yet written.
 pub(crate) fn begin(alloc: Global, header: &Header) -> Result<Writer, NoMemory>
     ensures written { IfOk result (λ w. w ≡ word 0 ++ header_words header.now) }
     ensures words { OnOk result (HasWords header.now) }
 {
-    let mut writer = Writer::new(alloc);
+    let mut writer = Writer::with_room(alloc, ROOM)?;
     writer.put_u32(0)?;
     writer.put_u32(header.prog)?;
     writer.put_u32(header.vers)?;

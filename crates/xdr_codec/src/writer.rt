@@ -1,5 +1,5 @@
 // Writing items one behind the other.
-ghost use Rattle.std.specs.Prelude.{◌≡◌, ◌^◌, ◌<◌, [], ◌++◌, length, vec_len, IsUtf8, OnOk, OnErr};
+ghost use Rattle.std.specs.Prelude.{◌≡◌, ◌^◌, ◌<◌, [], ◌++◌, length, vec_len, IfOk, IsUtf8, OnOk, OnErr};
 ghost use Rattle.wire_spec.specs.Xdr.{double_word, fixed, integer, opaque, padding, truth, word};
 
 use crate::bytes::padding_length;
@@ -44,6 +44,15 @@ impl Writer {
         Writer {
             bytes: Vec::new(alloc),
         }
+    }
+
+    /// A writer that has written nothing, with memory for this many bytes set aside.
+    pub fn with_room(alloc: Global, room: usize) -> Result<Writer, NoMemory>
+        ensures { IfOk result (λ writer. writer ≡ []) }
+    {
+        Ok(Writer {
+            bytes: Vec::with_capacity(alloc, room)?,
+        })
     }
 
     /// All that was written.
