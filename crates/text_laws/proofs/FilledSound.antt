@@ -12,7 +12,7 @@ use Rattle.text_laws.specs.Given.{AreBytes, IsUuidOf, IsInterface, IsDomain, IsD
 use Rattle.text_laws.specs.ReadsAs.{IsSound, IsSoundDevice}
 use Rattle.text_laws.specs.Texts.{IsInterfaceText, IsDomainText, IsDeviceText}
 use Rattle.text_laws.proofs.Apart.{filled_addresses, filled_keys}
-use Rattle.text_laws.proofs.Filled.{with_parts, local_is, domain_filled_fits, domain_filled_again, device_filled_fits, device_filled_again}
+use Rattle.text_laws.proofs.Filled.{with_parts, local_is, domain_filled_again, device_filled_again}
 
 -- ---- identifiers
 one_byte : (k n : ℕ) → byte_at k n < 256
@@ -111,8 +111,7 @@ domain_filled_sound d f is filled =
     record {
       values = subst IsDomain (sym same) (values_filled d f.uuid f.interfaces filled.macs is.values filled.uuid);
       texts = subst IsDomainText (sym same) (texts_filled d f.uuid f.interfaces filled.macs is.texts);
-      fitting = domain_filled_fits d f is.fitting_filled filled;
-      fitting_filled = domain_filled_again d f is.fitting_filled filled;
+      fitting = domain_filled_again d f is.fitting filled;
     }
 
 -- ---- devices
@@ -135,6 +134,5 @@ device_filled_sound d f is filled =
     record {
       values = good.values;
       texts = good.texts;
-      fitting = device_filled_fits d f is.fitting_filled filled;
-      fitting_filled = device_filled_again d f is.fitting_filled filled;
+      fitting = device_filled_again d f is.fitting filled;
     }

@@ -23,7 +23,6 @@ use Rattle.text_laws.specs.Given.{IsDomain, IsDevice}
 use Rattle.text_laws.specs.Formed.{IsFormed}
 use Rattle.text_laws.specs.ReadsAs.{ReadsAsDomain, ReadsAsDevice, IsSound, IsSoundDevice}
 use Rattle.text_laws.specs.Texts.{IsDomainText, IsDeviceText}
-use Rattle.text_laws.proofs.Filled.{domain_unfilled_fits, device_unfilled_fits}
 use Rattle.text_laws.proofs.Found.{Formed}
 use Rattle.text_laws.proofs.ReadDevices.{disk_alone, interface_is}
 use Rattle.text_laws.proofs.ReadRows.{told_is, fitting_is}
@@ -58,7 +57,7 @@ unfolding domain_read
 domain_tree_sound t d f e =
     let parts = fitting_is (fault_of_root kind.TooLong t) domain_fits (domain_in t) d e in
     let good = domain_in_good t d f parts.0 in
-    record { values = good.values; texts = good.texts; fitting = domain_unfilled_fits d parts.1; fitting_filled = parts.1 }
+    record { values = good.values; texts = good.texts; fitting = parts.1 }
 
 pub domain_sound : (text : List ℕ) (d : DomainDef) → ReadsAsDomain text d → IsSound d
 domain_sound text d r = domain_tree_sound r.tree d (formed_by r.tree (read_good text r.tree r.is_tree)) r.is_domain
@@ -94,7 +93,7 @@ unfolding device_read
 device_tree_sound t d f e =
     let parts = fitting_is (fault_of_root kind.TooLong t) device_fits (device_in t) d e in
     let good = device_in_good t d f parts.0 in
-    record { values = good.values; texts = good.texts; fitting = device_unfilled_fits d parts.1; fitting_filled = parts.1 }
+    record { values = good.values; texts = good.texts; fitting = parts.1 }
 
 pub device_sound : (text : List ℕ) (d : DeviceDef) → ReadsAsDevice text d → IsSoundDevice d
 device_sound text d r = device_tree_sound r.tree d (formed_by r.tree (read_good text r.tree r.is_tree)) r.is_device

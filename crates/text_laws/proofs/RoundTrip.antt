@@ -17,6 +17,7 @@ use Rattle.text_laws.specs.Texts.{IsDomainText, IsDeviceText}
 use Rattle.text_laws.specs.ReadsAs.{ReadsAsDomain, ReadsAsDevice, IsSound, IsSoundDevice}
 use Rattle.text_laws.proofs.Devices.{device_back}
 use Rattle.text_laws.proofs.DomainFaults.{domain_read_back}
+use Rattle.text_laws.proofs.Filled.{domain_unfilled_fits, device_unfilled_fits}
 use Rattle.text_laws.proofs.Parts.{both_of}
 use Rattle.text_laws.proofs.Printed.{domain_formed, device_formed}
 
@@ -36,14 +37,14 @@ pub domain_again : ((t : Tree) → IsWritable t → read_of (written t) ≡ Ok t
 unfolding domain_read
 domain_again back d is = record {
   tree = domain_tree d;
-  is_tree = back (domain_tree d) (domain_writable d is.values is.texts is.fitting);
-  is_domain = rw (domain_read_back d is.values, is.fitting_filled);
+  is_tree = back (domain_tree d) (domain_writable d is.values is.texts (domain_unfilled_fits d is.fitting));
+  is_domain = rw (domain_read_back d is.values, is.fitting);
 }
 
 pub device_again : ((t : Tree) → IsWritable t → read_of (written t) ≡ Ok t) → (d : DeviceDef) → IsSoundDevice d → ReadsAsDevice (written (device_tree d)) d
 unfolding device_read
 device_again back d is = record {
   tree = device_tree d;
-  is_tree = back (device_tree d) (device_writable d is.values is.texts is.fitting);
-  is_device = rw (device_back d is.values, is.fitting_filled);
+  is_tree = back (device_tree d) (device_writable d is.values is.texts (device_unfilled_fits d is.fitting));
+  is_device = rw (device_back d is.values, is.fitting);
 }

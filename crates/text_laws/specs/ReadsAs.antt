@@ -3,9 +3,8 @@ use Rattle.std.specs.Prelude.{◌≡◌, ℕ, List, true, Ok}
 use Rattle.virt_types.specs.declared.device_def.DeviceDef.{DeviceDef}
 use Rattle.virt_types.specs.declared.domain_def.DomainDef.{DomainDef}
 use Rattle.text_spec.specs.Definition.{device_read, domain_read}
-use Rattle.text_spec.specs.DevicePrinted.{device_tree, device_fits}
-use Rattle.text_spec.specs.DomainPrinted.{domain_tree, domain_fits}
-use Rattle.text_spec.specs.Spelling.{fits}
+use Rattle.text_spec.specs.DevicePrinted.{device_fits}
+use Rattle.text_spec.specs.DomainPrinted.{domain_fits}
 use Rattle.text_spec.specs.Text.{read_of}
 use Rattle.text_spec.specs.Tree.{Tree}
 use Rattle.text_laws.specs.Given.{IsDomain, IsDevice}
@@ -22,16 +21,14 @@ pub record ReadsAsDevice (text : List ℕ) (d : DeviceDef) : Type 0 where
   pub is_device : device_read tree ≡ Ok d
 
 -- a domain within its ranges and of texts that a text may hold, whose own text is within the limits
--- of a text, as it stands and once it is filled in
+-- of a text once it is filled in, and so as it stands
 pub record IsSound (d : DomainDef) : Type 0 where
   pub values : IsDomain d
   pub texts : IsDomainText d
-  pub fitting : fits (domain_tree d) ≡ true
-  pub fitting_filled : domain_fits d ≡ true
+  pub fitting : domain_fits d ≡ true
 
 -- the same of a device
 pub record IsSoundDevice (d : DeviceDef) : Type 0 where
   pub values : IsDevice d
   pub texts : IsDeviceText d
-  pub fitting : fits (device_tree d) ≡ true
-  pub fitting_filled : device_fits d ≡ true
+  pub fitting : device_fits d ≡ true
