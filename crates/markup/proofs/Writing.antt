@@ -1,11 +1,12 @@
 -- What was written so far, and what is still to be written.
-use Rattle.std.proofs.Common.{◌≡◌, ℕ, ◌<◌, List, [], ◌∷◌, ◌++◌, length, ap, ap₂, rules, sym, ◌∙◌, refl, arith, append_assoc, append-nil}
+use Rattle.std.proofs.Common.{◌≡◌, ℕ, ◌<◌, List, [], ◌∷◌, ◌++◌, length, ap, ap₂, sym, ◌∙◌, refl, arith, append_assoc, append-nil}
 use Rattle.std.specs.Prelude.{chars}
 use Rattle.std.specs.List.{flat_map}
 use Rattle.text_spec.specs.declared.pair.Pair.{Pair}
 use Rattle.text_spec.specs.declared.tree.Tree as declared
-use Rattle.text_spec.specs.declared.tree.Tree.{out-Tree, the_lemmas}
-use Rattle.text_spec.specs.Tree.{element, seen, all_seen}
+use Rattle.text_spec.specs.declared.tree.Tree.{out-Tree}
+use Rattle.text_spec.specs.Tree.{seen, all_seen}
+use Rattle.text_spec.proofs.Seen.{seen_parts}
 use Rattle.text_spec.specs.Written.{in_text, opened, deeper, content_written, without_children, with_children, tree_written, trees_written}
 
 pub piece_moved : {A : Type 0} (f : A → List ℕ) (out now : List ℕ) (x : A) (xs after : List A) → xs ≡ x ∷ after → now ≡ out ++ f x
@@ -31,10 +32,6 @@ pub content_some : (inset name text inner : List ℕ) (xs : List declared.Tree) 
     → content_written inset name text inner (all_seen xs) ≡ with_children inset name text inner
 content_some inset name text inner [] h = absurd (omega (arith, h))
 content_some inset name text inner (x ∷ xs) h = refl
-
--- the parts of an element in memory
-seen_parts : (t : declared.Tree) → seen t ≡ element (out-Tree t).name (out-Tree t).attributes (out-Tree t).text (all_seen (out-Tree t).children.items)
-seen_parts t = search (rules, the_lemmas)
 
 tree_parts : (inset : List ℕ) (t : declared.Tree)
     → tree_written inset (seen t) ≡ opened inset (chars (out-Tree t).name) (out-Tree t).attributes
