@@ -14,20 +14,20 @@ use Rattle.domain_spec.specs.Asks.{first_bad, first_value}
 use Rattle.domain_spec.specs.Call.{begins}
 use Rattle.domain_spec.specs.Begin.{begin_state, begun, begun_with, boot_definition, first_phase}
 use Rattle.domain_spec.specs.Exit.{event_held, event_state, exit_held, exit_state}
-use Rattle.domain_spec.specs.Reading.{boots_of, is_crashed, is_paused, is_running, settled_by, with_run}
+use Rattle.domain_spec.specs.Reading.{boots_of, is_crashed, is_paused, is_running, unless_gone_by, with_run}
 use Rattle.domain_spec.specs.CallResult.{ended, guest_step, held_step, live_step, memory_step, new_domain, step_of}
 use Rattle.domain_spec.specs.Sequential.{answered_step, ended_step, meets_ended, seq, tested_step}
 use Rattle.domain_spec.specs.Tests.{refusal_of}
 
-pub settled_keeps : (d : Domain) (live : Option Live) (stored : Option DomainDef) → boots_of (settled_by d live stored) ≡ d.boots
-settled_keeps d None None = refl
-settled_keeps d None (Some def) = refl
-settled_keeps d (Some l) None = refl
-settled_keeps d (Some l) (Some def) = refl
+pub unless_gone_keeps : (d : Domain) (live : Option Live) (stored : Option DomainDef) → boots_of (unless_gone_by d live stored) ≡ d.boots
+unless_gone_keeps d None None = refl
+unless_gone_keeps d None (Some def) = refl
+unless_gone_keeps d (Some l) None = refl
+unless_gone_keeps d (Some l) (Some def) = refl
 
 -- a domain whose guest has ended, gone or not
 pub ended_keeps_boots : (d : Domain) (l : Live) (why : EndReason) → boots_of (ended d l why) ≡ d.boots
-ended_keeps_boots d l why = settled_keeps (record d { live = None; last = Some (l.boot, why) }) None d.stored
+ended_keeps_boots d l why = unless_gone_keeps (record d { live = None; last = Some (l.boot, why) }) None d.stored
 
 choice_keeps : (b : Bool) (x y : State) (n : ℕ) → boots_of x ≡ n → boots_of y ≡ n → boots_of (if b then x else y) ≡ n
 choice_keeps true x y n hx hy = hx
@@ -50,7 +50,7 @@ guest_keeps d (Some l) c answers = live_keeps d l c answers
 
 held_keeps : (d : Domain) (c : Call) (answers : List Answer) → boots_of (held_step d c answers).state ≡ d.boots
 held_keeps d (call.Define def) answers = refl
-held_keeps d call.Undefine answers = settled_keeps (record d { stored = None; autostart = false }) d.live None
+held_keeps d call.Undefine answers = unless_gone_keeps (record d { stored = None; autostart = false }) d.live None
 held_keeps d (call.SetAutostart on) answers = refl
 held_keeps d call.Abort answers = refl
 held_keeps d (call.SnapDelete name children) answers = refl

@@ -36,7 +36,7 @@ pub record Later (low : ℕ) (s : State) : Type 0 where
 
 none_later : (low boots : ℕ) (boot : Option ℕ) → IsKnownBoot boots boot → low < next_end_of boot boots → low < boots + 1
 none_later low boots None known h = h
-none_later low boots (Some boot) known h = omega arith
+none_later low boots (Some boot) known h = let given = known.1 in omega arith
 
 -- it stays so where the live boot stays or ends
 stays_later : (low : ℕ) (s next : State) → Later low s → Stays (live_boot s) next → boots_of next ≡ boots_of s → Later low next
@@ -55,7 +55,7 @@ begins_later low s next h (inl same) = record {
   above = rw (same.1, same.0) h.above;
 }
 begins_later low s next h (inr new) = record {
-  counted = rw (new.1, new.0) (omega arith);
+  counted = rw (new.1, new.0) (omega arith, omega arith);
   above = rw new.0 (none_later low (boots_of s) (live_boot s) h.counted h.above);
 }
 
@@ -70,7 +70,8 @@ live_is (Some l) boot h = ap (λ (n : ℕ). Some n) (eqb-true l.boot boot h)
 -- where a boot has ended, later ones have greater numbers
 exit_later : (s : State) (boot : ℕ) (why : EndReason) → IsKnownBoot (boots_of s) (live_boot s) → is_live s boot ≡ true → Later boot (exit_state s why)
 exit_later s boot why known live =
-    let known_one : boot ≤ boots_of s = subst (IsKnownBoot (boots_of s)) (live_is (live_of s) boot live) known in
+    let given : IsKnownBoot (boots_of s) (Some boot) = subst (IsKnownBoot (boots_of s)) (live_is (live_of s) boot live) known in
+    let bound : boot ≤ boots_of s = given.1 in
     record {
       counted = rw (live_boot-exit s why) tt;
       above = rw (boots_of-exit s why, live_boot-exit s why) (omega arith);
@@ -103,7 +104,7 @@ stays_counted s next h (inr none) kept = rw none tt
 
 begins_counted : (s next : State) → IsKnownBoot (boots_of s) (live_boot s) → Begins s next → IsKnownBoot (boots_of next) (live_boot next)
 begins_counted s next h (inl same) = rw (same.1, same.0) h
-begins_counted s next h (inr new) = rw (new.1, new.0) (omega arith)
+begins_counted s next h (inr new) = rw (new.1, new.0) (omega arith, omega arith)
 
 phase_counted : (s : Standing) (o : Option OpenOperation) (answers : List Answer) (next : Outcome) → IsCounted s → IsCounted (after_phase s o answers next)
 phase_counted s None answers next h = h

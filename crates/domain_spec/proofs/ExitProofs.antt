@@ -13,7 +13,7 @@ use Rattle.domain_spec.specs.declared.step.CallStep.{CallStep}
 use Rattle.domain_spec.specs.Asks.{first_bad, first_value}
 use Rattle.domain_spec.specs.Devices.{device_like, free_slot, without_placed, without_slot}
 use Rattle.domain_spec.specs.Exit.{event_held, event_state, exit_held, exit_state}
-use Rattle.domain_spec.specs.Reading.{boot_in, is_crashed, is_paused, is_running, live_boot, settled_by, with_run}
+use Rattle.domain_spec.specs.Reading.{boot_in, is_crashed, is_paused, is_running, live_boot, unless_gone_by, with_run}
 use Rattle.domain_spec.specs.CallResult.{attached, detached, ended, guest_step, held_step, live_step, memory_step, step_of}
 use Rattle.domain_spec.specs.Sequential.{answered_step, ended_step, meets_ended, seq, tested_step}
 use Rattle.domain_spec.specs.Tests.{refusal_of}
@@ -22,14 +22,14 @@ use Rattle.domain_spec.specs.Tests.{refusal_of}
 abbrev pub Stays : Option ℕ → State → Type 0
 Stays boot s = (live_boot s ≡ boot) ⊎ (live_boot s ≡ None)
 
-gone : (d : Domain) (l : Live) (why : EndReason) (stored : Option DomainDef) → live_boot (settled_by (record d { live = None; last = Some (l.boot, why) }) None stored) ≡ None
+gone : (d : Domain) (l : Live) (why : EndReason) (stored : Option DomainDef) → live_boot (unless_gone_by (record d { live = None; last = Some (l.boot, why) }) None stored) ≡ None
 gone d l why None = refl
 gone d l why (Some def) = refl
 
 pub ended_stays : (d : Domain) (l : Live) (why : EndReason) (boot : Option ℕ) → Stays boot (ended d l why)
 ended_stays d l why boot = inr (gone d l why d.stored)
 
-undefined_stays : (d : Domain) (live : Option Live) → Stays (boot_in d.live) (settled_by d live None)
+undefined_stays : (d : Domain) (live : Option Live) → Stays (boot_in d.live) (unless_gone_by d live None)
 undefined_stays d None = inr refl
 undefined_stays d (Some l) = inl refl
 

@@ -50,7 +50,7 @@ live_not_made s = none_made (live_of s) (made_in s) refl (λ boot live. rw live 
 
 above_live : (l : Option Live) (boots : ℕ) → IsKnownBoot boots (boot_in l) → is_boot_in l (boots + 1) ≡ false
 above_live None boots known = refl
-above_live (Some l) boots known = ne_eqb l.boot (boots + 1) (λ e. absurd (omega arith))
+above_live (Some l) boots known = let given = known.1 in ne_eqb l.boot (boots + 1) (λ e. absurd (omega arith))
 
 -- the boots of more marks rise above the number of those given out
 rise_more : (s next : State) (more : List ℕ) → IsKnownBoot (boots_of s) (live_boot s) → Moves s next → RiseAbove (boots_of next) more → RiseAbove (boots_of s) (made_in s (live_boot next) ++ more)

@@ -24,7 +24,7 @@ use Rattle.domain_spec.specs.PhaseAsks.{is_given_up, live_phase_asks, live_phase
 use Rattle.domain_spec.specs.Reading.{carries_ended}
 use Rattle.domain_spec.specs.Refusals.{aborted, no_domain, stalled}
 use Rattle.domain_spec.specs.Laws.{IsOverOrWaits, WaitsAt}
-use Rattle.domain_spec.specs.WholeOperation.{due_step, is_through, lost_by, settled, stepped, stepped_by, with_answer, with_answers, with_phase, whole_operation}
+use Rattle.domain_spec.specs.WholeOperation.{due_step, is_through, lost_by, advanced, stepped, stepped_by, with_answer, with_answers, with_phase, whole_operation}
 
 abbrev IsOver : PhaseStep → Type 0
 IsOver step = (r : Reply) × (step.outcome ≡ outcome.Over r)
@@ -190,7 +190,7 @@ settles_by : (at : Progress) (due : Outcome) → at.operation.outcome ≡ due �
 settles_by at (outcome.Over r) e = stays at (over_waits_by at r at.operation.outcome e)
 settles_by at (outcome.On p) e = settles_through at p (is_through at) refl
 
-settles : (at : Progress) → IsOverOrWaits (settled at)
+settles : (at : Progress) → IsOverOrWaits (advanced at)
 settles at = settles_by at at.operation.outcome refl
 
 answers_settle : (answers : List Answer) (at : Progress) → IsOverOrWaits at → IsOverOrWaits (with_answers at answers)
@@ -198,4 +198,4 @@ answers_settle [] at h = h
 answers_settle (a ∷ answers) at h = answers_settle answers (with_answer at a) (settles (record at { left = at.left ++ a ∷ [] }))
 
 pub whole_settles : (s : State) (o : OpenOperation) (answers : List Answer) → IsOverOrWaits (whole_operation s o answers)
-whole_settles s o answers = answers_settle answers (settled (fresh [] s o)) (settles (fresh [] s o))
+whole_settles s o answers = answers_settle answers (advanced (fresh [] s o)) (settles (fresh [] s o))

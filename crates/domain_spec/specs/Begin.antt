@@ -12,7 +12,7 @@ use Rattle.domain_spec.specs.Call.{begins}
 use Rattle.domain_spec.specs.Devices.{slots_at_start}
 use Rattle.domain_spec.specs.Reading.{boot_in}
 use Rattle.domain_spec.specs.CallResult.{new_domain}
-use Rattle.domain_spec.specs.Snapshots.{has_state, snapshot_named}
+use Rattle.domain_spec.specs.Snapshots.{has_state, snapshot_name, snapshot_named}
 use Rattle.domain_spec.specs.Tests.{state_kept}
 
 -- a snapshot's definition, where it has a guest's state
@@ -89,6 +89,11 @@ begin_state (state.Vacant boots) who (call.Create def) = state.Held (begun (new_
 begin_state (state.Vacant boots) who (call.Restore def running saved) =
     state.Held (begun (new_domain def boots) who (call.Restore def running saved))
 begin_state (state.Vacant boots) who c = state.Vacant boots
+
+-- the call as its operation keeps it: a snapshot without a name gets one where its operation begins
+abbrev pub named_call : State → Call → Call
+named_call (state.Held d) (call.Snapshot info) = call.Snapshot (record info { name = Some (snapshot_name d info) })
+named_call s c = c
 
 -- the first phase of the operation that has begun in a state
 abbrev pub due_in : Option Op → Phase

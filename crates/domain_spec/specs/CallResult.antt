@@ -13,7 +13,7 @@ use Rattle.domain_spec.specs.Types.value
 use Rattle.domain_spec.specs.declared.step.CallStep.{CallStep}
 use Rattle.domain_spec.specs.Asks.{first_value}
 use Rattle.domain_spec.specs.Devices.{device_like, free_slot, with_device, without_slot}
-use Rattle.domain_spec.specs.Reading.{is_crashed, is_paused, is_running, reference_of, settled, with_run}
+use Rattle.domain_spec.specs.Reading.{is_crashed, is_paused, is_running, reference_of, unless_gone, with_run}
 use Rattle.domain_spec.specs.Refusals.{failed}
 use Rattle.domain_spec.specs.Snapshots.{current_without, without_snapshot}
 
@@ -72,7 +72,7 @@ with_live d l = state.Held (record d { live = Some l })
 
 -- the domain without its guest, which ended so
 abbrev pub ended : Domain → Live → EndReason → State
-ended d l why = settled (record d { live = None; last = Some (l.boot, why) })
+ended d l why = unless_gone (record d { live = None; last = Some (l.boot, why) })
 
 abbrev pub suspended : Domain → Live → CallStep
 suspended d l = done (state.Held (with_run d l (run.Paused cause.User))) (tell_listeners (is_running l.run) told.SUSPENDED_PAUSED)
@@ -117,7 +117,7 @@ aborting None = None
 aborting (Some op) = Some (record op { abort = true })
 
 abbrev pub undefined : Domain → CallStep
-undefined d = done (settled (record d { stored = None; autostart = false })) (told.UNDEFINED_REMOVED ∷ [])
+undefined d = done (unless_gone (record d { stored = None; autostart = false })) (told.UNDEFINED_REMOVED ∷ [])
 
 abbrev pub autostart_set : Domain → Bool → CallStep
 autostart_set d on = done (state.Held (record d { autostart = on })) []

@@ -7,7 +7,7 @@ use Rattle.domain_spec.specs.Types.ask
 use Rattle.domain_spec.specs.Types.job
 use Rattle.domain_spec.specs.Types.phase
 use Rattle.domain_spec.specs.Types.given
-use Rattle.domain_spec.specs.declared.mark.Looked.{Looked}
+use Rattle.domain_spec.specs.declared.mark.HeldJobs.{HeldJobs}
 use Rattle.domain_spec.specs.declared.open.OpenJob.{OpenJob}
 use Rattle.domain_spec.specs.declared.open.OpenOperation.{OpenOperation}
 use Rattle.domain_spec.specs.declared.standing.Standing.{Standing}
@@ -22,9 +22,9 @@ use Rattle.domain_spec.specs.Reading.{carries_ended}
 use Rattle.domain_spec.specs.Sequential.{asked, goes_on_as_operation, meets_ended, seq, still_asked}
 
 -- a call is let in
-pub record IsAdmitted (s : Standing) (number : ℕ) (who : Who) (taken : Job) (c : Call) (boot : Option ℕ) : Type 0 where
-  pub may : May (job_held s.job) (operation_held s.operation) taken who
-  pub own : IsOwnJob s.operation number taken c
+pub record IsAdmitted (s : Standing) (number : ℕ) (who : Who) (wanted : Job) (c : Call) (boot : Option ℕ) : Type 0 where
+  pub may : May (job_held s.job) (operation_held s.operation) wanted who
+  pub own : IsOwnJob s.operation number wanted c
   pub carried : IsCarried s.state c boot
 
 -- this call is open under this number
@@ -86,15 +86,15 @@ IsDone s None number who c boot asks answers r events = ⊥
 IsDone s (Some j) number who c boot asks answers r events = IsOpen j number who c boot × IsDoneAs s j.before c boot asks answers r events
 
 -- a call is refused since its job is excluded
-pub record IsRefused (s : Standing) (who : Who) (c : Call) (why : RefusalCode) (looked : Looked) : Type 0 where
-  pub looked_at : IsRecord s looked
-  pub excluded : Excludes looked.active looked.op (begins c) (job_of c) who
-  pub code : IsRefusedAs why looked who
+pub record IsRefused (s : Standing) (who : Who) (c : Call) (why : RefusalCode) (held : HeldJobs) : Type 0 where
+  pub held_then : IsRecord s held
+  pub excluded : Excludes held.active held.op (begins c) (job_of c) who
+  pub code : IsRefusedAs why held who
 
 -- an operation begins where none is open: its call was let in right before, and its tests pass
 pub record IsStartOf (s : Standing) (j : OpenJob) (number : ℕ) (who : Who) (c : Call) (boot : Option ℕ) : Type 0 where
   pub call : IsOpen j number who c boot
-  pub right_before : s.is_fresh ≡ true
+  pub right_before : s.just_admitted ≡ true
   pub alone : s.operation ≡ None
   pub begins : goes_on_as_operation s.state c boot ≡ true
 
@@ -102,9 +102,10 @@ abbrev pub IsStarted : Standing → Option OpenJob → ℕ → Who → Call → 
 IsStarted s None number who c boot = ⊥
 IsStarted s (Some j) number who c boot = IsStartOf s j number who c boot
 
--- a nested job of this operation is open
+-- a nested job of this operation is open under this number
 pub record IsNested (j : OpenJob) (o : OpenOperation) (number : ℕ) (who : Who) : Type 0 where
   pub nested : j.job ≡ job.Nested
+  pub job_number : number ≡ j.number
   pub job_caller : j.who ≡ o.who
   pub numbered : number ≡ o.number
   pub caller : who ≡ o.who

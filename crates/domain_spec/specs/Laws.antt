@@ -45,7 +45,7 @@ OwedInOrder =
 
 -- a mark that lets a call in
 abbrev pub lets_in : Mark ℕ → Bool
-lets_in (mark.Admit number who taken c boot) = true
+lets_in (mark.Admit number who wanted c boot) = true
 lets_in other = false
 
 -- a mark by which a call that was let in is no more open

@@ -32,9 +32,9 @@ IsCut (Some c) total taken = IsCutOf c total taken
 
 -- when one more mark is lawful, but for a loss that has to be marked
 abbrev pub IsInOrder : Standing → Mark ℕ → Type 0
-IsInOrder s (mark.Admit number who taken c boot) = IsAdmitted s number who taken c boot
+IsInOrder s (mark.Admit number who wanted c boot) = IsAdmitted s number who wanted c boot
 IsInOrder s (mark.Done number who c boot asks answers r events) = IsDone s s.job number who c boot asks answers r events
-IsInOrder s (mark.Refused number who c why looked) = IsRefused s who c why looked
+IsInOrder s (mark.Refused number who c why held) = IsRefused s who c why held
 IsInOrder s (mark.Start number who c boot) = IsStarted s s.job number who c boot
 IsInOrder s (mark.Phase number who p asks answers next events) = IsPhased s s.job s.operation number who p asks answers next events
 IsInOrder s (mark.End number who r) = IsEnded s s.operation number who r

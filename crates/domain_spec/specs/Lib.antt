@@ -2,8 +2,10 @@ pub mod Asks
 pub mod Begin
 pub mod Call
 pub mod CallResult
+pub mod Carried
 pub mod CopyResult
 pub mod Devices
+pub mod Excluded
 pub mod Exit
 pub mod Fold
 pub mod JobTable
@@ -15,6 +17,7 @@ pub mod Operation
 pub mod Owed
 pub mod Phase
 pub mod PhaseAsks
+pub mod Read
 pub mod Reading
 pub mod Refusals
 pub mod Sequential

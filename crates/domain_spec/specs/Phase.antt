@@ -16,11 +16,12 @@ use Rattle.domain_spec.specs.declared.step.PhaseStep.{PhaseStep}
 use Rattle.domain_spec.specs.declared.planned.PlannedAsk.{PlannedAsk}
 use Rattle.domain_spec.specs.Asks.{asks_left, asks_made, first_bad, first_value, is_undone}
 use Rattle.domain_spec.specs.CopyResult.{cancels, current_after, over}
-use Rattle.domain_spec.specs.Operation.{led_to, live_phase_done, snapshot_name, snapshot_taken}
+use Rattle.domain_spec.specs.Operation.{led_to, live_phase_done, snapshot_taken}
 use Rattle.domain_spec.specs.PhaseAsks.{phase_plan}
 use Rattle.domain_spec.specs.Reading.{carries_ended}
 use Rattle.domain_spec.specs.Refusals.{failure_of, guest_ended, monitor_lost, no_domain}
 use Rattle.domain_spec.specs.CallResult.{ended}
+use Rattle.domain_spec.specs.Snapshots.{snapshot_name}
 
 -- a snapshot of a domain without a guest is taken of its stored definition, without commands
 abbrev pub inactive_taken : Domain → SnapInfo → Option DomainDef → PhaseStep
@@ -77,9 +78,6 @@ answered_phase d op c answers None = phase_done d d.live op c answers
 answered_phase d op c answers (Some bad) =
     if is_undone bad then phase_refused d d.live op (failure_of bad) else over (state.Held d) [] (reply.No monitor_lost)
 
-abbrev pub answered : Domain → Op → Call → List Answer → PhaseStep
-answered d op c answers = answered_phase d op c answers (first_bad answers)
-
 -- a save whose guest was told to quit has what it wanted
 abbrev pub quit_was_done : Call → Outcome → List Answer → Bool
 quit_was_done (call.Save name) (outcome.On phase.Quit) answers = is_some (first_value answers)
@@ -92,7 +90,7 @@ ended_reply o (Some boot) answers = if quit_was_done o.call o.outcome answers th
 
 abbrev pub phase_on : Domain → Option Op → Call → List Answer → PhaseStep
 phase_on d None c answers = over (state.Held d) [] (reply.No no_domain)
-phase_on d (Some op) c answers = answered d op c answers
+phase_on d (Some op) c answers = answered_phase d op c answers (first_bad answers)
 
 abbrev pub phase_in : State → Call → List Answer → PhaseStep
 phase_in (state.Vacant boots) c answers = over (state.Vacant boots) [] (reply.No no_domain)

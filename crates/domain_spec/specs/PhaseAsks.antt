@@ -42,12 +42,12 @@ abbrev pub resumes : Live → Op → Bool
 resumes l op = op.was_running && is_held_by_job l.run
 
 -- the bytes of a copy; bytes above 4,096, or none, are no state
-abbrev pub taken : Option AnswerValue → List ℕ
-taken (Some (given.Bytes bytes)) = if nat_le (length bytes) 4096 then bytes else []
-taken other = []
+abbrev pub copied_bytes : Option AnswerValue → List ℕ
+copied_bytes (Some (given.Bytes bytes)) = if nat_le (length bytes) 4096 then bytes else []
+copied_bytes other = []
 
 abbrev pub write_image : List ℕ → ImageKind → Live → Op → List Answer → List Ask
-write_image name k l op answers = ask.WriteImage name k l.def op.was_running (taken (first_value answers)) ∷ []
+write_image name k l op answers = ask.WriteImage name k l.def op.was_running (copied_bytes (first_value answers)) ∷ []
 
 -- a save and a dump write an image; a dump and a snapshot let the guest go on
 abbrev pub take_asks : Live → Op → Call → List Answer → List Ask

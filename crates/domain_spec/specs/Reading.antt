@@ -40,14 +40,14 @@ abbrev pub boots_of : State → ℕ
 boots_of (state.Vacant boots) = boots
 boots_of (state.Held d) = d.boots
 
-abbrev pub settled_by : Domain → Option Live → Option DomainDef → State
-settled_by d None None = state.Vacant d.boots
-settled_by d live stored = state.Held d
+abbrev pub unless_gone_by : Domain → Option Live → Option DomainDef → State
+unless_gone_by d None None = state.Vacant d.boots
+unless_gone_by d live stored = state.Held d
 
 -- a domain that has neither a live nor a stored definition is gone, and its snapshots with it; the
 -- number of boots stays with the cell
-abbrev pub settled : Domain → State
-settled d = settled_by d d.live d.stored
+abbrev pub unless_gone : Domain → State
+unless_gone d = unless_gone_by d d.live d.stored
 
 abbrev pub is_running : RunState → Bool
 is_running run.Running = true

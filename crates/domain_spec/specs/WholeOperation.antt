@@ -67,12 +67,12 @@ abbrev pub stepped : Progress → Progress
 stepped at = stepped_by at at.operation.outcome
 
 -- and so is the next one, if it asks nothing: a poll that gives up. The cancel behind that one asks.
-abbrev pub settled : Progress → Progress
-settled at = stepped (stepped at)
+abbrev pub advanced : Progress → Progress
+advanced at = stepped (stepped at)
 
 -- the operation gets one more answer
 abbrev pub with_answer : Progress → Answer → Progress
-with_answer at a = settled (record at { left = at.left ++ a ∷ [] })
+with_answer at a = advanced (record at { left = at.left ++ a ∷ [] })
 
 abbrev pub with_answers : Progress → List Answer → Progress
 with_answers at [] = at
@@ -80,4 +80,4 @@ with_answers at (a ∷ answers) = with_answers (with_answer at a) answers
 
 -- how far an operation comes that is open in this state, where these answers come
 abbrev pub whole_operation : State → OpenOperation → List Answer → Progress
-whole_operation s o answers = with_answers (settled (record { phases = []; state = s; operation = o; left = [] })) answers
+whole_operation s o answers = with_answers (advanced (record { phases = []; state = s; operation = o; left = [] })) answers

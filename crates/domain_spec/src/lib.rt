@@ -20,7 +20,7 @@ pub use laws::{
     refusal_changes_nothing,
 };
 pub use loaded::Loaded;
-pub use mark::{Looked, Mark};
+pub use mark::{HeldJobs, Mark};
 pub use open::{OpenJob, OpenOperation};
 pub use owed::Owed;
 pub use planned::PlannedAsk;

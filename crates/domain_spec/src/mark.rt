@@ -4,9 +4,9 @@ use virt_types::{
     Reply, Transition, Who, WhoList,
 };
 
-/// A domain's job record, as a call looked at it.
+/// The jobs that were held for a domain where a call looked whether it might be let in.
 #[derive(Drop)]
-pub struct Looked {
+pub struct HeldJobs {
     /// The normal job that was held, and who held it.
     pub active: Option<(Job, Who)>,
     /// The operation that was held, and who held it.
@@ -15,7 +15,7 @@ pub struct Looked {
     pub waiting: WhoList,
 }
 
-/// One thing that happened to a domain. `number`, of whatever type `N`, is the number of the pass in
+/// One thing that applied to a domain. `number`, of whatever type `N`, is the number of the pass in
 /// whose turn a call's mark was made; a boot's end, a guest's event and a cut belong to nobody.
 #[derive(Drop)]
 pub enum Mark<N> {
@@ -61,8 +61,8 @@ pub enum Mark<N> {
         call: Call,
         /// Whether it looked often enough, or too many others waited.
         code: RefusalCode,
-        /// The record as it was looked at.
-        looked: Looked,
+        /// The jobs that it found held.
+        held: HeldJobs,
     },
     /// An operation began.
     Start {
