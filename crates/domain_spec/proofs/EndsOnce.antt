@@ -63,7 +63,7 @@ phase_later : (low : ℕ) (s : Standing) (o : Option OpenOperation) (answers : L
 phase_later low s None answers next h = h
 phase_later low s (Some o) answers next h = stays_later low s.state _ h (live_boot-phase s.state o answers) (after_phase_keeps s (Some o) answers next)
 
-live_is : (l : Option Live) (boot : ℕ) → is_boot_in l boot ≡ true → boot_in l ≡ Some boot
+pub live_is : (l : Option Live) (boot : ℕ) → is_boot_in l boot ≡ true → boot_in l ≡ Some boot
 live_is None boot h = absurd cc
 live_is (Some l) boot h = ap (λ (n : ℕ). Some n) (eqb-true l.boot boot h)
 

@@ -22,7 +22,7 @@ use Rattle.domain_spec.specs.Tests.{refusal_of}
 abbrev pub Stays : Option ℕ → State → Type 0
 Stays boot s = (live_boot s ≡ boot) ⊎ (live_boot s ≡ None)
 
-gone : (d : Domain) (l : Live) (why : EndReason) (stored : Option DomainDef) → live_boot (unless_gone_by (record d { live = None; last = Some (l.boot, why) }) None stored) ≡ None
+pub gone : (d : Domain) (l : Live) (why : EndReason) (stored : Option DomainDef) → live_boot (unless_gone_by (record d { live = None; last = Some (l.boot, why) }) None stored) ≡ None
 gone d l why None = refl
 gone d l why (Some def) = refl
 

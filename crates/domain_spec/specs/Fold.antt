@@ -28,7 +28,7 @@ transitions_of (mark.Exit boot why events) = events
 transitions_of (mark.Event boot e events) = events
 transitions_of other = []
 
--- a client with_more n more transitions
+-- a client to whom n more transitions came
 abbrev pub with_more : ℕ → Client → Client
 with_more n c = record c { before = c.total; total = c.total + n }
 

@@ -1,3 +1,9 @@
+pub mod ChapterLaws
+pub mod Registrations
+pub mod Chapter
+pub mod WholeLife
+pub mod HistoryLaws
+pub mod CallLaws
 pub mod Asks
 pub mod Begin
 pub mod Call

@@ -1,7 +1,7 @@
 -- A whole phase of an operation at one place of a history, with all its answers given at once: the
 -- state, the transitions and the outcome that it leaves, and the asks that it makes.
 use Rattle.std.specs.Prelude.{ℕ, List, [], ◌∷◌, Option, Some, unwrap_or, if◌then◌else◌}
-use Rattle.domain_spec.specs.Types.{Answer, AnswerValue, Call, Domain, DomainDef, Live, Op, OpKind, Phase, Reply, RunState, Snap, SnapInfo, Transition}
+use Rattle.domain_spec.specs.Types.{Answer, AnswerValue, Call, Domain, DomainDef, Live, Op, OpKind, Phase, Reply, RunState, SnapInfo, Transition}
 use Rattle.domain_spec.specs.Types.call
 use Rattle.domain_spec.specs.Types.kind
 use Rattle.domain_spec.specs.Types.phase

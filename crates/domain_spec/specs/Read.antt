@@ -1,6 +1,6 @@
 -- What is answered where a domain's cell is read: the value of each query in a state.
 use Rattle.std.specs.Prelude.{ℕ, List, map, Bool, true, false, Option, None, Some, unwrap_or}
-use Rattle.domain_spec.specs.Types.{Domain, DomainDef, Live, Op, Phase, Reply, Snap, State}
+use Rattle.domain_spec.specs.Types.{Domain, DomainDef, Live, Op, Reply, Snap, State}
 use Rattle.domain_spec.specs.Types.phase
 use Rattle.domain_spec.specs.Types.reply
 use Rattle.domain_spec.specs.Types.state
