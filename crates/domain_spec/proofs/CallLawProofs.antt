@@ -1,5 +1,5 @@
 -- Why the laws of calls hold.
-use Rattle.std.proofs.Common.{◌≡◌, ℕ, List, [], ◌∷◌, Bool, true, false, if◌then◌else◌, Option, None, Some, refl, sym, subst, eq-eqb, not}
+use Rattle.std.proofs.Common.{◌≡◌, ℕ, List, [], ◌∷◌, Bool, true, false, if◌then◌else◌, Option, None, Some, refl, sym, subst, eq-eqb, not, is_some}
 use Rattle.domain_spec.specs.Types.{Answer, AnswerValue, Call, Domain, Live, Refusal, State}
 use Rattle.domain_spec.specs.Types.answer
 use Rattle.domain_spec.specs.Types.call
@@ -9,13 +9,14 @@ use Rattle.domain_spec.specs.Types.state
 use Rattle.domain_spec.specs.declared.step.CallStep.{CallStep}
 use Rattle.domain_spec.specs.declared.testing.Test.{Test}
 use Rattle.domain_spec.specs.Asks.{first_bad, first_value}
+use Rattle.domain_spec.specs.Call.{begins}
 use Rattle.domain_spec.specs.CallLaws.{DestroyEnds, EndedOnlyWhereNotLive, IsOk, is_ended_code, is_ended_reply}
 use Rattle.domain_spec.specs.CallResult.{guest_step, held_step, live_step, memory_step, step_of}
 use Rattle.domain_spec.specs.Fold.{at_base, standing}
 use Rattle.domain_spec.specs.Reading.{boot_in, is_boot_in, live_boot}
 use Rattle.domain_spec.specs.Refusals.{failure_of}
 use Rattle.domain_spec.specs.Sequential.{answered_step, ended_step, meets_ended, seq, tested_step}
-use Rattle.domain_spec.specs.Tests.{first_refusal, held_tests, live_tests, name_there, operation_tests, refusal_of, tests_of}
+use Rattle.domain_spec.specs.Tests.{first_refusal, held_tests, live_tests, name_there, operation_tests, plain_tests, refusal_of, tests_of}
 use Rattle.domain_spec.proofs.ExitProofs.{gone}
 
 -- a Destroy of the live boot
@@ -77,6 +78,8 @@ live_tests_not d (call.Detach old) = (refl, (refl, tt))
 live_tests_not d (call.Kick n) = (refl, (refl, tt))
 live_tests_not d call.Reboot = (refl, tt)
 live_tests_not d call.MemoryStats = (refl, tt)
+live_tests_not d call.Suspend = (refl, (refl, (refl, tt)))
+live_tests_not d (call.Limit rest) = (refl, (refl, (refl, tt)))
 live_tests_not d other = (refl, (refl, tt))
 
 name_there_not : (d : Domain) (name : Option (List ℕ)) → is_ended_code (name_there d name).refusal.code ≡ false
@@ -85,33 +88,37 @@ name_there_not d (Some name) = refl
 
 operation_tests_not : (d : Domain) (c : Call) → NoneEnded (operation_tests d c)
 operation_tests_not d (call.Create def) = (refl, tt)
+operation_tests_not d call.Perform = (refl, (refl, tt))
 operation_tests_not d (call.Save name) = (refl, (refl, tt))
 operation_tests_not d (call.Dump name) = (refl, tt)
 operation_tests_not d (call.Snapshot info) = (name_there_not d info.name, (refl, (refl, tt)))
 operation_tests_not d (call.Revert name) = (refl, (refl, tt))
 operation_tests_not d other = (refl, (refl, tt))
 
+plain_tests_not : (d : Domain) (boot : Option ℕ) (c : Call) → NoneEnded (plain_tests d boot c)
+plain_tests_not d boot (call.Define def) = tt
+plain_tests_not d boot call.Destroy = (refl, tt)
+plain_tests_not d boot call.Undefine = (refl, (refl, tt))
+plain_tests_not d boot (call.SetAutostart on) = (refl, tt)
+plain_tests_not d boot call.Abort = (refl, tt)
+plain_tests_not d boot (call.SnapDelete name children) = (refl, tt)
+plain_tests_not d boot (call.Confirm verdict) = (refl, tt)
+plain_tests_not d boot (call.Finish go) = (refl, tt)
+plain_tests_not d boot other = live_tests_not d other
+
+either_not : (b : Bool) (x y : List Test) → NoneEnded x → NoneEnded y → NoneEnded (if b then x else y)
+either_not true x y hx hy = hx
+either_not false x y hx hy = hy
+
 held_tests_not : (d : Domain) (boot : Option ℕ) (c : Call) → NoneEnded (held_tests d boot c)
-held_tests_not d boot (call.Define def) = tt
-held_tests_not d boot call.Destroy = (refl, tt)
-held_tests_not d boot call.Undefine = (refl, (refl, tt))
-held_tests_not d boot (call.SetAutostart on) = (refl, tt)
-held_tests_not d boot call.Abort = (refl, tt)
-held_tests_not d boot (call.SnapDelete name children) = (refl, tt)
-held_tests_not d boot call.Start = operation_tests_not d call.Start
-held_tests_not d boot (call.Create def) = operation_tests_not d (call.Create def)
-held_tests_not d boot (call.Restore def running saved) = operation_tests_not d (call.Restore def running saved)
-held_tests_not d boot (call.Save name) = operation_tests_not d (call.Save name)
-held_tests_not d boot (call.Dump name) = operation_tests_not d (call.Dump name)
-held_tests_not d boot (call.Snapshot info) = operation_tests_not d (call.Snapshot info)
-held_tests_not d boot (call.Revert name) = operation_tests_not d (call.Revert name)
-held_tests_not d boot other = live_tests_not d other
+held_tests_not d boot c = either_not (is_some (begins c)) (operation_tests d c) (plain_tests d boot c) (operation_tests_not d c) (plain_tests_not d boot c)
 
 tests_not : (s : State) (boot : Option ℕ) (c : Call) → NoneEnded (tests_of s boot c)
 tests_not (state.Held d) boot c = held_tests_not d boot c
 tests_not (state.Vacant boots) boot (call.Define def) = tt
 tests_not (state.Vacant boots) boot (call.Create def) = (refl, tt)
 tests_not (state.Vacant boots) boot (call.Restore def running saved) = (refl, tt)
+tests_not (state.Vacant boots) boot (call.Prepare def running saved) = (refl, tt)
 tests_not (state.Vacant boots) boot other = (refl, tt)
 
 failure_not : (a : Answer) → is_ended_code (failure_of a).code ≡ false
@@ -138,6 +145,7 @@ held_not d (call.Define def) answers = refl
 held_not d call.Undefine answers = refl
 held_not d (call.SetAutostart on) answers = refl
 held_not d call.Abort answers = refl
+held_not d (call.Limit rest) answers = refl
 held_not d (call.SnapDelete name children) answers = refl
 held_not d other answers = guest_not d d.live other answers
 

@@ -29,6 +29,7 @@ brings client so_far (mark.Done number who c boot asks answers r events ∷ mark
 brings client so_far (mark.Refused number who c why held ∷ marks) rest none = one_more client so_far [] (all_transitions marks) _ rest (brings client (so_far ++ []) marks rest none.1)
 brings client so_far (mark.Start number who c boot ∷ marks) rest none = one_more client so_far [] (all_transitions marks) _ rest (brings client (so_far ++ []) marks rest none.1)
 brings client so_far (mark.Phase number who p asks answers next events ∷ marks) rest none = one_more client so_far events (all_transitions marks) _ rest (brings client (so_far ++ events) marks rest none.1)
+brings client so_far (mark.TakeUp number who c ∷ marks) rest none = one_more client so_far [] (all_transitions marks) _ rest (brings client (so_far ++ []) marks rest none.1)
 brings client so_far (mark.End number who r ∷ marks) rest none = one_more client so_far [] (all_transitions marks) _ rest (brings client (so_far ++ []) marks rest none.1)
 brings client so_far (mark.Exit boot why events ∷ marks) rest none = one_more client so_far events (all_transitions marks) _ rest (brings client (so_far ++ events) marks rest none.1)
 brings client so_far (mark.Event boot e events ∷ marks) rest none = one_more client so_far events (all_transitions marks) _ rest (brings client (so_far ++ events) marks rest none.1)

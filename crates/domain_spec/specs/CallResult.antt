@@ -1,5 +1,5 @@
 -- What a call leaves whose tests passed and whose answers are all Ok.
-use Rattle.std.specs.Prelude.{ℕ, List, [], ◌∷◌, Bool, true, false, replicate, is_some, Option, None, Some, unwrap_or, if◌then◌else◌}
+use Rattle.std.specs.Prelude.{ℕ, List, [], ◌∷◌, Bool, true, false, replicate, is_some, option_map, Option, None, Some, unwrap_or, if◌then◌else◌}
 use Rattle.domain_spec.specs.Types.{Answer, AnswerValue, Call, DeviceDef, Domain, DomainDef, EndReason, Live, Op, Refusal, State, Transition}
 use Rattle.domain_spec.specs.Types.call
 use Rattle.domain_spec.specs.Types.cause
@@ -130,12 +130,20 @@ abbrev pub snapshot_deleted : Domain → List ℕ → Bool → CallStep
 snapshot_deleted d name children =
     done (state.Held (record d { snaps = without_snapshot d.snaps name children; current = current_without d.snaps d.current name children })) []
 
+-- how much of a copy may be left when the guest is stopped
+abbrev pub with_limit : ℕ → Op → Op
+with_limit rest op = record op { limit = rest }
+
+abbrev pub limit_set : Domain → ℕ → CallStep
+limit_set d rest = done (state.Held (record d { op = option_map (with_limit rest) d.op })) []
+
 -- a call whose tests passed, where each answer is Ok
 abbrev pub held_step : Domain → Call → List Answer → CallStep
 held_step d (call.Define def) answers = defined d def
 held_step d call.Undefine answers = undefined d
 held_step d (call.SetAutostart on) answers = autostart_set d on
 held_step d call.Abort answers = abort_asked d
+held_step d (call.Limit rest) answers = limit_set d rest
 held_step d (call.SnapDelete name children) answers = snapshot_deleted d name children
 held_step d c answers = guest_step d d.live c answers
 

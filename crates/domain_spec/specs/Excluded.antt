@@ -1,28 +1,19 @@
 -- What a caller is told whose job was excluded: a Refused mark's reply.
 use Rattle.std.specs.Prelude.{ℕ, List, [], ◌∷◌, ◌++◌, codes, Option, None, Some}
-use Rattle.virt_types.specs.Numbers.{op_word}
-use Rattle.domain_spec.specs.Types.{Job, OpKind, Refusal, RefusalCode, Reply, Who}
+use Rattle.virt_types.specs.Numbers.{job_word, op_word}
+use Rattle.domain_spec.specs.Types.{Job, Refusal, RefusalCode, Reply, Who}
 use Rattle.domain_spec.specs.Types.code
-use Rattle.domain_spec.specs.Types.job
 use Rattle.domain_spec.specs.Types.reply
 use Rattle.domain_spec.specs.declared.mark.HeldJobs.{HeldJobs}
+use Rattle.domain_spec.specs.declared.mark.HeldOperation.{HeldOperation}
 use Rattle.domain_spec.specs.Refusals.{refusal}
 
--- the word for a normal job
-abbrev pub job_word : Job → List ℕ
-job_word job.Query = codes "query"
-job_word job.Destroy = codes "destroy"
-job_word job.Suspend = codes "suspend"
-job_word job.Modify = codes "modify"
-job_word job.Abort = codes "abort"
-job_word job.Nested = codes "nested"
-
 -- the words for the job and the operation that are held, with a blank between two
-abbrev pub held_words : Option (Job × Who) → Option (OpKind × Who) → List ℕ
+abbrev pub held_words : Option (Job × Who) → Option HeldOperation → List ℕ
 held_words None None = []
 held_words (Some j) None = job_word j.0
-held_words None (Some o) = op_word o.0
-held_words (Some j) (Some o) = job_word j.0 ++ 32 ∷ op_word o.0
+held_words None (Some o) = op_word o.kind
+held_words (Some j) (Some o) = job_word j.0 ++ 32 ∷ op_word o.kind
 
 -- a call that looked often enough is told what is held, one that may not wait how many others wait
 abbrev pub excluded_refusal : RefusalCode → HeldJobs → Refusal

@@ -14,7 +14,8 @@ use Rattle.domain_spec.specs.declared.standing.Standing.{Standing}
 use Rattle.domain_spec.specs.declared.step.Outcome.{Outcome}
 use Rattle.domain_spec.specs.declared.step.Outcome.TheVariants as outcome
 use Rattle.domain_spec.specs.Asks.{is_lost_answer}
-use Rattle.domain_spec.specs.Begin.{begin_state, due_phase, named_call}
+use Rattle.domain_spec.specs.Call.{phase_taken_up}
+use Rattle.domain_spec.specs.Begin.{begin_state, due_phase, named_call, taken_up_state}
 use Rattle.domain_spec.specs.Exit.{event_state, exit_state}
 use Rattle.domain_spec.specs.Phase.{phase_of, without_operation}
 use Rattle.domain_spec.specs.Reading.{is_live, live_boot}
@@ -91,6 +92,19 @@ after_start s number who c =
       operation = Some (record { number = number; who = who; call = named_call s.state c; boot = live_boot next; outcome = outcome.On (due_phase next) });
     }
 
+-- the operation goes on for the call that took it up
+abbrev pub taken_up : ℕ → Who → Call → OpenOperation → OpenOperation
+taken_up number who c o = record o { number = number; who = who; call = c; outcome = outcome.On (phase_taken_up c) }
+
+abbrev pub after_take_up : Standing → Option OpenOperation → ℕ → Who → Call → Standing
+after_take_up s None number who c = s
+after_take_up s (Some o) number who c = record s {
+  state = taken_up_state s.state who c;
+  job = None;
+  just_admitted = false;
+  operation = Some (taken_up number who c o);
+}
+
 -- what stands after one more mark, but for the clients
 abbrev pub applied : Standing → Mark ℕ → Standing
 applied s (mark.Admit number who j c boot) =
@@ -99,6 +113,7 @@ applied s (mark.Done number who c boot asks answers r events) =
     let next = (seq s.state c boot answers).state in
     record s { state = next; job = None; just_admitted = false; lost = lost_boot next boot answers }
 applied s (mark.Start number who c boot) = after_start s number who c
+applied s (mark.TakeUp number who c) = after_take_up s s.operation number who c
 applied s (mark.Phase number who p asks answers o events) = after_phase s s.operation answers o
 applied s (mark.End number who r) = record s { state = without_operation s.state; operation = None; just_admitted = false }
 applied s (mark.Exit boot why events) =

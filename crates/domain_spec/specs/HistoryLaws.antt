@@ -21,6 +21,7 @@ IsClosedUnder n [] = Unit {0}
 IsClosedUnder n (mark.Admit number who wanted c boot ∷ marks) = ⊥
 IsClosedUnder n (mark.Done number who c boot asks answers r events ∷ marks) = number ≡ n
 IsClosedUnder n (mark.Start number who c boot ∷ marks) = number ≡ n
+IsClosedUnder n (mark.TakeUp number who c ∷ marks) = number ≡ n
 IsClosedUnder n (mark.Phase number who p asks answers next events ∷ marks) = number ≡ n
 IsClosedUnder n (m ∷ marks) = IsClosedUnder n marks
 

@@ -24,6 +24,7 @@ lets_in other = false
 abbrev pub closes : Mark ℕ → Bool
 closes (mark.Done number who c boot asks answers r events) = true
 closes (mark.Start number who c boot) = true
+closes (mark.TakeUp number who c) = true
 closes (mark.Phase number who p asks answers next events) = true
 closes other = false
 
@@ -101,6 +102,7 @@ BootsAreNew = (s : Standing) (marks : List (Mark ℕ)) → IsCounted s → RiseA
 -- the due phase waits for an answer
 abbrev pub WaitsAt : Progress → Outcome → Type 0
 WaitsAt at (outcome.Over r) = Unit {0}
+WaitsAt at (outcome.Rest r) = Unit {0}
 WaitsAt at (outcome.On p) = is_through at ≡ false
 
 -- the operation is over, or its due phase waits for an answer

@@ -18,6 +18,8 @@ pub mod JobTable
 pub mod Lawful
 pub mod Laws
 pub mod Legal
+pub mod Migrating
+pub mod Migration
 pub mod Open
 pub mod Operation
 pub mod Owed
@@ -28,6 +30,7 @@ pub mod Reading
 pub mod Refusals
 pub mod Sequential
 pub mod Snapshots
+pub mod TakeUp
 pub mod Tests
 pub mod Types
 pub mod WholeOperation

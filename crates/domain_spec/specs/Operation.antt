@@ -18,6 +18,7 @@ use Rattle.domain_spec.specs.Reading.{with_run}
 use Rattle.domain_spec.specs.Refusals.{aborted}
 use Rattle.domain_spec.specs.CallResult.{ended, tell_listeners}
 use Rattle.domain_spec.specs.Snapshots.{snapshot_name, with_snapshot}
+use Rattle.domain_spec.specs.Migration.{migration_done}
 use Rattle.domain_spec.specs.CopyResult.{goes_on, over, run_as, start_value, current_after, load_done, copy_done, poll_step}
 
 -- the domain as its guest goes on, where it is to
@@ -70,6 +71,7 @@ run_done d l c = over (state.Held (with_run d l run.Running)) (told.STARTED_BOOT
 -- a start lets the guest run, any other loads its state first
 abbrev pub after_make : OpKind → Phase
 after_make kind.Start = phase.Run
+after_make kind.MigrateIn = phase.MigrateLoad
 after_make other = phase.Load
 
 -- a phase on a guest, where each answer is Ok
@@ -83,3 +85,4 @@ live_phase_done d l op c answers phase.Poll = poll_step d op (first_value answer
 live_phase_done d l op c answers phase.Take = take_done d l op c answers
 live_phase_done d l op c answers phase.Quit = quit_done d l c
 live_phase_done d l op c answers phase.Cancel = cancel_done d l op
+live_phase_done d l op c answers other = migration_done d l op c answers (led_to op) other

@@ -16,6 +16,7 @@ use Rattle.domain_spec.specs.declared.step.PhaseStep.{PhaseStep}
 use Rattle.domain_spec.specs.declared.planned.PlannedAsk.{PlannedAsk}
 use Rattle.domain_spec.specs.Asks.{asks_left, asks_made, first_bad, first_value, is_undone}
 use Rattle.domain_spec.specs.CopyResult.{cancels, current_after, over}
+use Rattle.domain_spec.specs.Migration.{rests}
 use Rattle.domain_spec.specs.Operation.{led_to, live_phase_done, snapshot_taken}
 use Rattle.domain_spec.specs.PhaseAsks.{phase_plan}
 use Rattle.domain_spec.specs.Reading.{carries_ended}
@@ -47,6 +48,18 @@ inactive_phase_done d op c other = over (state.Held d) [] (led_to op)
 abbrev pub start_failed : Domain → Live → Refusal → PhaseStep
 start_failed d l r = over (ended d l reason.Failed) (told.STOPPED_FAILED ∷ []) (reply.No r)
 
+-- a phase of a migration that was refused: a new boot is gone, a copy is given up, and one that was
+-- taken up rests again with that refusal
+abbrev pub migration_refused : Domain → Live → Op → Refusal → Phase → PhaseStep
+migration_refused d l op r phase.MigrateLoad = start_failed d l r
+migration_refused d l op r phase.MigrateTake = cancels d op r
+migration_refused d l op r phase.MigrateCancel = over (state.Held d) [] (led_to op)
+migration_refused d l op r phase.MigrateQuit = rests d op [] (reply.No r)
+migration_refused d l op r phase.MigrateBack = rests d op [] (reply.No r)
+migration_refused d l op r phase.MigrateRun = rests d op [] (reply.No r)
+migration_refused d l op r phase.MigrateDrop = rests d op [] (reply.No r)
+migration_refused d l op r other = over (state.Held d) [] (reply.No r)
+
 -- a phase on a guest that was refused, or met a fault of the store or want of memory
 abbrev pub live_phase_refused : Domain → Live → Op → Refusal → Phase → PhaseStep
 live_phase_refused d l op r phase.Nothing = over (state.Held d) [] (reply.No r)
@@ -58,6 +71,7 @@ live_phase_refused d l op r phase.Poll = cancels d op r
 live_phase_refused d l op r phase.Take = cancels d op r
 live_phase_refused d l op r phase.Quit = cancels d op r
 live_phase_refused d l op r phase.Cancel = over (state.Held d) [] (led_to op)
+live_phase_refused d l op r other = migration_refused d l op r other
 
 abbrev pub inactive_phase_refused : Domain → Op → Refusal → Phase → PhaseStep
 inactive_phase_refused d op r phase.Take = cancels d op r

@@ -62,6 +62,11 @@ abbrev pub is_held_by_job : RunState → Bool
 is_held_by_job (run.Paused cause.Job) = true
 is_held_by_job other = false
 
+-- it stands still between two hosts
+abbrev pub is_moved : RunState → Bool
+is_moved (run.Paused cause.Moved) = true
+is_moved other = false
+
 abbrev pub is_crashed : RunState → Bool
 is_crashed run.Crashed = true
 is_crashed other = false
@@ -70,6 +75,11 @@ is_crashed other = false
 abbrev pub has_crashed : Option Live → Bool
 has_crashed None = false
 has_crashed (Some l) = is_crashed l.run
+
+-- there is a guest, and it is between two hosts
+abbrev pub has_moved : Option Live → Bool
+has_moved None = false
+has_moved (Some l) = is_moved l.run
 
 -- the domain with its guest in this state
 abbrev pub with_run : Domain → Live → RunState → Domain

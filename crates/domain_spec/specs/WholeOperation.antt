@@ -60,6 +60,7 @@ is_through at = length (phase_still_asked at.state at.operation at.left) == 0
 
 abbrev pub stepped_by : Progress → Outcome → Progress
 stepped_by at (outcome.Over r) = at
+stepped_by at (outcome.Rest r) = at
 stepped_by at (outcome.On p) = if is_through at then with_phase at p (due_step at) else at
 
 -- the due phase is done, if it is through

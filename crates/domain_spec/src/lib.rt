@@ -21,7 +21,7 @@ pub use laws::{
     registrations_agree, rising_goes_on,
 };
 pub use loaded::Loaded;
-pub use mark::{HeldJobs, Mark};
+pub use mark::{HeldJobs, HeldOperation, Mark};
 pub use open::{OpenJob, OpenOperation};
 pub use owed::Owed;
 pub use planned::PlannedAsk;

@@ -4,13 +4,24 @@ use virt_types::{
     Reply, Transition, Who, WhoList,
 };
 
+/// The operation that is held for a domain.
+#[derive(Clone, Copy, Debug, PartialEq, Eq)]
+pub struct HeldOperation {
+    /// What kind it is.
+    pub kind: OpKind,
+    /// Who holds it.
+    pub who: Who,
+    /// Whether it rests until a call takes it up.
+    pub rests: bool,
+}
+
 /// The jobs that were held for a domain where a call looked whether it might be let in.
 #[derive(Drop)]
 pub struct HeldJobs {
     /// The normal job that was held, and who held it.
     pub active: Option<(Job, Who)>,
-    /// The operation that was held, and who held it.
-    pub op: Option<(OpKind, Who)>,
+    /// The operation that was held.
+    pub op: Option<HeldOperation>,
     /// Who waited.
     pub waiting: WhoList,
 }
@@ -74,6 +85,15 @@ pub enum Mark<N> {
         call: Call,
         /// The boot that the call carries.
         boot: Option<u64>,
+    },
+    /// A call took up the operation that rested.
+    TakeUp {
+        /// The number of its pass.
+        number: N,
+        /// Its caller.
+        who: Who,
+        /// The call that takes it up.
+        call: Call,
     },
     /// A phase of an operation was done.
     Phase {
