@@ -1,3 +1,4 @@
+pub mod WholeMoveProofs
 pub mod TurnProofs
 pub mod ChapterProofs
 pub mod WholeLifeProofs

@@ -1,3 +1,4 @@
+pub mod WholeMove
 pub mod Cell
 pub mod CanTake
 pub mod Steps
