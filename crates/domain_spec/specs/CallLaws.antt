@@ -29,6 +29,7 @@ abbrev pub is_ended_code : RefusalCode → Bool
 is_ended_code code.GuestEnded = true
 is_ended_code other = false
 
+-- the caller is answered 201
 abbrev pub is_ended_reply : Reply → Bool
 is_ended_reply (reply.Ok v) = false
 is_ended_reply (reply.No r) = is_ended_code r.code

@@ -14,10 +14,12 @@ use Rattle.domain_spec.specs.Call.{begins, takes_up}
 use Rattle.domain_spec.specs.Cell.{Cell, Waiter, asks_so_far, standing_of}
 use Rattle.domain_spec.specs.Open.{IsOtherNumber}
 
+-- the open call is of another number
 abbrev pub IsNotJobOf : Option OpenJob → ℕ → Type 0
 IsNotJobOf None n = Unit {0}
 IsNotJobOf (Some j) n = n ≢ j.number
 
+-- the open operation is of another number, or rests
 abbrev pub IsNotOperationOf : Option OpenOperation → ℕ → Type 0
 IsNotOperationOf None n = Unit {0}
 IsNotOperationOf (Some o) n = IsOtherNumber o.outcome n o.number

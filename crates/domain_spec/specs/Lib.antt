@@ -1,3 +1,4 @@
+pub mod Kept
 pub mod WholeMove
 pub mod Cell
 pub mod CanTake

@@ -7,6 +7,7 @@ use Rattle.domain_spec.specs.declared.owed.Owed.{Owed}
 use Rattle.domain_spec.specs.declared.standing.Registration.{Registration}
 use Rattle.domain_spec.specs.Fold.{transitions_of}
 
+-- all these, and no loss
 abbrev pub owed_all : List Transition → Owed
 owed_all events = record { events = events; is_lost = false }
 

@@ -12,7 +12,8 @@ use Rattle.domain_spec.specs.CanTake.{CanTake}
 use Rattle.domain_spec.specs.Cell.{Cell, standing_of}
 use Rattle.domain_spec.specs.Chapter.{first_base, next_base}
 use Rattle.domain_spec.specs.Exit.{event_transitions}
-use Rattle.domain_spec.specs.Fold.{after, at_base}
+use Rattle.domain_spec.specs.Fold.{after, at_base, standing}
+use Rattle.domain_spec.specs.Kept.{AppliesHeld, WaitAfter, held_by}
 use Rattle.domain_spec.specs.Lawful.{IsDone, IsEnded, IsPhased, IsRefused, IsStarted, IsTakenUp}
 use Rattle.domain_spec.specs.Legal.{IsInOrder, IsLegal, MarksLoss}
 use Rattle.domain_spec.specs.Reading.{is_live}
@@ -49,6 +50,7 @@ abbrev pub MayLeave : Cell → CoreStep ℕ → List (Mark ℕ) → Type 0
 MayLeave c t [] = (standing_of c).lost ≡ None
 MayLeave c t (m ∷ marks) = BeginsBy c t (standing_of c) m × MarksLoss (standing_of c).lost m × GoOn c t (after (standing_of c) m) marks
 
+-- each registration keeps all that came
 abbrev pub AllHaveRoom : List Registration → Type 0
 AllHaveRoom [] = Unit {0}
 AllHaveRoom (r ∷ rs) = HasRoom r × AllHaveRoom rs
@@ -70,26 +72,31 @@ pub record IsTurn (c : Cell) (t : CoreStep ℕ) (marks : List (Mark ℕ)) : Type
   pub can : CanTake c t
   pub left : MayLeave c t marks
   pub cuts : AreCut c.registrations marks
+  pub held : AppliesHeld c t (standing (standing_of c) marks) marks
 
 -- where a chapter ends, the next one begins with what is there
 abbrev pub base_after : Cell → CoreStep ℕ → Base
 base_after c (step.Rotate n who) = next_base (standing_of c) c.registrations
 base_after c other = c.base
 
+-- the marks of the chapter after a turn
 abbrev pub marks_after : Cell → CoreStep ℕ → List (Mark ℕ) → List (Mark ℕ)
 marks_after c (step.Rotate n who) marks = []
 marks_after c other marks = c.marks ++ marks
 
+-- what is kept for registrations after a turn
 abbrev pub kept_after : Cell → CoreStep ℕ → List (Mark ℕ) → List Registration
 kept_after c (step.Take n client) marks = registrations_taken c.registrations client
 kept_after c other marks = registrations_at c.registrations marks
 
--- the cell after a turn
+-- the cell after a turn; ears are lent and given back by calls that are no steps
 pub record Leads (c : Cell) (t : CoreStep ℕ) (left : List (Mark ℕ)) (d : Cell) : Type 0 where
   pub base : d.base ≡ base_after c t
   pub marks : d.marks ≡ marks_after c t left
   pub registrations : d.registrations ≡ kept_after c t left
   pub answers : (d.answers ≡ c.answers) ⊎ AnswersBy c t d.answers
+  pub held : d.held ≡ held_by c t (standing_of d) (standing_of d).job
+  pub waiting : WaitAfter c t left d.waiting
 
 -- a step with the marks that it left
 pub record Turn : Type 0 where
