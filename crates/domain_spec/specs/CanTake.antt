@@ -45,10 +45,15 @@ pub record CanLook (c : Cell) (n : ℕ) (who : Who) (d : Call) (first : First) :
   pub takes_none : takes_up d ≡ None
   pub first_look : IsFirst c n who d first
 
--- the open call is of this number, and its last ask waits for an answer
+-- an open call waits for the answer to its last ask
+abbrev pub WaitsForAnswer : Cell → Option OpenJob → Type 0
+WaitsForAnswer c None = Unit {0}
+WaitsForAnswer c (Some j) = length (asks_so_far (standing_of c) j.job j c.answers) ≡ length c.answers + 1
+
+-- the open call is of this number, and waits for an answer
 abbrev pub IsAway : Cell → Option OpenJob → ℕ → Type 0
 IsAway c None n = ⊥
-IsAway c (Some j) n = (n ≡ j.number) × (length (asks_so_far (standing_of c) j.job j c.answers) ≡ length c.answers + 1)
+IsAway c (Some j) n = (n ≡ j.number) × WaitsForAnswer c (Some j)
 
 -- the operation that is open is of this number and caller, and does not rest
 abbrev pub IsOperationOf : Option OpenOperation → ℕ → Who → Type 0

@@ -69,7 +69,7 @@ placed slots devices (Some place) = both (slice_get slots place) (slice_get devi
 abbrev pub device_like : Live → DeviceDef → Option (ℕ × DeviceDef)
 device_like l wanted = placed l.slots (devices_of l.def) (position (has_same_key wanted) (devices_of l.def))
 
--- the guest with one more device, behind those of its kind
+-- the guest with one more device, after those of its kind
 abbrev pub with_device : Live → ℕ → DeviceDef → Live
 with_device l slot (device.Disk d) =
     let count = length l.def.disks in

@@ -1,4 +1,4 @@
--- When each mark of a call is lawful, by what stands before it.
+-- When each mark of a call is lawful, by what is in force before it.
 use Rattle.std.specs.Prelude.{◌≡◌, ℕ, ◌⊎◌, List, [], ◌∷◌, length, Bool, true, false, Option, None, Some}
 use Rattle.std.specs.List.{list_any}
 use Rattle.domain_spec.specs.Types.{Answer, Ask, Call, Job, Phase, RefusalCode, Reply, State, Transition, Who}
@@ -51,7 +51,7 @@ abbrev pub EndedFirst : Bool → List Answer → Type 0
 EndedFirst true answers = Unit {0}
 EndedFirst false answers = list_any is_ended_answer answers ≡ false
 
--- an answer Ok without a value, or want of memory
+-- an answer Ok without a value, or that there was no memory
 abbrev pub IsUnsent : Answer → Type 0
 IsUnsent (answer.Ok given.Nothing) = Unit {0}
 IsUnsent answer.NoMemory = Unit {0}

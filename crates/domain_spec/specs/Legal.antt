@@ -73,7 +73,7 @@ abbrev pub IsUnlawful : Standing → Option (Mark ℕ) → Type 0
 IsUnlawful s None = ⊥
 IsUnlawful s (Some m) = IsLawful s m → ⊥
 
--- the first mark that is not lawful stands at this place
+-- the first mark that is not lawful is at this place
 pub record IsFirstFault (s : Standing) (marks : List (Mark ℕ)) (place : ℕ) : Type 0 where
   pub before : IsLegal s (take place marks)
   pub fault : IsUnlawful (standing s (take place marks)) (slice_get marks place)

@@ -62,7 +62,7 @@ migration_refused d l op r phase.MigrateRun = rests d op [] (reply.No r)
 migration_refused d l op r phase.MigrateDrop = rests d op [] (reply.No r)
 migration_refused d l op r other = over (state.Held d) [] (reply.No r)
 
--- a phase on a guest that was refused, or met a fault of the store or want of memory
+-- a phase on a guest that was refused, or for which the store failed or there was no memory
 abbrev pub live_phase_refused : Domain → Live → Op → Refusal → Phase → PhaseStep
 live_phase_refused d l op r phase.Nothing = over (state.Held d) [] (reply.No r)
 live_phase_refused d l op r phase.Make = start_failed d l r
@@ -75,7 +75,7 @@ live_phase_refused d l op r phase.Quit = cancels d op r
 live_phase_refused d l op r phase.Cancel = over (state.Held d) [] (led_to op)
 live_phase_refused d l op r other = migration_refused d l op r other
 
--- a phase without a guest that met want of memory
+-- a phase without a guest for which there was no memory
 abbrev pub inactive_phase_refused : Domain → Op → Refusal → Phase → PhaseStep
 inactive_phase_refused d op r phase.Take = cancels d op r
 inactive_phase_refused d op r phase.Cancel = over (state.Held d) [] (led_to op)

@@ -89,13 +89,13 @@ has_moved (Some l) = is_moved l.run
 abbrev pub with_run : Domain → Live → RunState → Domain
 with_run d l r = record d { live = Some (record l { run = r }) }
 
--- the state of a guest as the wire tells it
+-- the state of a guest as the wire has it
 abbrev pub state_running : RunState → DomainState
 state_running run.Running = wire.Running
 state_running (run.Paused why) = wire.Paused
 state_running run.Crashed = wire.Crashed
 
--- the state of a domain as the wire tells it (libvirt's virDomainState)
+-- the state of a domain as the wire has it (libvirt's virDomainState)
 abbrev pub state_in : Option Live → DomainState
 state_in None = wire.ShutOff
 state_in (Some l) = state_running l.run

@@ -1,5 +1,6 @@
 -- What a turn of a domain's cell leaves: the marks of one step, and lists of steps by any actors.
-use Rattle.std.specs.Prelude.{◌≡◌, ◌⊎◌, ℕ, List, [], ◌∷◌, ◌++◌, find, Bool, true, not, ◌&&◌, Option, None, Some}
+use Rattle.std.specs.Prelude.{◌≡◌, ◌⊎◌, ℕ, List, [], ◌∷◌, ◌++◌, find, Bool, true, not, ◌&&◌, Option, None, Some, ◌<◌, false}
+use Rattle.std.specs.List.{list_any}
 use Rattle.domain_spec.specs.Types.{DomainDef}
 use Rattle.domain_spec.specs.declared.core_step.CoreStep.{CoreStep}
 use Rattle.domain_spec.specs.declared.core_step.CoreStep.TheVariants as step
@@ -8,7 +9,7 @@ use Rattle.domain_spec.specs.declared.mark.Mark.TheVariants as mark
 use Rattle.domain_spec.specs.declared.standing.Base.{Base}
 use Rattle.domain_spec.specs.declared.standing.Registration.{Registration}
 use Rattle.domain_spec.specs.declared.standing.Standing.{Standing}
-use Rattle.domain_spec.specs.CanTake.{CanTake}
+use Rattle.domain_spec.specs.CanTake.{CanTake, WaitsForAnswer}
 use Rattle.domain_spec.specs.Cell.{Cell, standing_of}
 use Rattle.domain_spec.specs.Chapter.{first_base, next_base}
 use Rattle.domain_spec.specs.Exit.{event_transitions}
@@ -18,6 +19,7 @@ use Rattle.domain_spec.specs.Lawful.{IsDone, IsEnded, IsPhased, IsRefused, IsSta
 use Rattle.domain_spec.specs.Legal.{IsInOrder, IsLegal, MarksLoss}
 use Rattle.domain_spec.specs.Reading.{is_live}
 use Rattle.domain_spec.specs.Registrations.{HasRoom, is_numbered, registrations_after, registrations_at, registrations_taken}
+use Rattle.domain_spec.specs.TakeUp.{is_vacant}
 use Rattle.domain_spec.specs.Steps.{AnswersBy, Occurs, IsExitOf, LetsIn, TurnsAway}
 
 -- a mark by which a turn goes on, or that comes along in it: a call is closed, a boot's end, an event, a cut
@@ -31,12 +33,19 @@ GoesOnBy c t s (mark.Event boot e events) = Occurs c t boot e × (is_live s.stat
 GoesOnBy c t s (mark.Cut client total taken) = IsInOrder s (mark.Cut client total taken)
 GoesOnBy c t s other = ⊥
 
+-- a client gets the least number below 16 that no registration has, where there is a domain
+pub record IsNextClient (c : Cell) (client : ℕ) : Type 0 where
+  pub below : client < 16
+  pub free : list_any (is_numbered client) c.registrations ≡ false
+  pub least : (n : ℕ) → n < client → list_any (is_numbered n) c.registrations ≡ true
+  pub domain : is_vacant (standing_of c).state ≡ false
+
 -- a mark by which a turn begins: a call is let in or turned away, an operation ends, a client comes or goes
 abbrev pub BeginsBy : Cell → CoreStep ℕ → Standing → Mark ℕ → Type 0
 BeginsBy c t s (mark.Admit number who wanted d boot) = LetsIn c t number who wanted d boot
 BeginsBy c t s (mark.Refused number who d why held) = TurnsAway c t number who d why held × IsRefused s who d why held
 BeginsBy c (step.EndOp n w) s (mark.End number who r) = (number ≡ n) × (who ≡ w) × IsEnded s s.operation number who r
-BeginsBy c (step.Watch n) s (mark.Watch number client) = (number ≡ n) × IsInOrder s (mark.Watch number client)
+BeginsBy c (step.Watch n) s (mark.Watch number client) = (number ≡ n) × IsInOrder s (mark.Watch number client) × IsNextClient c client
 BeginsBy c (step.Unwatch n k) s (mark.Unwatch number client) = (number ≡ n) × (client ≡ k) × IsInOrder s (mark.Unwatch number client)
 BeginsBy c t s m = GoesOnBy c t s m
 
@@ -89,12 +98,13 @@ abbrev pub kept_after : Cell → CoreStep ℕ → List (Mark ℕ) → List Regis
 kept_after c (step.Take n client) marks = registrations_taken c.registrations client
 kept_after c other marks = registrations_at c.registrations marks
 
--- the cell after a turn; ears are lent and given back by calls that are no steps
+-- the cell after a turn: a call that is open still waits for an answer; ears are lent and given back by calls that are no steps
 pub record Leads (c : Cell) (t : CoreStep ℕ) (left : List (Mark ℕ)) (d : Cell) : Type 0 where
   pub base : d.base ≡ base_after c t
   pub marks : d.marks ≡ marks_after c t left
   pub registrations : d.registrations ≡ kept_after c t left
   pub answers : (d.answers ≡ c.answers) ⊎ AnswersBy c t d.answers
+  pub away : WaitsForAnswer d (standing_of d).job
   pub held : d.held ≡ held_by c t (standing_of d) (standing_of d).job
   pub waiting : WaitAfter c t left d.waiting
 

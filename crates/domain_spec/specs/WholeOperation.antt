@@ -74,7 +74,7 @@ stepped_by at (outcome.On p) = if is_through at then with_phase at p (due_step a
 abbrev pub stepped : Progress → Progress
 stepped at = stepped_by at at.operation.outcome
 
--- and so is the next one, if it asks nothing: a poll that gives up. The cancel behind that one asks.
+-- and so is the next one, if it asks nothing: a poll that gives up. The cancel after that one asks.
 abbrev pub advanced : Progress → Progress
 advanced at = stepped (stepped at)
 

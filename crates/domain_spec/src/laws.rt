@@ -1,5 +1,5 @@
 // Laws of the definitions: each function's contract is one, and its body does nothing.
-ghost use Rattle.domain_spec.specs.CallLaws.{DestroyEnds, EndedOnlyWhereNotLive};
+ghost use Rattle.domain_spec.specs.CallLaws.{DestroyCarriesItsBoot, DestroyEnds, EndedOnlyWhereNotLive};
 ghost use Rattle.domain_spec.specs.ChapterLaws.{BaseKeeps, RegistrationsAgree, RisingGoesOn};
 ghost use Rattle.domain_spec.specs.HistoryLaws.{AskedStays, ClosedUnderItsNumber, OwedExactly, PhaseAskedStays};
 ghost use Rattle.domain_spec.specs.Turns.{EveryRunIsLegal};
@@ -95,4 +95,9 @@ pub fn every_run_is_legal()
 /// The rows of migrations hold for each domain and each caller.
 pub fn moves_are_made()
     ensures { MovesAreMade }
+{}
+
+/// A Destroy carries no boot that it likes: the live one, or after waiting one that was live.
+pub fn destroy_carries_its_boot()
+    ensures { DestroyCarriesItsBoot }
 {}
