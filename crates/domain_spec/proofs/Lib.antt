@@ -1,3 +1,4 @@
+pub mod WholeRunProofs
 pub mod CarriedProofs
 pub mod WholeMoveProofs
 pub mod TurnProofs

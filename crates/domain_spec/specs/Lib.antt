@@ -1,3 +1,4 @@
+pub mod WholeRun
 pub mod Kept
 pub mod WholeMove
 pub mod Cell

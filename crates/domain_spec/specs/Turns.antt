@@ -1,7 +1,7 @@
 -- What a turn of a domain's cell leaves: the marks of one step, and lists of steps by any actors.
-use Rattle.std.specs.Prelude.{◌≡◌, ◌⊎◌, ℕ, List, [], ◌∷◌, ◌++◌, find, Bool, true, not, ◌&&◌, Option, None, Some, ◌<◌, false}
+use Rattle.std.specs.Prelude.{◌≡◌, ℕ, List, [], ◌∷◌, ◌++◌, find, Bool, true, not, ◌&&◌, Option, None, Some, ◌<◌, false}
 use Rattle.std.specs.List.{list_any}
-use Rattle.domain_spec.specs.Types.{DomainDef}
+use Rattle.domain_spec.specs.Types.{Answer, DomainDef}
 use Rattle.domain_spec.specs.declared.core_step.CoreStep.{CoreStep}
 use Rattle.domain_spec.specs.declared.core_step.CoreStep.TheVariants as step
 use Rattle.domain_spec.specs.declared.mark.Mark.{Mark}
@@ -98,12 +98,18 @@ abbrev pub kept_after : Cell → CoreStep ℕ → List (Mark ℕ) → List Regis
 kept_after c (step.Take n client) marks = registrations_taken c.registrations client
 kept_after c other marks = registrations_at c.registrations marks
 
+-- the answers so far: those of a call that was let in now, or one more, or as they were
+abbrev pub AnswersAfter : Cell → CoreStep ℕ → List (Mark ℕ) → List Answer → Type 0
+AnswersAfter c (step.Back n a) left answers = AnswersBy c (step.Back n a) answers
+AnswersAfter c t (mark.Admit number who wanted d boot ∷ left) answers = AnswersBy c t answers
+AnswersAfter c t left answers = answers ≡ c.answers
+
 -- the cell after a turn: a call that is open still waits for an answer; ears are lent and given back by calls that are no steps
 pub record Leads (c : Cell) (t : CoreStep ℕ) (left : List (Mark ℕ)) (d : Cell) : Type 0 where
   pub base : d.base ≡ base_after c t
   pub marks : d.marks ≡ marks_after c t left
   pub registrations : d.registrations ≡ kept_after c t left
-  pub answers : (d.answers ≡ c.answers) ⊎ AnswersBy c t d.answers
+  pub answers : AnswersAfter c t left d.answers
   pub away : WaitsForAnswer d (standing_of d).job
   pub held : d.held ≡ held_by c t (standing_of d) (standing_of d).job
   pub waiting : WaitAfter c t left d.waiting

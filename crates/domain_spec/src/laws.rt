@@ -3,6 +3,7 @@ ghost use Rattle.domain_spec.specs.CallLaws.{DestroyCarriesItsBoot, DestroyEnds,
 ghost use Rattle.domain_spec.specs.ChapterLaws.{BaseKeeps, RegistrationsAgree, RisingGoesOn};
 ghost use Rattle.domain_spec.specs.HistoryLaws.{AskedStays, ClosedUnderItsNumber, OwedExactly, PhaseAskedStays};
 ghost use Rattle.domain_spec.specs.Turns.{EveryRunIsLegal};
+ghost use Rattle.domain_spec.specs.WholeRun.{LifeIsRun};
 ghost use Rattle.domain_spec.specs.WholeMove.{MovesAreMade};
 ghost use Rattle.domain_spec.specs.WholeLife.{HasWholeLife};
 ghost use Rattle.domain_spec.specs.Laws.{BootsAreNew, BootsNeverFall, EachEndsOnce, OneJobAtATime, OneOperationAtATime, OperationsGoOn};
@@ -100,4 +101,9 @@ pub fn moves_are_made()
 /// A Destroy carries no boot that it likes: the live one, or after waiting one that was live.
 pub fn destroy_carries_its_boot()
     ensures { DestroyCarriesItsBoot }
+{}
+
+/// A guest's whole life comes of a list of steps.
+pub fn life_is_run()
+    ensures { LifeIsRun }
 {}
