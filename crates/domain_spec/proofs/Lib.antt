@@ -1,3 +1,4 @@
+pub mod PendingProofs
 pub mod WholeRunProofs
 pub mod CarriedProofs
 pub mod WholeMoveProofs

@@ -1,6 +1,6 @@
 // Laws of the definitions: each function's contract is one, and its body does nothing.
 ghost use Rattle.domain_spec.specs.CallLaws.{DestroyCarriesItsBoot, DestroyEnds, EndedOnlyWhereNotLive};
-ghost use Rattle.domain_spec.specs.ChapterLaws.{BaseKeeps, RegistrationsAgree, RisingGoesOn};
+ghost use Rattle.domain_spec.specs.ChapterLaws.{BaseKeeps, PendingIsOwed, RegistrationsAgree, RisingGoesOn};
 ghost use Rattle.domain_spec.specs.HistoryLaws.{AskedStays, ClosedUnderItsNumber, OwedExactly, PhaseAskedStays};
 ghost use Rattle.domain_spec.specs.Turns.{EveryRunIsLegal};
 ghost use Rattle.domain_spec.specs.WholeRun.{LifeIsRun};
@@ -106,4 +106,9 @@ pub fn destroy_carries_its_boot()
 /// A guest's whole life comes of a list of steps.
 pub fn life_is_run()
     ensures { LifeIsRun }
+{}
+
+/// What pends for a registration, of which nothing was taken since, is what it is owed.
+pub fn pending_is_owed()
+    ensures { PendingIsOwed }
 {}
