@@ -22,7 +22,7 @@ life_is_run def n who = let u = unconnected def in (
   record { base = refl; marks = refl; registrations = refl; answers = (0, refl); away = tt; held = refl; waiting = refl },
   (
     cell_of u (mark.Admit n who job.Modify call.Start None ∷ mark.Start n who call.Start None ∷ mark.Admit n who job.Nested call.Start (Some 1) ∷ []) ([]),
-    record { can = (refl, refl); left = (record { free = refl; numbered = refl; caller = refl; same_call = refl; nested = refl; due = tt; carried = refl }, tt, refl); cuts = (tt, tt); held = refl },
+    record { can = (refl, refl, refl); left = (record { free = refl; numbered = refl; caller = refl; same_call = refl; nested = refl; due = tt; carried = refl }, tt, refl); cuts = (tt, tt); held = refl },
     record { base = refl; marks = refl; registrations = refl; answers = (0, refl); away = refl; held = refl; waiting = refl },
     (
       cell_of u (mark.Admit n who job.Modify call.Start None ∷ mark.Start n who call.Start None ∷ mark.Admit n who job.Nested call.Start (Some 1) ∷ mark.Phase n who phase.Make (ask.Make u 1 ∷ []) (ok ∷ []) (outcome.On phase.Run) [] ∷ []) (ok ∷ []),
@@ -30,7 +30,7 @@ life_is_run def n who = let u = unconnected def in (
       record { base = refl; marks = refl; registrations = refl; answers = (0, refl); away = tt; held = refl; waiting = refl },
       (
         cell_of u (mark.Admit n who job.Modify call.Start None ∷ mark.Start n who call.Start None ∷ mark.Admit n who job.Nested call.Start (Some 1) ∷ mark.Phase n who phase.Make (ask.Make u 1 ∷ []) (ok ∷ []) (outcome.On phase.Run) [] ∷ mark.Admit n who job.Nested call.Start (Some 1) ∷ []) ([]),
-        record { can = (refl, refl); left = (record { free = refl; numbered = refl; caller = refl; same_call = refl; nested = refl; due = tt; carried = refl }, tt, refl); cuts = (tt, tt); held = refl },
+        record { can = (refl, refl, refl); left = (record { free = refl; numbered = refl; caller = refl; same_call = refl; nested = refl; due = tt; carried = refl }, tt, refl); cuts = (tt, tt); held = refl },
         record { base = refl; marks = refl; registrations = refl; answers = (0, refl); away = refl; held = refl; waiting = refl },
         (
           cell_of u (mark.Admit n who job.Modify call.Start None ∷ mark.Start n who call.Start None ∷ mark.Admit n who job.Nested call.Start (Some 1) ∷ mark.Phase n who phase.Make (ask.Make u 1 ∷ []) (ok ∷ []) (outcome.On phase.Run) [] ∷ mark.Admit n who job.Nested call.Start (Some 1) ∷ []) (ok ∷ []),
@@ -42,7 +42,7 @@ life_is_run def n who = let u = unconnected def in (
             record { base = refl; marks = refl; registrations = refl; answers = (0, refl); away = tt; held = refl; waiting = refl },
             (
               cell_of u (mark.Admit n who job.Modify call.Start None ∷ mark.Start n who call.Start None ∷ mark.Admit n who job.Nested call.Start (Some 1) ∷ mark.Phase n who phase.Make (ask.Make u 1 ∷ []) (ok ∷ []) (outcome.On phase.Run) [] ∷ mark.Admit n who job.Nested call.Start (Some 1) ∷ mark.Phase n who phase.Run (two command.QueryStatus command.Cont) (ok ∷ ok ∷ []) (outcome.Over (reply.Ok value.Nothing)) (told.STARTED_BOOTED ∷ []) ∷ mark.End n who (reply.Ok value.Nothing) ∷ []) (ok ∷ ok ∷ []),
-              record { can = (refl, refl); left = ((refl, refl, record { numbered = refl; caller = refl; over = refl; no_nested = tt }), tt, refl); cuts = (tt, tt); held = refl },
+              record { can = (refl, refl, refl); left = ((refl, refl, record { numbered = refl; caller = refl; over = refl; no_nested = tt }), tt, refl); cuts = (tt, tt); held = refl },
               record { base = refl; marks = refl; registrations = refl; answers = refl; away = tt; held = refl; waiting = refl },
               (
                 cell_of u (mark.Admit n who job.Modify call.Start None ∷ mark.Start n who call.Start None ∷ mark.Admit n who job.Nested call.Start (Some 1) ∷ mark.Phase n who phase.Make (ask.Make u 1 ∷ []) (ok ∷ []) (outcome.On phase.Run) [] ∷ mark.Admit n who job.Nested call.Start (Some 1) ∷ mark.Phase n who phase.Run (two command.QueryStatus command.Cont) (ok ∷ ok ∷ []) (outcome.Over (reply.Ok value.Nothing)) (told.STARTED_BOOTED ∷ []) ∷ mark.End n who (reply.Ok value.Nothing) ∷ mark.Admit n who job.Suspend call.Suspend (Some 1) ∷ []) ([]),

@@ -12,7 +12,7 @@ use Rattle.domain_spec.specs.declared.standing.Registration.{Registration}
 use Rattle.domain_spec.specs.declared.standing.Standing.{Standing}
 use Rattle.domain_spec.specs.Call.{begins, takes_up}
 use Rattle.domain_spec.specs.Cell.{Cell, Waiter, asks_so_far, standing_of}
-use Rattle.domain_spec.specs.Open.{IsOtherNumber}
+use Rattle.domain_spec.specs.Open.{IsOtherNumber, is_rest}
 
 -- the open call is of another number
 abbrev pub IsNotJobOf : Option OpenJob → ℕ → Type 0
@@ -58,7 +58,7 @@ IsAway c (Some j) n = (n ≡ j.number) × WaitsForAnswer c (Some j)
 -- the operation that is open is of this number and caller, and does not rest
 abbrev pub IsOperationOf : Option OpenOperation → ℕ → Who → Type 0
 IsOperationOf None n who = ⊥
-IsOperationOf (Some o) n who = (n ≡ o.number) × (who ≡ o.who)
+IsOperationOf (Some o) n who = (n ≡ o.number) × (who ≡ o.who) × (is_rest o.outcome ≡ false)
 
 -- a registration of this number
 abbrev pub IsRegistration : Cell → ℕ → ℕ → Registration → Type 0
