@@ -1,4 +1,14 @@
+pub mod PendingProofs
+pub mod WholeRunProofs
+pub mod CarriedProofs
+pub mod WholeMoveProofs
+pub mod TurnProofs
+pub mod ChapterProofs
+pub mod WholeLifeProofs
+pub mod AskedProofs
+pub mod ClosedProofs
 pub mod BootsProofs
+pub mod CallLawProofs
 pub mod EndsOnce
 pub mod ExitProofs
 pub mod LawProofs

@@ -40,7 +40,7 @@ pub struct Client {
     pub total: u64,
 }
 
-/// What stands after some marks of a history: all that decides which mark may come next. Its fields are
+/// What is in force after some marks of a history: all that decides which mark may come next. Its fields are
 /// read and replaced in place; none is moved out of it.
 pub struct Standing {
     /// The state.
@@ -48,7 +48,7 @@ pub struct Standing {
     /// The normal job that is held.
     pub job: Option<OpenJob>,
     /// Whether the last mark let that job's call in.
-    pub is_fresh: bool,
+    pub just_admitted: bool,
     /// The operation that is under way.
     pub operation: Option<OpenOperation>,
     /// The boot whose monitor was lost, where its end is to be marked next.
@@ -57,14 +57,14 @@ pub struct Standing {
     pub clients: ListOf<Client>,
 }
 
-// Written out, and not derived: so a proof meets one call where what stands is let go, and not a walk
+// Written out, and not derived: so a proof meets one call where it is let go, and not a walk
 // over its fields.
 impl Drop for Standing {
     fn drop(self) {
         let Standing {
             state: _,
             job: _,
-            is_fresh: _,
+            just_admitted: _,
             operation: _,
             lost: _,
             clients: _,
