@@ -1,4 +1,4 @@
-// Disks, interfaces, and devices that stand alone.
+// Disks, interfaces, and devices on their own.
 ghost use Rattle.std.specs.Prelude.{◌≡◌, ◌++◌, ◌∷◌, [], IfOk, map};
 ghost use Rattle.definition_tree.specs.Absent.{interface_as, device_as};
 ghost use Rattle.text_spec.specs.DevicePrinted as spec;
@@ -11,7 +11,7 @@ use crate::device_elements::{
     target_tree,
 };
 use crate::elements::{add, holding};
-use crate::words::{disk_device_word, disk_type_word, interface_type_word};
+use definition_words::{disk_device_word, disk_type_word, interface_type_word};
 use std::alloc::Global;
 use text_spec::{AttributeName, ElementName, PairList, Tree};
 use virt_types::{DeviceDef, Disk, Interface, NoMemory, both};

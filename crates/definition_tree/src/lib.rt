@@ -1,4 +1,4 @@
-//! The trees that definitions stand for: how a definition is spelled.
+//! The trees of definitions: how a definition is spelled.
 #![tactic(auto)]
 
 mod absent;
@@ -9,10 +9,7 @@ mod devices;
 mod domain;
 mod elements;
 mod general;
-mod mac;
 mod system;
-mod vocabulary;
-mod words;
 
 pub use absent::Absent;
 pub use device::device_tree;

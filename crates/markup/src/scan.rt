@@ -1,4 +1,4 @@
-// The steps that every reader takes: blanks, words that must stand, names.
+// The steps that every reader takes: blanks, words that must come next, names.
 ghost use Rattle.std.specs.Prelude.{◌≡◌, ◌≤◌, ◌<◌, ◌+◌, length, drop, IfOk};
 ghost use Rattle.std.specs.List.{prefix_len};
 ghost use Rattle.text_spec.specs.Character.{is_name_char as spec_is_name_char, after_blanks, starts_blank as spec_starts_blank};
@@ -29,7 +29,7 @@ pub(crate) fn ended() -> Flaw
     }
 }
 
-/// How many characters of a name stand at the front.
+/// How many characters of a name are at the front.
 fn name_length(chars: &[char]) -> usize
     ensures count { result ≡ prefix_len spec_is_name_char chars.now }
     ensures within { result ≤ length chars.now }
@@ -62,7 +62,7 @@ pub(crate) fn skip_blanks(chars: &[char]) -> &[char]
     rest
 }
 
-/// Whether a blank stands at the front.
+/// Whether a blank is at the front.
 pub(crate) fn starts_blank(chars: &[char]) -> bool
     ensures { result ≡ spec_starts_blank chars.now }
 {
@@ -93,7 +93,7 @@ pub(crate) fn expect<'a>(told: Flaw, word: &[char], chars: &'a [char]) -> Result
     Ok(rest)
 }
 
-/// The first so many characters, behind which the text goes on, and what follows them.
+/// The first so many characters, after which the text goes on, and what follows them.
 fn front(count: usize, chars: &[char]) -> Result<(&[char], &[char]), Flaw>
     requires { count ≤ length chars.now }
     ensures reads { Tells (λ r. (r.0.now, r.1.now)) result (spec_front count chars.now) }
