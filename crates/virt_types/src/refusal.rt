@@ -58,8 +58,6 @@ pub enum RefusalCode {
     TooManyWaiting = 203,
     /// The list is at its limit.
     ListFull = 204,
-    /// The chapter holds no more marks.
-    HistoryFull = 205,
     /// The procedure is in the tables and not built.
     NotBuilt = 206,
     /// The copying of the guest's state made no headway.
@@ -79,7 +77,7 @@ pub enum RefusalCode {
 }
 
 // Each reason, so that a number can be looked up.
-const CODES: [RefusalCode; 30] = [
+const CODES: [RefusalCode; 29] = [
     RefusalCode::NoMemory,
     RefusalCode::UnknownProcedure,
     RefusalCode::InvalidArgument,
@@ -101,7 +99,6 @@ const CODES: [RefusalCode; 30] = [
     RefusalCode::MonitorLost,
     RefusalCode::TooManyWaiting,
     RefusalCode::ListFull,
-    RefusalCode::HistoryFull,
     RefusalCode::NotBuilt,
     RefusalCode::Stalled,
     RefusalCode::SnapshotExists,
@@ -160,7 +157,6 @@ impl RefusalCode {
             RefusalCode::MonitorLost => "monitor lost",
             RefusalCode::TooManyWaiting => "too many waiting",
             RefusalCode::ListFull => "list full",
-            RefusalCode::HistoryFull => "history full",
             RefusalCode::NotBuilt => "not built",
             RefusalCode::Stalled => "stalled",
             RefusalCode::SnapshotExists => "snapshot exists",
