@@ -30,42 +30,50 @@ raised_free (suc n) interfaces tail free = rw free
 abbrev with_address : Interface → Option Mac → Interface
 with_address i m = record i { mac = m }
 
-filled_by : (interfaces : List Interface) (x : Interface) (own : Option Mac) (mac : Mac) → x.mac ≡ own → IsChosenFor interfaces own mac
-    → IsMacFilled interfaces x own (with_own x mac)
-filled_by interfaces x None mac e chosen = (chosen.0, ap (with_own x) chosen.1)
-filled_by interfaces x (Some own) mac e chosen =
-    let back : Some mac ≡ x.mac = ap (λ m. Some m) chosen ∙ sym e in
-    ap (with_address x) back
+filled_by : (words : List ℕ) (interfaces : List Interface) (x : Interface) (own : Option Mac) (mac : Mac) → x.mac ≡ own
+    → IsChosenFor words interfaces own mac → IsMacFilled words interfaces x own (with_own x mac)
+filled_by words interfaces x None mac e chosen = (chosen.0, ap (with_own x) chosen.1, chosen.2)
+filled_by words interfaces x (Some own) mac e chosen =
+    let back : Some mac ≡ x.mac = ap (λ m. Some m) chosen.0 ∙ sym e in
+    (ap (with_address x) back, chosen.1)
 
-module _ (original xs : List Interface) (i : ℕ) (d : Interface) (mac : Mac) (within : i < length xs) (chosen : IsMacChosen xs i mac) where
-  is_chosen : IsChosenFor xs (get_or xs i d).mac mac
-  is_chosen = subst (λ o. IsChosenOf xs o mac) (slice_get-get_or xs i d within) chosen
+-- however the interfaces from a place on are filled, of whichever words, all are then filled of the
+-- words drawn so far and of those
+abbrev pub IsFilledSoFar : List Interface → List ℕ → List Interface → ℕ → Type 0
+IsFilledSoFar original drawn xs i =
+    (words : List ℕ) (new : List Interface) → AreMacsFilled words (take i xs) (drop i xs) new
+    → AreMacsFilled (drawn ++ words) [] original (take i xs ++ new)
 
-  pub step : ((new : List Interface) → AreMacsFilled (take i xs) (drop i xs) new → AreMacsFilled [] original (take i xs ++ new))
-      → (new : List Interface)
-      → AreMacsFilled (take (i + 1) (set xs i (with_own (get_or xs i d) mac))) (drop (i + 1) (set xs i (with_own (get_or xs i d) mac))) new
-      → AreMacsFilled [] original (take (i + 1) (set xs i (with_own (get_or xs i d) mac)) ++ new)
-  step so_far new filled =
+module _ (original xs : List Interface) (i : ℕ) (d : Interface) (mac : Mac) (drawn first : List ℕ) (within : i < length xs)
+    (chosen : IsMacChosen first xs i mac) where
+  is_chosen : IsChosenFor first xs (get_or xs i d).mac mac
+  is_chosen = subst (λ o. IsChosenOf first xs o mac) (slice_get-get_or xs i d within) chosen
+
+  pub step : IsFilledSoFar original drawn xs i
+      → IsFilledSoFar original (drawn ++ first) (set xs i (with_own (get_or xs i d) mac)) (i + 1)
+  step so_far words new filled =
       let x = get_or xs i d in
       let j = with_own x mac in
       let front : take (i + 1) (set xs i j) ≡ take i xs ++ j ∷ [] = take_more_set xs i j within in
       let back : drop (i + 1) (set xs i j) ≡ drop (i + 1) xs = drop-set-lt (i + 1) xs i j (omega arith) in
       let left : drop i xs ≡ x ∷ drop (i + 1) xs = drop_more xs i d within in
       let whole : xs ≡ take i xs ++ x ∷ drop (i + 1) xs = sym (take-append-drop i xs) ∙ ap (λ ys. take i xs ++ ys) left in
-      let one : IsMacFilled (take i xs ++ x ∷ drop (i + 1) xs) x x.mac j =
-      subst (λ ys. IsMacFilled ys x x.mac j) whole (filled_by xs x x.mac mac refl is_chosen) in
-      let others : AreMacsFilled (take i xs ++ j ∷ []) (drop (i + 1) xs) new =
-      subst (λ ys. AreMacsFilled ys (drop (i + 1) xs) new) front (subst (λ ys. AreMacsFilled (take (i + 1) (set xs i j)) ys new) back filled) in
-      let all : AreMacsFilled (take i xs) (drop i xs) (j ∷ new) =
-      subst (λ ys. AreMacsFilled (take i xs) ys (j ∷ new)) (sym left) (one, others) in
+      let one : IsMacFilled first (take i xs ++ x ∷ drop (i + 1) xs) x x.mac j =
+      subst (λ ys. IsMacFilled first ys x x.mac j) whole (filled_by first xs x x.mac mac refl is_chosen) in
+      let others : AreMacsFilled words (take i xs ++ j ∷ []) (drop (i + 1) xs) new =
+      subst (λ ys. AreMacsFilled words ys (drop (i + 1) xs) new) front (subst (λ ys. AreMacsFilled words (take (i + 1) (set xs i j)) ys new) back filled) in
+      let all : AreMacsFilled (first ++ words) (take i xs) (drop i xs) (j ∷ new) =
+      subst (λ ys. AreMacsFilled (first ++ words) (take i xs) ys (j ∷ new)) (sym left) (first, words, one, others, refl) in
       let joined : take (i + 1) (set xs i j) ++ new ≡ take i xs ++ (j ∷ new) =
       ap (λ ys. ys ++ new) front ∙ append_assoc (take i xs) (j ∷ []) new in
-      subst (AreMacsFilled [] original) (sym joined) (so_far (j ∷ new) all)
+      subst (λ ws. AreMacsFilled ws [] original (take (i + 1) (set xs i j) ++ new)) (sym (append_assoc drawn first words))
+      (subst (AreMacsFilled (drawn ++ (first ++ words)) [] original) (sym joined) (so_far (first ++ words) (j ∷ new) all))
 
-pub ended : (original xs : List Interface) (i : ℕ) → length xs ≤ i
-    → ((new : List Interface) → AreMacsFilled (take i xs) (drop i xs) new → AreMacsFilled [] original (take i xs ++ new))
-    → AreMacsFilled [] original xs
-ended original xs i past so_far =
+pub ended : (original xs : List Interface) (i : ℕ) (drawn : List ℕ) → length xs ≤ i → IsFilledSoFar original drawn xs i
+    → AreMacsFilled drawn [] original xs
+ended original xs i drawn past so_far =
     let none : drop i xs ≡ [] = drop_all i xs past in
     let whole : take i xs ++ [] ≡ xs = append-nil (take i xs) ∙ take_all i xs past in
-    subst (AreMacsFilled [] original) whole (so_far [] (subst (λ ys. AreMacsFilled (take i xs) ys []) (sym none) tt))
+    let last : AreMacsFilled [] (take i xs) (drop i xs) [] = subst (λ ys. AreMacsFilled [] (take i xs) ys []) (sym none) refl in
+    subst (λ ws. AreMacsFilled ws [] original xs) (append-nil drawn)
+    (subst (AreMacsFilled (drawn ++ []) [] original) whole (so_far [] [] last))

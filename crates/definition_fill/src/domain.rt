@@ -1,5 +1,6 @@
 // Domains.
-ghost use Rattle.text_spec.specs.Fill.{IsFilled};
+ghost use Rattle.text_spec.specs.Fill.{IsFilledBy};
+ghost use Rattle.virt_types.specs.Drawn.{IsMadeOfDrawn};
 
 use crate::identifier::uuid_or_new;
 use crate::mac::fill_macs;
@@ -9,11 +10,13 @@ use virt_types::{DomainDef, ListOf, Random};
 
 /// The definition with an identifier and addresses where it had none: an identifier of version 4 of
 /// the next two words, then for each interface in order 52:54:00 and the low three bytes of the
-/// next word, raised by one modulo 2^24 until no other interface has it. What is there stays.
+/// next word, raised by one modulo 2^24 until no other interface has it. What is there stays. No
+/// other words are drawn.
 ///
 /// It takes no memory: the allocator is for a list that stays empty.
 pub fn fill_domain<R: Random>(alloc: Global, mut def: DomainDef, random: &mut R) -> DomainDef
-    ensures { IsFilled def result }
+    ensures { IsMadeOfDrawn (λ words. IsFilledBy words def result)
+        (R.drawn random.old) (R.drawn random.new) }
 {
     def.uuid = uuid_or_new(def.uuid, random);
     let mut interfaces = mem::replace(&mut def.interfaces, ListOf::new(alloc)).into_vec();

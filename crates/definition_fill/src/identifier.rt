@@ -1,6 +1,8 @@
 // Identifiers of version 4.
-ghost use Rattle.std.specs.Prelude.{◌≡◌};
+ghost use Rattle.std.specs.Prelude.{◌≡◌, ◌∷◌, [], ℕ};
+ghost use Rattle.std.specs.Io.KnownBytes.{Appends};
 ghost use Rattle.text_spec.specs.Fill as spec;
+ghost use Rattle.virt_types.specs.Drawn.{IsMadeOfDrawn};
 
 use uuid::Builder;
 use virt_types::{Random, Uuid};
@@ -15,7 +17,8 @@ fn version_4(high: u64, low: u64) -> Uuid
 
 /// An identifier of the next two words.
 fn next_uuid<R: Random>(random: &mut R) -> Uuid
-    ensures { spec.IsVersion4 result }
+    ensures { (high : ℕ) × (low : ℕ) × (result ≡ spec.version_4 high low)
+        × Appends (R.drawn random.old) (R.drawn random.new) (high ∷ low ∷ []) }
 {
     let high = random.word();
     let low = random.word();
@@ -24,7 +27,8 @@ fn next_uuid<R: Random>(random: &mut R) -> Uuid
 
 /// The identifier that is there, or a new one.
 pub(crate) fn uuid_or_new<R: Random>(uuid: Option<Uuid>, random: &mut R) -> Option<Uuid>
-    ensures { spec.IsUuidFilled uuid result }
+    ensures { IsMadeOfDrawn (λ words. spec.IsUuidFilled words uuid result)
+        (R.drawn random.old) (R.drawn random.new) }
 {
     match uuid {
         Some(uuid) => Some(uuid),

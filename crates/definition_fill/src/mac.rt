@@ -2,6 +2,7 @@
 ghost use Rattle.std.specs.Prelude.{◌≡◌, ◌<◌, ◌%◌, ◌∷◌, [], length};
 ghost use Rattle.definition_fill.specs.Chosen.{IsMacChosen};
 ghost use Rattle.text_spec.specs.Fill as spec;
+ghost use Rattle.virt_types.specs.Drawn.{IsMadeOfDrawn};
 
 use virt_types::{Interface, Mac, Random};
 
@@ -82,7 +83,8 @@ fn mac_among(interfaces: &[Interface], word: u64) -> Mac
 /// The address of the interface at a place, or a new one.
 fn mac_or_new<R: Random>(interfaces: &[Interface], place: usize, random: &mut R) -> Mac
     requires { place < length interfaces.now }
-    ensures { IsMacChosen interfaces.now place result }
+    ensures { IsMadeOfDrawn (λ words. IsMacChosen words interfaces.now place result)
+        (R.drawn random.old) (R.drawn random.new) }
 {
     match interfaces[place].mac {
         Some(mac) => mac,
@@ -92,7 +94,8 @@ fn mac_or_new<R: Random>(interfaces: &[Interface], place: usize, random: &mut R)
 
 /// Gives each interface that has no address one of the next word.
 pub(crate) fn fill_macs<R: Random>(interfaces: &mut [Interface], random: &mut R)
-    ensures { spec.AreMacsFilled [] interfaces.old interfaces.new }
+    ensures { IsMadeOfDrawn (λ words. spec.AreMacsFilled words [] interfaces.old interfaces.new)
+        (R.drawn random.old) (R.drawn random.new) }
 {
     for place in 0..interfaces.len() {
         let mac = mac_or_new(interfaces, place, random);

@@ -1,6 +1,7 @@
 //! Prints definitions: each has one text.
 #![tactic(auto)]
 
+mod bytes;
 mod count;
 mod fits;
 mod print;

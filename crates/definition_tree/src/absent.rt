@@ -1,4 +1,4 @@
-// What stands for an identifier or an address that a definition has not got yet.
+// What stands for an identifier or an address that a definition does not have yet.
 ghost use Rattle.std.specs.Prelude.{◌≡◌, Option, Some, unwrap_or};
 ghost use Rattle.text_spec.specs.DevicePrinted.{any_mac};
 ghost use Rattle.text_spec.specs.DomainPrinted.{any_uuid};
@@ -6,7 +6,7 @@ ghost use Rattle.definition_tree.specs.Absent.{uuid_as, mac_as};
 
 use virt_types::{Mac, Uuid};
 
-/// What is done with an identifier or an address that a definition has not got yet.
+/// What is done with an identifier or an address that a definition does not have yet.
 #[derive(Clone, Copy, Debug, PartialEq, Eq)]
 pub enum Absent {
     /// It is left out.

@@ -2,7 +2,7 @@
 ghost use Rattle.std.specs.Prelude.{◌≡◌, ◌++◌, ◌∷◌, [], OnOk, IfOk};
 ghost use Rattle.text_spec.specs.Spelling as spec;
 
-use crate::vocabulary::attribute_name;
+use definition_words::attribute_word;
 use std::alloc::Global;
 use text_spec::{AttributeName, Pair, PairList};
 use virt_types::{NoMemory, Text};
@@ -16,7 +16,7 @@ pub(crate) fn push_pair(
 ) -> Result<(), NoMemory>
     ensures { OnOk result (out.new ≡ out.old ++ spec.pair name value.now ∷ []) }
 {
-    let name = Text::copy_of(alloc, attribute_name(name))?;
+    let name = Text::copy_of(alloc, attribute_word(name))?;
     let value = Text::copy_of(alloc, value)?;
     out.push(Pair { name, value })
 }

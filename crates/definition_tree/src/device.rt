@@ -11,7 +11,7 @@ use crate::device_elements::{
     target_tree,
 };
 use crate::elements::{add, holding};
-use crate::words::{disk_device_word, disk_type_word, interface_type_word};
+use definition_words::{disk_device_word, disk_type_word, interface_type_word};
 use std::alloc::Global;
 use text_spec::{AttributeName, ElementName, PairList, Tree};
 use virt_types::{DeviceDef, Disk, Interface, NoMemory, both};

@@ -7,7 +7,7 @@ ghost use Rattle.text_spec.specs.declared.vocabulary.ElementName.TheVariants as 
 
 use crate::attributes::{one, one_present, push_present, two_present};
 use crate::elements::{add, tagged};
-use crate::mac::mac_text;
+use definition_words::mac_text;
 use std::alloc::Global;
 use text_spec::{AttributeName, ElementName, PairList, Tree};
 use virt_types::{

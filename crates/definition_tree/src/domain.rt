@@ -10,7 +10,7 @@ use crate::devices::add_devices;
 use crate::elements::holding;
 use crate::general::front_trees;
 use crate::system::add_middle;
-use crate::words::domain_type_word;
+use definition_words::domain_type_word;
 use std::alloc::Global;
 use text_spec::{AttributeName, ElementName, Tree};
 use virt_types::{DomainDef, NoMemory};

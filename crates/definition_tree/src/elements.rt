@@ -3,12 +3,12 @@ ghost use Rattle.std.specs.Prelude.{◌≡◌, ◌++◌, ◌∷◌, [], OnOk, If
 ghost use Rattle.text_spec.specs.Spelling as spec;
 ghost use Rattle.text_spec.specs.Tree.{seen};
 
-use crate::vocabulary::element_name;
+use definition_words::element_word;
 use std::alloc::Global;
 use text_spec::{ElementName, PairList, Tree};
 use virt_types::{NoMemory, Text, both};
 
-/// Adds an element behind others.
+/// Adds an element after others.
 pub(crate) fn add(out: &mut Vec<Tree>, tree: Tree) -> Result<(), NoMemory>
     ensures { OnOk result (map seen out.new.items ≡ map seen out.old.items ++ seen tree ∷ []) }
 {
@@ -28,7 +28,7 @@ fn element(
         ≡ spec.filled name attributes text.now (map seen children.items)) }
 {
     match both(
-        Text::copy_of(alloc, element_name(name)),
+        Text::copy_of(alloc, element_word(name)),
         Text::copy_of(alloc, text),
     ) {
         Ok((name, text)) => Ok(Tree {

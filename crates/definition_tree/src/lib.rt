@@ -9,10 +9,7 @@ mod devices;
 mod domain;
 mod elements;
 mod general;
-mod mac;
 mod system;
-mod vocabulary;
-mod words;
 
 pub use absent::Absent;
 pub use device::device_tree;

@@ -1,4 +1,4 @@
-// Memory, processors and the system of a domain, and what is wanted where it goes down.
+// Memory, processors and the system of a domain, and what follows when it goes down.
 ghost use Rattle.std.specs.Prelude.{◌≡◌, ◌++◌, ◌∷◌, [], IfOk, OnOk, map};
 ghost use Rattle.text_spec.specs.DomainPrinted as spec;
 ghost use Rattle.text_spec.specs.Spelling.{worded as worded_tree};
@@ -6,7 +6,7 @@ ghost use Rattle.text_spec.specs.Tree.{seen};
 
 use crate::attributes::{one, two_present};
 use crate::elements::{add, holding, worded};
-use crate::words::{boot_device_word, crash_action_word, lifecycle_action_word};
+use definition_words::{boot_device_word, crash_action_word, lifecycle_action_word};
 use std::alloc::Global;
 use text_spec::{AttributeName, ElementName, PairList, Tree};
 use virt_types::{BootDevice, DomainDef, NoMemory, Os};
@@ -105,7 +105,7 @@ fn add_sizes(alloc: Global, out: &mut Vec<Tree>, def: &DomainDef) -> Result<(), 
     add(out, vcpu_tree(alloc, def.vcpus, def.current_vcpus)?)
 }
 
-/// Adds what is wanted where the guest goes down.
+/// Adds what follows when the guest goes down.
 fn add_actions(alloc: Global, out: &mut Vec<Tree>, def: &DomainDef) -> Result<(), NoMemory>
     ensures { OnOk result (map seen out.new.items ≡ map seen out.old.items
         ++ spec.action_trees def.now) }

@@ -9,7 +9,7 @@ use Rattle.text_spec.specs.declared.device_kind.DeviceKind.{DeviceKind}
 use Rattle.text_spec.specs.declared.vocabulary.ElementName.{ElementName}
 use Rattle.text_spec.specs.DeviceList.{devices_fault, device_fault, element_for, key_in, with_key}
 use Rattle.text_spec.specs.Look.{is_element}
-use Rattle.text_spec.specs.Tests.{Finds}
+use Rattle.text_spec.specs.Tests.{FaultUnlessNoMemory}
 use Rattle.text_spec.specs.Tree.{Tree}
 
 -- the devices of a kind among elements
@@ -28,13 +28,13 @@ module _ (k : DeviceKind) (names : List ElementName) (met : List (List ℕ)) (t 
     whole_is : whole ≡ option_or (device_fault k names met t) (devices_fault k names (with_key (key_in k t) met) (devices k ts))
     whole_is = sym left ∙ ap (λ xs. devices_fault k names met (devices k xs)) first ∙ one_more
 
-    found : (fault : Option DefFault) → device_fault k names met t ≡ fault → (e : OrNoMemory DefFault) → Finds e fault → Finds e whole
+    found : (fault : Option DefFault) → device_fault k names met t ≡ fault → (e : OrNoMemory DefFault) → FaultUnlessNoMemory e fault → FaultUnlessNoMemory e whole
     found fault is or.NoMemory finds = tt
     found fault is (or.Fault f) finds =
         whole_is ∙ ap (λ x. option_or x (devices_fault k names (with_key (key_in k t) met) (devices k ts))) (is ∙ finds)
 
     -- the device has a fault, and it is the first
-    pub stopped : (e : OrNoMemory DefFault) → Finds e (device_fault k names met t) → Finds e whole
+    pub stopped : (e : OrNoMemory DefFault) → FaultUnlessNoMemory e (device_fault k names met t) → FaultUnlessNoMemory e whole
     stopped e finds = found (device_fault k names met t) refl e finds
 
     -- the device has none, and the first fault is that of the others

@@ -7,9 +7,8 @@ ghost use Rattle.text_spec.specs.Words as words;
 ghost use Rattle.virt_types.specs.declared.device_def.DiskDevice.TheVariants as disk_device;
 ghost use Rattle.virt_types.specs.declared.device_def.DiskType.TheVariants as disk_type;
 
-use element_table::{
-    attribute_of, copied_attribute, copied_value, disk_device_of, disk_type_of, first_of, value_at,
-};
+use definition_words::{disk_device_of, disk_type_of};
+use element_table::{attribute_of, copied_attribute, copied_value, first_of, value_at};
 use std::alloc::Global;
 use text_spec::{AttributeName, ElementName, Place, Source, Tree};
 use virt_types::{
@@ -89,7 +88,7 @@ fn source_in(tree: &Tree) -> Result<Option<DiskSource>, NoMemory>
 
 const TARGET: Place = Place::Child(ElementName::Target);
 
-/// By what a disk is told apart.
+/// By what a disk is distinguished.
 pub(crate) fn target_dev(tree: &Tree) -> Option<&Text>
     ensures { option_map (λ t. t.now) result ≡ spec.target_dev (seen tree.now) }
 {

@@ -6,9 +6,8 @@ ghost use Rattle.text_spec.specs.Tree.{seen};
 ghost use Rattle.text_spec.specs.Words as words;
 ghost use Rattle.virt_types.specs.declared.device_def.InterfaceType.TheVariants as interface_type;
 
-use element_table::{
-    attribute_of, copied_attribute, first_of, interface_type_of, mac_of, value_at,
-};
+use definition_words::{interface_type_of, mac_of};
+use element_table::{attribute_of, copied_attribute, first_of, value_at};
 use text_spec::{AttributeName, ElementName, Place, Source, Tree};
 use virt_types::{
     Interface, InterfaceModel, InterfaceSource, InterfaceType, Mac, NoMemory, Text, both,
@@ -25,7 +24,7 @@ fn type_of(tree: &Tree) -> InterfaceType
     }
 }
 
-/// By what an interface is told apart.
+/// By what an interface is distinguished.
 pub(crate) fn mac_address(tree: &Tree) -> Option<&Text>
     ensures { option_map (λ t. t.now) result ≡ spec.mac_address (seen tree.now) }
 {

@@ -3,7 +3,8 @@ ghost use Rattle.std.specs.Prelude.{◌≡◌, IfOk};
 ghost use Rattle.text_spec.specs.Definition.{device_read};
 ghost use Rattle.text_spec.specs.DeviceList as spec;
 ghost use Rattle.text_spec.specs.Tree.{seen};
-ghost use Rattle.text_spec.specs.Tests.{Reads, Tests};
+ghost use Rattle.virt_types.specs.Memory.{UnlessNoMemory};
+ghost use Rattle.text_spec.specs.Tests.{Tests};
 
 use crate::disk::disk_of;
 use crate::interface::interface_of;
@@ -23,7 +24,7 @@ fn alone_test(alloc: Global, kind: DeviceKind, tree: &Tree) -> Result<(), OrNoMe
 /// The device that a tree is by the tables, whatever the length of its own text.
 #[tactic(auto, unfolding(text_spec::specs::DeviceList::device_in))]
 fn read_by_table(alloc: Global, tree: &Tree) -> Result<DeviceDef, OrNoMemory<DefFault>>
-    ensures { Reads result (spec.device_in (seen tree.now)) }
+    ensures { UnlessNoMemory result (spec.device_in (seen tree.now)) }
 {
     if is_element(ElementName::Disk, tree) {
         alone_test(alloc, DeviceKind::Disk, tree)?;
@@ -46,7 +47,7 @@ fn read_by_table(alloc: Global, tree: &Tree) -> Result<DeviceDef, OrNoMemory<Def
 /// reads back from the text that is printed of it, filled in or not.
 #[tactic(auto, unfolding(text_spec::specs::Definition::device_read))]
 pub fn read(alloc: Global, tree: &Tree) -> Result<DeviceDef, OrNoMemory<DefFault>>
-    ensures { Reads result (device_read (seen tree.now)) }
+    ensures { UnlessNoMemory result (device_read (seen tree.now)) }
 {
     let device = match read_by_table(alloc, tree) {
         Ok(device) => device,

@@ -5,9 +5,10 @@ ghost use Rattle.text_spec.specs.DomainPrinted.{domain_fits as spec_domain_fits}
 ghost use Rattle.text_spec.specs.DomainText as spec;
 ghost use Rattle.text_spec.specs.DomainValue.{domain_of as spec_domain_of};
 ghost use Rattle.text_spec.specs.Look.{all_of, is_element as is_named};
-ghost use Rattle.text_spec.specs.Tests.{Reads, Tests};
+ghost use Rattle.text_spec.specs.Tests.{Tests};
 ghost use Rattle.text_spec.specs.Tree as spec_tree;
 ghost use Rattle.text_spec.specs.Tree.{seen};
+ghost use Rattle.virt_types.specs.Memory.{UnlessNoMemory};
 ghost use Rattle.virt_types.specs.declared.domain_def.DomainDef.{DomainDef};
 ghost use Rattle.domain_xml.specs.Parts as parts;
 
@@ -22,11 +23,8 @@ use definition_print::domain_fits;
 use device_xml::devices_test;
 use element_table::{fault_at, fault_of_root, first_of, is_element, rows_test};
 use std::alloc::Global;
-use text_spec::{DefFault, DefKind, DeviceKind, ElementName, Place, Tree};
+use text_spec::{DefFault, DefKind, DeviceKind, ElementName, MOST_DEVICES, Place, Tree};
 use virt_types::{DomainDef, LifecycleAction, NoMemory, OrNoMemory, Os, both};
-
-/// The most disks and interfaces together.
-const MOST_DEVICES: usize = 30;
 
 /// Tests the devices of a kind in the element `devices`, where it stands.
 #[tactic(auto, unfolding(text_spec::specs::DeviceList::devices_fault))]
@@ -162,7 +160,7 @@ fn domain_of(alloc: Global, tree: &Tree) -> Result<DomainDef, NoMemory>
 /// The definition that a tree is by the table, whatever the length of its own text.
 #[tactic(auto, unfolding(text_spec::specs::DomainText::domain_in))]
 fn read_by_table(alloc: Global, tree: &Tree) -> Result<DomainDef, OrNoMemory<DefFault>>
-    ensures { Reads result (spec.domain_in (seen tree.now)) }
+    ensures { UnlessNoMemory result (spec.domain_in (seen tree.now)) }
 {
     if !is_element(ElementName::Domain, tree) {
         let fault = fault_of_root(alloc, DefKind::Root, tree)?;
@@ -183,7 +181,7 @@ fn read_by_table(alloc: Global, tree: &Tree) -> Result<DomainDef, OrNoMemory<Def
 /// reads back from the text that is printed of it, filled in or not.
 #[tactic(auto, unfolding(text_spec::specs::Definition::domain_read))]
 pub fn read(alloc: Global, tree: &Tree) -> Result<DomainDef, OrNoMemory<DefFault>>
-    ensures { Reads result (domain_read (seen tree.now)) }
+    ensures { UnlessNoMemory result (domain_read (seen tree.now)) }
 {
     let def = match read_by_table(alloc, tree) {
         Ok(def) => def,

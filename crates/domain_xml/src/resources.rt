@@ -5,13 +5,10 @@ ghost use Rattle.text_spec.specs.GuestScript.{number_within};
 ghost use Rattle.text_spec.specs.Tree.{seen};
 
 use crate::head::own_text;
-use element_table::{crash_action_of, first_of, lifecycle_action_of, memory_size, value_at};
-use size_text::read_number;
-use text_spec::{AttributeName, ElementName, Place, Source, Tree};
+use definition_words::{crash_action_of, lifecycle_action_of, read_number};
+use element_table::{first_of, memory_size, value_at};
+use text_spec::{AttributeName, ElementName, MOST_VCPUS, Place, Source, Tree};
 use virt_types::{CrashAction, LifecycleAction, Text};
-
-/// The most processors.
-const MOST_VCPUS: u32 = 255;
 
 #[tactic(auto, using(text_spec::proofs::Seen::text_seen))]
 fn memory_in(element: &Tree) -> Option<u64>

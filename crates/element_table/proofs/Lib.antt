@@ -1,4 +1,3 @@
 mod Digits
 mod Parsed
 mod Pieces
-mod WordLists

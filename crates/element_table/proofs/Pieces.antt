@@ -1,4 +1,4 @@
--- The first piece of a script, and the others; entries behind others.
+-- The first piece of a script, and the others; entries after others.
 use Rattle.std.proofs.Common.{◌≡◌, ◌+◌, ◌++◌, ℕ, suc, List, [], ◌∷◌, true, false, refl, cond, take, drop, ap, ap₂, arith, ◌∙◌, sym, append_assoc}
 use Rattle.std.specs.Prelude.{◌==◌, not, Option, Some, None}
 use Rattle.std.specs.List.{prefix_len}
@@ -23,7 +23,7 @@ first_and_others (c ∷ cs) =
       | false ↦ ap (in_first c) (first_and_others cs) ∙ sym (ap (λ k. split_pieces k (c ∷ cs)) (one_more n))
     ]
 
--- where a text is cut behind its first piece
+-- where a text is cut after its first piece
 pub cut_after_first : (cs piece rest : List ℕ) (n : ℕ) → n ≡ prefix_len not_separator cs → piece ≡ take n cs → rest ≡ drop n cs
     → pieces_of cs ≡ piece ∷ pieces_in (after_first rest)
 unfolding split_pieces

@@ -9,20 +9,15 @@ ghost use Rattle.uuid.specs.Text.{parsed};
 ghost use Rattle.virt_types.specs.Name.{bad_place};
 
 use crate::look::attribute_of;
-use crate::mac::mac_of;
 use crate::script::entries_of;
-use crate::words::{
+use definition_words::{
     boot_device_of, crash_action_of, disk_device_of, disk_type_of, domain_type_of,
-    interface_type_of, lifecycle_action_of,
+    interface_type_of, lifecycle_action_of, mac_of, read_kibibytes, read_number,
 };
-use size_text::{read_kibibytes, read_number};
 use std::alloc::Global;
-use text_spec::{AttributeName, Content, DefKind, SizeFault, Tree};
+use text_spec::{AttributeName, Content, DefKind, MOST_VCPUS, SizeFault, Tree};
 use uuid::Uuid;
 use virt_types::{Name, NoMemory, OrNoMemory, Text};
-
-/// The most processors.
-const MOST_VCPUS: u64 = 255;
 
 fn bad_unless(good: bool) -> Option<DefKind>
     ensures { result ≡ spec.bad_unless good }
@@ -104,7 +99,7 @@ fn plain_fault(content: Content, element: &Tree, value: &Text) -> Option<DefKind
         Content::Uuid => bad_unless(is_uuid(value)),
         Content::Mac => bad_unless(mac_of(value.as_bytes()).is_some()),
         Content::Memory => size_fault(memory_size(element, value)),
-        Content::Vcpus => count_fault(1, MOST_VCPUS, read_number(value.as_str())),
+        Content::Vcpus => count_fault(1, MOST_VCPUS as u64, read_number(value.as_str())),
         Content::CurrentVcpus => {
             count_fault(1, processors_of(element), read_number(value.as_str()))
         }

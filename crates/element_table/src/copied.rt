@@ -24,7 +24,7 @@ pub fn copied_attribute(name: AttributeName, tree: &Tree) -> Result<Option<Text>
     copied(attribute_of(name, tree))
 }
 
-/// The value that stands at a place.
+/// The value at a place.
 pub fn copied_value(place: Place, source: Source, tree: &Tree) -> Result<Option<Text>, NoMemory>
     ensures { IfOk result (λ v. v ≡ spec.value_at place source (seen tree.now)) }
 {

@@ -1,9 +1,9 @@
-// What stands in a tree: elements by name, attributes, text.
+// What is in a tree: elements by name, attributes, text.
 ghost use Rattle.std.specs.Prelude.{◌≡◌, List, ℕ, map, find, option_map};
 ghost use Rattle.text_spec.specs.Look as spec;
 ghost use Rattle.text_spec.specs.Tree.{seen};
 
-use crate::vocabulary::{attribute_word, element_word};
+use definition_words::{attribute_word, element_word};
 use text_spec::{AttributeName, ElementName, Pair, Place, Source, Tree};
 use virt_types::Text;
 
@@ -80,7 +80,7 @@ pub fn element_at(place: Place, tree: &Tree) -> Option<&Tree>
     }
 }
 
-/// The value that stands in an element.
+/// The value in an element.
 #[tactic(auto, using(text_spec::proofs::Seen::text_seen))]
 pub fn value_in(source: Source, tree: &Tree) -> Option<&Text>
     ensures { option_map (λ v. v.now) result ≡ spec.value_in source (seen tree.now) }
@@ -91,7 +91,7 @@ pub fn value_in(source: Source, tree: &Tree) -> Option<&Text>
     }
 }
 
-/// The value that stands at a place.
+/// The value at a place.
 pub fn value_at(place: Place, source: Source, tree: &Tree) -> Option<&Text>
     ensures { option_map (λ v. v.now) result ≡ spec.value_at place source (seen tree.now) }
 {

@@ -8,12 +8,12 @@ ghost use Rattle.text_spec.specs.Tests.{Tests};
 
 use crate::content::content_fault;
 use crate::look::{element_at, first_of, is_element, value_in};
-use crate::vocabulary::element_word;
+use definition_words::element_word;
 use std::alloc::Global;
 use text_spec::{DefFault, DefKind, ElementName, Need, Place, Row, Tree};
 use virt_types::{NoMemory, OrNoMemory, Text};
 
-/// Adds the names of elements, each behind a slash.
+/// Adds the names of elements, each after a slash.
 fn add_names(path: &mut String, names: &[ElementName]) -> Result<(), NoMemory>
     ensures { OnOk result (string_bytes path.new
         ≡ string_bytes path.old ++ spec.path_of names.now) }

@@ -5,7 +5,7 @@ ghost use Rattle.text_spec.specs.GuestScript as spec;
 ghost use Rattle.text_spec.specs.Units.{number_of as number_in};
 ghost use Rattle.element_table.specs.Pieces.{pieces_in};
 
-use size_text::read_number;
+use definition_words::read_number;
 use std::alloc::Global;
 use virt_types::{NoMemory, ScriptAct, ScriptEntry, ScriptEntryList};
 
@@ -76,7 +76,7 @@ fn after_gap(bytes: &[u8]) -> &[u8]
     bytes.split_at(gap_length(bytes)).1
 }
 
-/// The word at the front, behind blanks, and what follows it.
+/// The word at the front, after blanks, and what follows it.
 #[tactic(auto, unfolding(text_spec::specs::GuestScript::word_at))]
 fn word_at(bytes: &[u8]) -> (&[u8], &[u8])
     ensures { (result.0.now, result.1.now) ≡ spec.word_at bytes.now }
@@ -132,7 +132,7 @@ fn act_of(word: &[u8]) -> Option<ScriptAct>
     }
 }
 
-/// `stall`, from behind that word.
+/// `stall`, from after that word.
 fn stall_at(rest: &[u8]) -> Option<ScriptEntry>
     ensures { result ≡ spec.stall_at rest.now }
 {
@@ -203,7 +203,7 @@ fn entry_of(piece: &[u8]) -> Option<ScriptEntry>
     }
 }
 
-/// The first piece, and what stands behind the separator that ends it.
+/// The first piece, and what stands after the separator that ends it.
 #[tactic(auto, using(crate::proofs::Pieces::cut_after_first))]
 fn first_piece(bytes: &[u8]) -> (&[u8], Option<&[u8]>)
     ensures pieces { spec.pieces_of bytes.now ≡ result.0.now ∷ pieces_in (option_copied result.1) }

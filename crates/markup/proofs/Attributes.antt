@@ -5,9 +5,9 @@ use Rattle.text_spec.specs.declared.fault.TextKind.TheVariants as kind
 use Rattle.text_spec.specs.declared.pair.Pair.{Pair}
 use Rattle.text_spec.specs.Reading.{Reading, flaw}
 use Rattle.text_spec.specs.Character.{starts_blank, after_blanks}
-use Rattle.markup.specs.declared.stop.Stop.{Stop}
-use Rattle.markup.specs.declared.stop.Stop.TheVariants as stop
-use Rattle.markup.specs.Gives.{Stops}
+use Rattle.virt_types.specs.Memory.{FailsUnlessNoMemory}
+use Rattle.virt_types.specs.declared.memory.OrNoMemory.{OrNoMemory}
+use Rattle.virt_types.specs.declared.memory.OrNoMemory.TheVariants as or
 use Rattle.text_spec.specs.Tag.{Attributes, after_attributes, attribute_of, attribute_at, tag_end_at, attributes_at}
 
 after_after : (front more : List Pair) (r : Reading Attributes)
@@ -46,9 +46,9 @@ module _ (start : List ℕ) (front : List Pair) (m : ℕ) (seen : List (List ℕ
         let a' = rw (told_is, after_is) at a in
         whole_is ∙ rw (e', blank, a')
 
-    pub attribute_stopped : (s : Stop) → Stops s (attribute_at told seen after) → Stops s whole
-    attribute_stopped stop.NoMemory h = tt
-    attribute_stopped (stop.Flaw f) h = attribute_flawed f h
+    pub attribute_stopped : (s : OrNoMemory Flaw) → FailsUnlessNoMemory s (attribute_at told seen after) → FailsUnlessNoMemory s whole
+    attribute_stopped or.NoMemory h = tt
+    attribute_stopped (or.Fault f) h = attribute_flawed f h
 
     pub attribute_more : (pair : List ℕ × List ℕ) (following : List ℕ) → attribute_at told seen after ≡ Ok (pair, following)
         → whole ≡ after_attributes (front ++ attribute_of pair ∷ []) (attributes_at m start (pair.0 ∷ seen) following)

@@ -7,9 +7,9 @@ use Rattle.text_spec.specs.Reading.{ended, ◌>>=◌}
 use Rattle.text_spec.specs.Tag.{opening_tag_at}
 use Rattle.text_spec.specs.Tree.{Tree, Trees, none, first, trees, before}
 use Rattle.text_spec.specs.Element.{Grown, Inside, ElementReading, ahead_of, piece_at, after_inside, with_piece, inside_by, content_at, after_opening, element_at}
-use Rattle.markup.specs.declared.stop.Stop.{Stop}
-use Rattle.markup.specs.declared.stop.Stop.TheVariants as stop
-use Rattle.markup.specs.Gives.{Stops}
+use Rattle.virt_types.specs.Memory.{FailsUnlessNoMemory}
+use Rattle.virt_types.specs.declared.memory.OrNoMemory.{OrNoMemory}
+use Rattle.virt_types.specs.declared.memory.OrNoMemory.TheVariants as or
 use Rattle.markup.specs.View.{IsText}
 
 before_before : (ts us : List Tree) (others : Trees) → before ts (before us others) ≡ before (ts ++ us) others
@@ -54,9 +54,9 @@ module _ (child : ElementReading) (front : List ℕ) (kids : List Tree) (m room 
       step ahead.ClosingTag e
       ∙ ap₂ (with_parts (record { text = []; children = none; room = room; rest = rest })) (append-nil front) (before_none kids)
 
-  pub child_stops : ahead_of rest ≡ ahead.Element → (s : Stop) → Stops s (child room rest) → Stops s whole
-  child_stops e stop.NoMemory h = tt
-  child_stops e (stop.Flaw f) h = step ahead.Element e ∙ rw h
+  pub child_stops : ahead_of rest ≡ ahead.Element → (s : OrNoMemory Flaw) → FailsUnlessNoMemory s (child room rest) → FailsUnlessNoMemory s whole
+  child_stops e or.NoMemory h = tt
+  child_stops e (or.Fault f) h = step ahead.Element e ∙ rw h
 
   pub child_read : ahead_of rest ≡ ahead.Element → (g : Grown) → child room rest ≡ Ok g
       → whole ≡ after_inside front (kids ++ g.tree ∷ []) (content_at child m g.room g.rest)

@@ -1,19 +1,14 @@
--- What a private reader of this crate answers, against the reading of a text.
+-- What a reader of this crate answers, against the reading of a text.
 use Rattle.std.specs.Prelude.{◌≡◌, Result, Ok, Err}
 use Rattle.text_spec.specs.declared.fault.Flaw.{Flaw}
-use Rattle.markup.specs.declared.stop.Stop.{Stop}
-use Rattle.markup.specs.declared.stop.Stop.TheVariants as stop
+use Rattle.virt_types.specs.declared.memory.OrNoMemory.{OrNoMemory}
 
--- what a reader answered, seen by view, is what reading gives
+-- what a reader answered that takes no memory is what reading gives, its value seen by view
 abbrev pub Tells : {X Y : Type 0} → (X → Y) → Result X Flaw → Result Y Flaw → Type 0
 Tells view (Ok x) read = read ≡ Ok (view x)
 Tells view (Err f) read = read ≡ Err f
 
--- the same, unless memory ran out
-abbrev pub Stops : {Y : Type 0} → Stop → Result Y Flaw → Type 0
-Stops stop.NoMemory read = Unit {0}
-Stops (stop.Flaw f) read = read ≡ Err f
-
-abbrev pub Gives : {X Y : Type 0} → (X → Y) → Result X Stop → Result Y Flaw → Type 0
-Gives view (Ok x) read = read ≡ Ok (view x)
-Gives view (Err e) read = Stops e read
+-- an answer with its value seen by view
+abbrev pub viewed : {X Y F : Type 0} → (X → Y) → Result X (OrNoMemory F) → Result Y (OrNoMemory F)
+viewed view (Ok x) = Ok (view x)
+viewed view (Err e) = Err e

@@ -1,4 +1,3 @@
 pub mod Gives
 pub mod Names
-pub mod Reads
 pub mod View

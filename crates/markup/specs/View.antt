@@ -25,7 +25,7 @@ abbrev pub piece_text : Piece → List ℕ
 piece_text (One c) = c ∷ []
 piece_text (Many cs) = cs.now
 
--- what stands inside an element
+-- what is inside an element
 abbrev pub inside_view : Inside → element.Inside
 inside_view i =
     record { text = i.text.items; children = all_seen i.children.items; room = i.room; rest = i.rest.now }

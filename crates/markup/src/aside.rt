@@ -11,7 +11,7 @@ use crate::character::{is_blank, is_char};
 use crate::scan::{ended, expect, flaw, name_at};
 use text_spec::{Flaw, TextKind};
 
-/// What follows a comment, from behind its `<!--`.
+/// What follows a comment, from after its `<!--`.
 #[tactic(auto, unfolding(text_spec::specs::Aside::comment_at))]
 fn comment_at(told: Flaw, chars: &[char]) -> Result<&[char], Flaw>
     ensures reads { Tells (λ r. r.now) result (spec.comment_at told false chars.now) }
@@ -32,7 +32,7 @@ fn comment_at(told: Flaw, chars: &[char]) -> Result<&[char], Flaw>
     Err(ended())
 }
 
-/// What follows an instruction, from behind its target.
+/// What follows an instruction, from after its target.
 #[tactic(auto, unfolding(text_spec::specs::Aside::instruction_at))]
 fn instruction_at(told: Flaw, chars: &[char]) -> Result<&[char], Flaw>
     ensures reads { Tells (λ r. r.now) result (spec.instruction_at told false chars.now) }
@@ -80,7 +80,7 @@ fn after_target(told: Flaw, chars: &[char]) -> Result<&[char], Flaw>
     }
 }
 
-/// What follows an instruction, from behind its `<?`.
+/// What follows an instruction, from after its `<?`.
 #[tactic(auto, unfolding(text_spec::specs::Aside::targeted))]
 fn targeted(told: Flaw, chars: &[char]) -> Result<&[char], Flaw>
     ensures reads { Tells (λ r. r.now) result (spec.targeted told chars.now) }
@@ -127,7 +127,7 @@ fn section_at(told: Flaw, chars: &[char]) -> Result<&[char], Flaw>
     Err(ended())
 }
 
-/// What a section holds, and what follows it, from behind its `<![`.
+/// What a section holds, and what follows it, from after its `<![`.
 #[tactic(auto, unfolding(text_spec::specs::Aside::whole_section_at))]
 fn whole_section_at(told: Flaw, chars: &[char]) -> Result<(&[char], &[char]), Flaw>
     ensures reads { Tells (λ r. (r.0.now, r.1.now)) result (spec.whole_section_at told chars.now) }
@@ -139,7 +139,7 @@ fn whole_section_at(told: Flaw, chars: &[char]) -> Result<(&[char], &[char]), Fl
     Ok((held, rest))
 }
 
-/// No text, and what follows a comment, from behind its `<!-`.
+/// No text, and what follows a comment, from after its `<!-`.
 #[tactic(auto, unfolding(text_spec::specs::Aside::whole_comment_at))]
 fn whole_comment_at(told: Flaw, chars: &[char]) -> Result<(&[char], &[char]), Flaw>
     ensures reads { Tells (λ r. (r.0.now, r.1.now)) result (spec.whole_comment_at told chars.now) }
@@ -150,7 +150,7 @@ fn whole_comment_at(told: Flaw, chars: &[char]) -> Result<(&[char], &[char]), Fl
     Ok((&[], rest))
 }
 
-/// The flaw of a document type, from behind its `<!D`.
+/// The flaw of a document type, from after its `<!D`.
 #[tactic(auto, unfolding(text_spec::specs::Aside::doctype_at))]
 fn doctype_at(told: Flaw, doctype: Flaw, chars: &[char]) -> Result<(&[char], &[char]), Flaw>
     ensures reads { Tells (λ r. (r.0.now, r.1.now)) result
@@ -182,7 +182,7 @@ fn after_bang<'a>(
     }
 }
 
-/// No text, and what follows an instruction, from behind its `<?`.
+/// No text, and what follows an instruction, from after its `<?`.
 fn whole_instruction_at(told: Flaw, chars: &[char]) -> Result<(&[char], &[char]), Flaw>
     ensures reads { Tells (λ r. (r.0.now, r.1.now)) result
         (spec.without_text (spec.targeted told chars.now)) }
@@ -222,7 +222,7 @@ pub(crate) fn aside_at(inside: bool, chars: &[char]) -> Result<(&[char], &[char]
     }
 }
 
-/// Whether `]]>` stands in these characters.
+/// Whether `]]>` occurs in these characters.
 #[tactic(auto, unfolding(text_spec::specs::Aside::ends_section))]
 fn ends_section(chars: &[char]) -> bool
     ensures { result ≡ spec.ends_section 0 chars.now }

@@ -108,7 +108,7 @@ fn standalone_at(told: Flaw, chars: &[char]) -> Result<&[char], Flaw>
     expect(told, &[quote], rest)
 }
 
-/// What follows the encoding, where one stands behind a blank.
+/// What follows the encoding, where one stands after a blank.
 #[tactic(auto, unfolding(text_spec::specs::Declaration::after_encoding))]
 fn after_encoding(told: Flaw, chars: &[char]) -> Result<&[char], Flaw>
     ensures reads { Tells (λ r. r.now) result (spec.after_encoding told chars.now) }
@@ -121,7 +121,7 @@ fn after_encoding(told: Flaw, chars: &[char]) -> Result<&[char], Flaw>
     }
 }
 
-/// What follows the word on standing alone, where it stands behind a blank.
+/// What follows the word on standing alone, where it stands after a blank.
 #[tactic(auto, unfolding(text_spec::specs::Declaration::after_standalone))]
 fn after_standalone(told: Flaw, chars: &[char]) -> Result<&[char], Flaw>
     ensures reads { Tells (λ r. r.now) result (spec.after_standalone told chars.now) }
@@ -134,7 +134,7 @@ fn after_standalone(told: Flaw, chars: &[char]) -> Result<&[char], Flaw>
     }
 }
 
-/// What follows the declaration, from behind its `<?xml`.
+/// What follows the declaration, from after its `<?xml`.
 #[tactic(auto, unfolding(text_spec::specs::Declaration::declaration_at))]
 fn declaration_at(told: Flaw, chars: &[char]) -> Result<&[char], Flaw>
     ensures reads { Tells (λ r. r.now) result (spec.declaration_at told chars.now) }

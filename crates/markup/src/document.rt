@@ -2,22 +2,19 @@
 ghost use Rattle.std.specs.Prelude.{◌≡◌, ℕ, ◌≤◌, ◌+◌, length, IfOk};
 ghost use Rattle.text_spec.specs.Text as spec;
 ghost use Rattle.text_spec.specs.Tree.{seen};
-ghost use Rattle.markup.specs.Gives.{Tells, Gives};
+ghost use Rattle.virt_types.specs.Memory.{UnlessNoMemory};
+ghost use Rattle.markup.specs.Gives.{Tells, viewed};
 ghost use Rattle.markup.specs.View.{grown_view};
 
 use crate::aside::aside_at;
 use crate::declaration::after_declaration;
 use crate::element::{Grown, ahead_of, element_at};
 use crate::scan::{ended, flaw, skip_blanks};
-use crate::stop::Stop;
 use std::alloc::Global;
-use text_spec::{Ahead, Flaw, TextKind, Tree};
+use text_spec::{Ahead, Flaw, MOST_ELEMENTS, MOST_LEVELS, TextKind, Tree};
+use virt_types::OrNoMemory;
 
-const MOST_LEVELS: usize = 32;
-
-const MOST_ELEMENTS: usize = 4096;
-
-/// Nothing, where nothing follows; otherwise a `<` stands at the end.
+/// Nothing, where nothing follows; otherwise a `<` is at the end.
 fn at_end(chars: &[char]) -> Result<&[char], Flaw>
     ensures { Tells (λ r. r.now) result (spec.at_end chars.now) }
 {
@@ -51,31 +48,31 @@ fn misc_at(chars: &[char]) -> Result<&[char], Flaw>
 
 /// The root element.
 #[tactic(auto, unfolding(text_spec::specs::Text::root_at))]
-fn root_at(alloc: Global, chars: &[char]) -> Result<Grown<'_>, Stop>
-    ensures { Gives grown_view result (spec.root_at chars.now) }
+fn root_at(alloc: Global, chars: &[char]) -> Result<Grown<'_>, OrNoMemory<Flaw>>
+    ensures { UnlessNoMemory (viewed grown_view result) (spec.root_at chars.now) }
 {
     match chars {
-        [] => Err(Stop::Flaw(ended())),
+        [] => Err(OrNoMemory::Fault(ended())),
         ['<', ..] => element_at(alloc, MOST_LEVELS, MOST_ELEMENTS, chars),
-        _ => Err(Stop::Flaw(flaw(TextKind::Tag, chars))),
+        _ => Err(OrNoMemory::Fault(flaw(TextKind::Tag, chars))),
     }
 }
 
 /// The tree, where nothing is left.
-fn all_read(tree: Tree, rest: &[char]) -> Result<Tree, Stop>
-    ensures { Gives seen result (spec.all_read (seen tree) rest.now) }
+fn all_read(tree: Tree, rest: &[char]) -> Result<Tree, OrNoMemory<Flaw>>
+    ensures { UnlessNoMemory (viewed seen result) (spec.all_read (seen tree) rest.now) }
 {
     if rest.is_empty() {
         Ok(tree)
     } else {
-        Err(Stop::Flaw(flaw(TextKind::Rest, rest)))
+        Err(OrNoMemory::Fault(flaw(TextKind::Rest, rest)))
     }
 }
 
 /// The tree of a document.
 #[tactic(auto, unfolding(text_spec::specs::Text::document))]
-pub(crate) fn document(alloc: Global, chars: &[char]) -> Result<Tree, Stop>
-    ensures { Gives seen result (spec.document chars.now) }
+pub(crate) fn document(alloc: Global, chars: &[char]) -> Result<Tree, OrNoMemory<Flaw>>
+    ensures { UnlessNoMemory (viewed seen result) (spec.document chars.now) }
 {
     let prolog = after_declaration(chars)?;
     let start = misc_at(prolog)?;

@@ -1,20 +1,20 @@
-// Elements with what stands in them.
+// Elements with what is in them.
 ghost use Rattle.std.specs.Prelude.{◌≡◌, ℕ, ◌≤◌, ◌<◌, ◌+◌, ◌++◌, [], length, IfOk, OnOk};
 ghost use Rattle.text_spec.specs.Element as spec;
 ghost use Rattle.text_spec.specs.Tree.{seen, all_seen, none};
 ghost use Rattle.text_spec.specs.declared.ahead.Ahead.TheVariants as Ahead;
-ghost use Rattle.markup.specs.Gives.{Tells, Gives};
+ghost use Rattle.virt_types.specs.Memory.{UnlessNoMemory};
+ghost use Rattle.markup.specs.Gives.{Tells, viewed};
 ghost use Rattle.markup.specs.View.{IsText, tag_view, piece_text, inside_view, grown_view};
 
 use crate::aside::{aside_at, run_at};
 use crate::character::is_blank;
 use crate::reference::reference_at;
 use crate::scan::{ended, flaw, skip_blanks};
-use crate::stop::Stop;
 use crate::tag::{Tag, closing_tag_at, opening_tag_at, text_of};
 use std::alloc::Global;
 use text_spec::{Ahead, Flaw, TextKind, Tree, TreeList};
-use virt_types::NoMemory;
+use virt_types::{NoMemory, OrNoMemory};
 
 /// What begins here.
 #[tactic(auto, unfolding(text_spec::specs::Element::ahead_of))]
@@ -55,7 +55,7 @@ pub(crate) enum Piece<'a> {
     Many(&'a [char]),
 }
 
-/// The text at the front, which begins as told, and what follows it.
+/// The text at the front, which begins in this way, and what follows it.
 #[tactic(auto, unfolding(text_spec::specs::Element::piece_at))]
 fn piece_at(ahead: Ahead, chars: &[char]) -> Result<(Piece<'_>, &[char]), Flaw>
     requires begins { spec.ahead_of chars.now ≡ ahead }
@@ -91,7 +91,7 @@ fn add_piece(text: &mut Vec<char>, piece: Piece<'_>) -> Result<(), NoMemory>
     Ok(())
 }
 
-/// What stands inside an element, and what follows it.
+/// What is inside an element, and what follows it.
 #[derive(Drop)]
 pub(crate) struct Inside<'a> {
     pub(crate) text: Vec<char>,
@@ -123,15 +123,15 @@ fn tree_of(alloc: Global, tag: Tag<'_>, text: &[char], children: TreeList) -> Re
     })
 }
 
-/// What stands inside an element up to its closing tag, where so many levels may follow.
+/// What is inside an element up to its closing tag, where so many levels may follow.
 #[cycle(element)]
 fn content_at<'a>(
     alloc: Global,
     depth: usize,
     room: usize,
     chars: &'a [char],
-) -> Result<Inside<'a>, Stop>
-    ensures reads { Gives inside_view result
+) -> Result<Inside<'a>, OrNoMemory<Flaw>>
+    ensures reads { UnlessNoMemory (viewed inside_view result)
         (spec.content_at (spec.element_at depth) (length chars.now + 1) room chars.now) }
     ensures within { IfOk result (λ i. length i.rest.now ≤ length chars.now) }
 {
@@ -141,7 +141,7 @@ fn content_at<'a>(
     let mut rest = chars;
     'content: loop {
         match ahead_of(rest) {
-            Ahead::Nothing => return Err(Stop::Flaw(ended())),
+            Ahead::Nothing => return Err(OrNoMemory::Fault(ended())),
             Ahead::ClosingTag => {
                 return Ok(Inside {
                     text,
@@ -162,7 +162,7 @@ fn content_at<'a>(
             ahead => {
                 let (piece, following) = match piece_at(ahead, rest) {
                     Ok(read) => read,
-                    Err(flaw) => return Err(Stop::Flaw(flaw)),
+                    Err(flaw) => return Err(OrNoMemory::Fault(flaw)),
                 };
                 add_piece(&mut text, piece)?;
                 rest = following;
@@ -179,8 +179,8 @@ fn after_opening<'a>(
     room: usize,
     tag: Tag<'a>,
     chars: &'a [char],
-) -> Result<Grown<'a>, Stop>
-    ensures reads { Gives grown_view result
+) -> Result<Grown<'a>, OrNoMemory<Flaw>>
+    ensures reads { UnlessNoMemory (viewed grown_view result)
         (spec.after_opening (spec.element_at depth) room (tag_view tag.entry, chars.now)) }
     ensures within { IfOk result (λ g. length g.rest.now ≤ length chars.now) }
 {
@@ -211,15 +211,15 @@ pub(crate) fn element_at(
     depth: usize,
     room: usize,
     chars: &[char],
-) -> Result<Grown<'_>, Stop>
-    ensures reads { Gives grown_view result (spec.element_at depth room chars.now) }
+) -> Result<Grown<'_>, OrNoMemory<Flaw>>
+    ensures reads { UnlessNoMemory (viewed grown_view result) (spec.element_at depth room chars.now) }
     ensures within { IfOk result (λ g. length g.rest.now < length chars.now) }
 {
     if depth == 0 {
-        return Err(Stop::Flaw(flaw(TextKind::Deep, chars)));
+        return Err(OrNoMemory::Fault(flaw(TextKind::Deep, chars)));
     }
     if room == 0 {
-        return Err(Stop::Flaw(flaw(TextKind::Wide, chars)));
+        return Err(OrNoMemory::Fault(flaw(TextKind::Wide, chars)));
     }
     let (tag, rest) = opening_tag_at(alloc, chars)?;
     after_opening(alloc, depth - 1, room - 1, tag, rest)

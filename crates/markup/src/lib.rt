@@ -10,13 +10,9 @@ mod names;
 mod read;
 mod reference;
 mod scan;
-mod stop;
 mod tag;
 mod write;
 
 pub use read::read_tree;
 pub use text_spec::{Pair, PairList, TextFault, TextKind, Tree, TreeList};
 pub use write::write_tree;
-
-#[cfg(test)]
-mod tests;

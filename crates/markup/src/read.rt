@@ -2,20 +2,19 @@
 ghost use Rattle.std.specs.Prelude.{◌≡◌, ℕ, ◌≤◌, length, drop, take, IfOk, encode_utf8_all, chars as chars_of, Result};
 ghost use Rattle.text_spec.specs.Text as spec;
 ghost use Rattle.text_spec.specs.Tree as spec_tree;
+ghost use Rattle.text_spec.specs.Tree.{seen};
 ghost use Rattle.text_spec.specs.declared.fault.TextFault.{TextFault};
-ghost use Rattle.markup.specs.Reads.{Reads};
+ghost use Rattle.virt_types.specs.Memory.{UnlessNoMemory};
+ghost use Rattle.markup.specs.Gives.{viewed};
 
 use crate::document::document;
-use crate::stop::Stop;
 use std::alloc::Global;
 use text_spec::{Flaw, TextFault, TextKind, Tree};
-use virt_types::{NoMemory, OrNoMemory};
-
-const MOST_BYTES: usize = 65536;
+use virt_types::{MOST_TEXT_BYTES, NoMemory, OrNoMemory};
 
 const BYTE_ORDER_MARK: char = '\u{FEFF}';
 
-/// The characters behind the mark that may stand in front.
+/// The characters after the mark that may stand in front.
 #[tactic(auto, unfolding(text_spec::specs::Text::unmarked))]
 fn unmarked(chars: &[char]) -> &[char]
     ensures { result.now ≡ spec.unmarked chars.now }
@@ -28,7 +27,7 @@ fn unmarked(chars: &[char]) -> &[char]
 
 /// How many bytes the characters take.
 fn length_in_bytes(chars: &[char]) -> u64
-    requires { length chars.now ≤ 65536 }
+    requires { length chars.now ≤ spec.most_bytes }
     ensures { result ≡ length (encode_utf8_all chars.now) }
 {
     let mut count = 0u64;
@@ -42,7 +41,7 @@ fn length_in_bytes(chars: &[char]) -> u64
 
 /// Where a flaw is, in bytes.
 fn fault_of(chars: &[char], flaw: Flaw) -> TextFault
-    requires { length chars.now ≤ 65536 }
+    requires { length chars.now ≤ spec.most_bytes }
     ensures { result ≡ spec.fault_of chars.now flaw }
 {
     let before = chars.split_at(chars.len().saturating_sub(flaw.left)).0;
@@ -63,14 +62,14 @@ pub(crate) fn characters(alloc: Global, text: &str) -> Result<Vec<char>, NoMemor
 /// The tree of these characters.
 #[tactic(auto, unfolding(text_spec::specs::Text::tree_of_characters))]
 fn tree_of_characters(alloc: Global, text: &str) -> Result<Tree, OrNoMemory<TextFault>>
-    requires { length text.now ≤ 65536 }
-    ensures { Reads result (spec.tree_of_characters (chars_of text.now)) }
+    requires { length text.now ≤ spec.most_bytes }
+    ensures { UnlessNoMemory (viewed seen result) (spec.tree_of_characters (chars_of text.now)) }
 {
     let chars = characters(alloc, text)?;
     match document(alloc, unmarked(chars.as_slice())) {
         Ok(tree) => Ok(tree),
-        Err(Stop::NoMemory) => Err(OrNoMemory::NoMemory),
-        Err(Stop::Flaw(flaw)) => Err(OrNoMemory::Fault(fault_of(chars.as_slice(), flaw))),
+        Err(OrNoMemory::NoMemory) => Err(OrNoMemory::NoMemory),
+        Err(OrNoMemory::Fault(flaw)) => Err(OrNoMemory::Fault(fault_of(chars.as_slice(), flaw))),
     }
 }
 
@@ -79,8 +78,8 @@ fn cut_short(
     at: u64,
     read: Result<Tree, OrNoMemory<TextFault>>,
 ) -> Result<Tree, OrNoMemory<TextFault>>
-    ensures { (found : Result spec_tree.Tree TextFault) → Reads read found
-        → Reads result (spec.cut_short at found) }
+    ensures { (found : Result spec_tree.Tree TextFault) → UnlessNoMemory (viewed seen read) found
+        → UnlessNoMemory (viewed seen result) (spec.cut_short at found) }
 {
     let cut = TextFault {
         at,
@@ -103,11 +102,11 @@ fn cut_short(
 /// tag's attributes, which go through an ordered set.
 #[tactic(auto, unfolding(text_spec::specs::Text::read_of))]
 pub fn read_tree(alloc: Global, text: &[u8]) -> Result<Tree, OrNoMemory<TextFault>>
-    ensures { Reads result (spec.read_of text.now) }
+    ensures { UnlessNoMemory (viewed seen result) (spec.read_of text.now) }
 {
-    if text.len() > MOST_BYTES {
+    if text.len() > MOST_TEXT_BYTES {
         return Err(OrNoMemory::Fault(TextFault {
-            at: MOST_BYTES as u64,
+            at: MOST_TEXT_BYTES as u64,
             kind: TextKind::TooLong,
         }));
     }

@@ -62,7 +62,7 @@ pub(crate) fn skip_blanks(chars: &[char]) -> &[char]
     rest
 }
 
-/// Whether a blank stands at the front.
+/// Whether a blank is at the front.
 pub(crate) fn starts_blank(chars: &[char]) -> bool
     ensures { result ≡ spec_starts_blank chars.now }
 {
@@ -93,7 +93,7 @@ pub(crate) fn expect<'a>(told: Flaw, word: &[char], chars: &'a [char]) -> Result
     Ok(rest)
 }
 
-/// The first so many characters, behind which the text goes on, and what follows them.
+/// The first so many characters, after which the text goes on, and what follows them.
 fn front(count: usize, chars: &[char]) -> Result<(&[char], &[char]), Flaw>
     requires { count ≤ length chars.now }
     ensures reads { Tells (λ r. (r.0.now, r.1.now)) result (spec_front count chars.now) }

@@ -1,7 +1,8 @@
 // Tags, with their attributes.
 ghost use Rattle.std.specs.Prelude.{◌≡◌, ℕ, ◌≤◌, ◌<◌, ◌+◌, List, [], ◌∷◌, length, IfOk, IfSome, option_map, encode_utf8_all};
 ghost use Rattle.text_spec.specs.Tag as spec;
-ghost use Rattle.markup.specs.Gives.{Tells, Gives};
+ghost use Rattle.virt_types.specs.Memory.{UnlessNoMemory};
+ghost use Rattle.markup.specs.Gives.{Tells, viewed};
 ghost use Rattle.markup.specs.Names.{Holds};
 ghost use Rattle.markup.specs.View.{tag_view, attribute_view};
 
@@ -10,11 +11,10 @@ use crate::declaration::{equals_at, quote_at};
 use crate::names::add_name;
 use crate::reference::reference_at;
 use crate::scan::{after, ended, expect, flaw, name_at, skip_blanks, starts_blank};
-use crate::stop::Stop;
 use std::alloc::Global;
 use std::collections::BTreeSet;
 use text_spec::{Flaw, Pair, PairList, TextKind};
-use virt_types::{NoMemory, Text};
+use virt_types::{NoMemory, OrNoMemory, Text};
 
 /// An opening tag, or one of an empty element.
 #[derive(Drop)]
@@ -52,8 +52,8 @@ fn value_at<'a>(
     told: Flaw,
     quote: char,
     chars: &'a [char],
-) -> Result<(Vec<char>, &'a [char]), Stop>
-    ensures reads { Gives (λ r. (r.0.items, r.1.now)) result
+) -> Result<(Vec<char>, &'a [char]), OrNoMemory<Flaw>>
+    ensures reads { UnlessNoMemory (viewed (λ r. (r.0.items, r.1.now)) result)
         (spec.value_at (length chars.now) told quote chars.now) }
     ensures within { IfOk result (λ r. length r.1.now ≤ length chars.now) }
 {
@@ -65,12 +65,12 @@ fn value_at<'a>(
         }
         let (next, following) = match value_char_at(told, rest) {
             Ok(read) => read,
-            Err(flaw) => return Err(Stop::Flaw(flaw)),
+            Err(flaw) => return Err(OrNoMemory::Fault(flaw)),
         };
         found.push(next)?;
         rest = following;
     }
-    Err(Stop::Flaw(ended()))
+    Err(OrNoMemory::Fault(ended()))
 }
 
 /// The value that stands in quotes of either kind.
@@ -79,8 +79,8 @@ fn quoted_at<'a>(
     alloc: Global,
     told: Flaw,
     chars: &'a [char],
-) -> Result<(Vec<char>, &'a [char]), Stop>
-    ensures reads { Gives (λ r. (r.0.items, r.1.now)) result (spec.quoted_at told chars.now) }
+) -> Result<(Vec<char>, &'a [char]), OrNoMemory<Flaw>>
+    ensures reads { UnlessNoMemory (viewed (λ r. (r.0.items, r.1.now)) result) (spec.quoted_at told chars.now) }
     ensures within { IfOk result (λ r. length r.1.now ≤ length chars.now) }
 {
     let (quote, rest) = quote_at(told, chars)?;
@@ -95,15 +95,15 @@ pub(crate) struct Attribute<'a> {
     pub(crate) rest: &'a [char],
 }
 
-/// The attribute of this name, from behind the name.
+/// The attribute of this name, from after the name.
 #[tactic(auto, unfolding(text_spec::specs::Tag::valued_at))]
 fn valued_at<'a>(
     alloc: Global,
     told: Flaw,
     name: &'a [char],
     chars: &'a [char],
-) -> Result<Attribute<'a>, Stop>
-    ensures reads { Gives attribute_view result (spec.valued_at told name.now chars.now) }
+) -> Result<Attribute<'a>, OrNoMemory<Flaw>>
+    ensures reads { UnlessNoMemory (viewed attribute_view result) (spec.valued_at told name.now chars.now) }
     ensures name { IfOk result (λ a. a.name.now ≡ name.now) }
     ensures within { IfOk result (λ a. length a.rest.now ≤ length chars.now) }
 {
@@ -119,16 +119,16 @@ fn attribute_at<'a>(
     told: Flaw,
     names: &mut BTreeSet<&'a [char]>,
     chars: &'a [char],
-) -> Result<Attribute<'a>, Stop>
+) -> Result<Attribute<'a>, OrNoMemory<Flaw>>
     ensures reads { (seen : List (List ℕ)) → Holds names.old seen
-        → Gives attribute_view result (spec.attribute_at told seen chars.now) }
+        → UnlessNoMemory (viewed attribute_view result) (spec.attribute_at told seen chars.now) }
     ensures names { IfOk result (λ a. (seen : List (List ℕ)) → Holds names.old seen
         → Holds names.new (a.name.now ∷ seen)) }
     ensures within { IfOk result (λ a. length a.rest.now < length chars.now) }
 {
     let (name, rest) = name_at(told, chars)?;
     if !add_name(names, name)? {
-        return Err(Stop::Flaw(told));
+        return Err(OrNoMemory::Fault(told));
     }
     valued_at(alloc, told, name, rest)
 }
@@ -142,7 +142,7 @@ fn pair_of(alloc: Global, attribute: &Attribute<'_>) -> Result<Pair, NoMemory>
     Ok(Pair { name, value })
 }
 
-/// The end of a tag, where it stands here: whether it is `/>`, and what follows it.
+/// The end of a tag, where it comes next: whether it is `/>`, and what follows it.
 #[tactic(auto, unfolding(text_spec::specs::Tag::tag_end_at))]
 fn tag_end_at(told: Flaw, chars: &[char]) -> Result<Option<(bool, &[char])>, Flaw>
     ensures reads { Tells (λ end. option_map (λ e. (e.0, e.1.now)) end) result
@@ -165,8 +165,8 @@ fn attributes_at<'a>(
     alloc: Global,
     start: &[char],
     chars: &'a [char],
-) -> Result<(PairList, bool, &'a [char]), Stop>
-    ensures reads { Gives (λ r. ((r.0, r.1), r.2.now)) result
+) -> Result<(PairList, bool, &'a [char]), OrNoMemory<Flaw>>
+    ensures reads { UnlessNoMemory (viewed (λ r. ((r.0, r.1), r.2.now)) result)
         (spec.attributes_at (length chars.now + 1) start.now [] chars.now) }
     ensures within { IfOk result (λ r. length r.2.now ≤ length chars.now) }
 {
@@ -178,12 +178,12 @@ fn attributes_at<'a>(
     'tag: loop {
         let after = skip_blanks(rest);
         match tag_end_at(tag, after) {
-            Err(flaw) => return Err(Stop::Flaw(flaw)),
+            Err(flaw) => return Err(OrNoMemory::Fault(flaw)),
             Ok(Some((is_empty, following))) => return Ok((found, is_empty, following)),
             Ok(None) => {}
         }
         if !starts_blank(rest) {
-            return Err(Stop::Flaw(tag));
+            return Err(OrNoMemory::Fault(tag));
         }
         let attribute = match attribute_at(alloc, told, &mut names, after) {
             Ok(attribute) => attribute,
@@ -199,8 +199,8 @@ fn attributes_at<'a>(
 pub(crate) fn opening_tag_at<'a>(
     alloc: Global,
     start: &'a [char],
-) -> Result<(Tag<'a>, &'a [char]), Stop>
-    ensures reads { Gives (λ r. (tag_view r.0, r.1.now)) result (spec.opening_tag_at start.now) }
+) -> Result<(Tag<'a>, &'a [char]), OrNoMemory<Flaw>>
+    ensures reads { UnlessNoMemory (viewed (λ r. (tag_view r.0, r.1.now)) result) (spec.opening_tag_at start.now) }
     ensures within { IfOk result (λ r. length r.1.now < length start.now) }
 {
     let (name, rest) = name_at(flaw(TextKind::Tag, start), after(1, start))?;

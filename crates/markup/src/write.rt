@@ -63,7 +63,7 @@ fn push_value(out: &mut Vec<char>, value: &[char]) -> Result<(), NoMemory>
     Ok(())
 }
 
-/// Adds an attribute behind a blank.
+/// Adds an attribute after a blank.
 fn push_attribute(alloc: Global, out: &mut Vec<char>, pair: &Pair) -> Result<(), NoMemory>
     ensures { OnOk result (out.new.items ≡ out.old.items ++ spec.attribute_written pair.now) }
 {
@@ -77,7 +77,7 @@ fn push_attribute(alloc: Global, out: &mut Vec<char>, pair: &Pair) -> Result<(),
     Ok(())
 }
 
-/// Adds attributes, each behind a blank.
+/// Adds attributes, each after a blank.
 fn push_attributes(alloc: Global, out: &mut Vec<char>, pairs: &[Pair]) -> Result<(), NoMemory>
     ensures { OnOk result (out.new.items ≡ out.old.items
         ++ flat_map spec.attribute_written pairs.now) }
@@ -88,7 +88,7 @@ fn push_attributes(alloc: Global, out: &mut Vec<char>, pairs: &[Pair]) -> Result
     Ok(())
 }
 
-/// Adds an opening tag behind these blanks, up to its end.
+/// Adds an opening tag after these blanks, up to its end.
 fn push_opened(
     alloc: Global,
     out: &mut Vec<char>,
@@ -136,7 +136,7 @@ fn push_without_children(
     push_closing(out, name)
 }
 
-/// Adds elements behind these blanks, one after another.
+/// Adds elements after these blanks, one after another.
 #[cycle(write)]
 fn push_trees(
     alloc: Global,
@@ -177,7 +177,7 @@ fn push_with_children(
     push_closing(out, name)
 }
 
-/// Adds an element behind these blanks.
+/// Adds an element after these blanks.
 #[cycle(write)]
 fn push_tree(
     alloc: Global,

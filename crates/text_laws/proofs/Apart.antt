@@ -61,7 +61,7 @@ macs_apart : (m n : Mac) → IsMac m → IsMac n → bytes_eq m.bytes n.bytes �
 macs_apart m n p q e =
     not_both (bytes_eq (mac_key m) (mac_key n)) (λ h. true≢false (sym (eq_bytes m.bytes n.bytes (one_mac m n p q (same_bytes (mac_key m) (mac_key n) h))) ∙ e))
 
--- ---- each interface and those behind it
+-- ---- each interface and those after it
 abbrev Clear : Option Mac → Interface → Type 0
 Clear own k = clash own k.mac ≡ false
 
@@ -141,7 +141,7 @@ clear_of mac (i ∷ is) e =
     let parts = either_false (has_mac mac i) (is_taken is mac) e in
     (has_by mac i i.mac refl parts.0, clear_of mac is parts.1)
 
--- an interface that was filled in, among those filled in before it and those behind it
+-- an interface that was filled in, among those filled in before it and those after it
 record Settled (before is : List Interface) (i j : Interface) : Type 0 where
   front : AllByRecursion (λ b. clash b.mac j.mac ≡ false) before
   back : AllByRecursion (Clear j.mac) is
@@ -150,10 +150,10 @@ back_of_all : {A : Type 0} (P : A → Type 0) (xs ys : List A) → AllByRecursio
 back_of_all P [] ys all = all
 back_of_all P (x ∷ xs) ys all = back_of_all P xs ys all.1
 
-settled : (before is : List Interface) (i j : Interface) (own : Option Mac) → i.mac ≡ own → IsMacFilled (before ++ i ∷ is) i own j
+settled : (words : List ℕ) (before is : List Interface) (i j : Interface) (own : Option Mac) → i.mac ≡ own → IsMacFilled words (before ++ i ∷ is) i own j
     → length (before ++ i ∷ is) < tails → AllByRecursion (λ b. clash b.mac i.mac ≡ false) before → AllByRecursion (Clear i.mac) is
     → Settled before is i j
-settled before is i j None e filled few front back =
+settled words before is i j None e filled few front back =
     let mac = mac_among (before ++ i ∷ is) filled.0 in
     let clear = clear_of mac (before ++ i ∷ is) (free_among (before ++ i ∷ is) filled.0 few) in
     subst (Settled before is i) (sym filled.1)
@@ -162,8 +162,8 @@ settled before is i j None e filled few front back =
       back = each_all (λ k. clash k.mac (Some mac) ≡ false) (Clear (Some mac)) (λ k h. turned_clash k.mac (Some mac) h) is
           (back_of_all (λ k. clash k.mac (Some mac) ≡ false) before (i ∷ is) clear).1;
     })
-settled before is i j (Some m) e filled few front back =
-    subst (Settled before is i) (sym filled) (record { front = front; back = back })
+settled words before is i j (Some m) e filled few front back =
+    subst (Settled before is i) (sym filled.0) (record { front = front; back = back })
 
 -- each of these interfaces, apart from those filled in before it
 abbrev Behind : List Interface → Interface → Type 0
@@ -173,19 +173,19 @@ record Kept (before js : List Interface) : Type 0 where
   apart : AllApart js
   behind : AllByRecursion (Behind before) js
 
-filled_apart : (before is js : List Interface) → AreMacsFilled before is js → length (before ++ is) < tails → AllApart is → AllByRecursion (Behind before) is
+filled_apart : (words : List ℕ) (before is js : List Interface) → AreMacsFilled words before is js → length (before ++ is) < tails → AllApart is → AllByRecursion (Behind before) is
     → Kept before js
-filled_apart before [] [] filled few apart behind = record { apart = tt; behind = tt }
-filled_apart before [] (j ∷ js) filled few apart behind = absurd filled
-filled_apart before (i ∷ is) [] filled few apart behind = absurd filled
-filled_apart before (i ∷ is) (j ∷ js) filled few apart behind =
-    let now = settled before is i j i.mac refl filled.0 few behind.0 apart.0 in
+filled_apart words before [] [] filled few apart behind = record { apart = tt; behind = tt }
+filled_apart words before [] (j ∷ js) filled few apart behind = absurd filled
+filled_apart words before (i ∷ is) [] filled few apart behind = absurd filled
+filled_apart words before (i ∷ is) (j ∷ js) filled few apart behind =
+    let now = settled filled.0 before is i j i.mac refl filled.2 few behind.0 apart.0 in
     let more : AllByRecursion (Behind (before ++ j ∷ [])) is =
     two_all (Behind before) (Clear j.mac) (Behind (before ++ j ∷ []))
     (λ k p q. both_all (λ b. clash b.mac k.mac ≡ false) before (j ∷ []) p (q, tt)) is behind.1 now.back in
     let long : length ((before ++ j ∷ []) ++ is) < tails =
     omega (arith, few, length-append (before ++ j ∷ []) is, length-append before (j ∷ []), length-append before (i ∷ is)) in
-    let rest = filled_apart (before ++ j ∷ []) is js filled.1 long apart.1 more in
+    let rest = filled_apart filled.1 (before ++ j ∷ []) is js filled.3 long apart.1 more in
     record {
       apart = (
         each_all (Behind (before ++ j ∷ [])) (Clear j.mac) (λ k h. (back_of_all (λ b. clash b.mac k.mac ≡ false) before (j ∷ []) h).0) js rest.behind,
@@ -202,22 +202,22 @@ none_before [] = tt
 none_before (i ∷ is) = (tt, none_before is)
 
 -- ---- all interfaces
-address_by : (before : List Interface) (i j : Interface) (own : Option Mac) → i.mac ≡ own → IsMacFilled before i own j → IsInterface i → IsInterface j
-address_by before i j None e filled is = subst IsInterface (sym filled.1) (among_is before filled.0)
-address_by before i j (Some m) e filled is = subst IsInterface (sym filled) is
+address_by : (words : List ℕ) (before : List Interface) (i j : Interface) (own : Option Mac) → i.mac ≡ own → IsMacFilled words before i own j → IsInterface i → IsInterface j
+address_by words before i j None e filled is = subst IsInterface (sym filled.1) (among_is before filled.0)
+address_by words before i j (Some m) e filled is = subst IsInterface (sym filled.0) is
 
-addresses : (before is js : List Interface) → AreMacsFilled before is js → AllByRecursion IsInterface is → AllByRecursion IsInterface js
-addresses before [] [] filled all = tt
-addresses before [] (j ∷ js) filled all = absurd filled
-addresses before (i ∷ is) [] filled all = absurd filled
-addresses before (i ∷ is) (j ∷ js) filled all =
-    (address_by (before ++ i ∷ is) i j i.mac refl filled.0 all.0, addresses (before ++ j ∷ []) is js filled.1 all.1)
+addresses : (words : List ℕ) (before is js : List Interface) → AreMacsFilled words before is js → AllByRecursion IsInterface is → AllByRecursion IsInterface js
+addresses words before [] [] filled all = tt
+addresses words before [] (j ∷ js) filled all = absurd filled
+addresses words before (i ∷ is) [] filled all = absurd filled
+addresses words before (i ∷ is) (j ∷ js) filled all =
+    (address_by filled.0 (before ++ i ∷ is) i j i.mac refl filled.2 all.0, addresses filled.1 (before ++ j ∷ []) is js filled.3 all.1)
 
-pub filled_addresses : (is js : List Interface) → AreMacsFilled [] is js → AllByRecursion IsInterface is → AllByRecursion IsInterface js
-filled_addresses is js filled all = addresses [] is js filled all
+pub filled_addresses : (words : List ℕ) (is js : List Interface) → AreMacsFilled words [] is js → AllByRecursion IsInterface is → AllByRecursion IsInterface js
+filled_addresses words is js filled all = addresses words [] is js filled all
 
-pub filled_keys : (is js : List Interface) → AreMacsFilled [] is js → length is < tails → AllByRecursion IsInterface is → AreInterfacesApart [] is
+pub filled_keys : (words : List ℕ) (is js : List Interface) → AreMacsFilled words [] is js → length is < tails → AllByRecursion IsInterface is → AreInterfacesApart [] is
     → AreInterfacesApart [] js
-filled_keys is js filled few all apart =
-    let kept = filled_apart [] is js filled few (all_apart [] is apart) (none_before is) in
-    keys_from [] js (filled_addresses is js filled all) kept.apart (all_free js)
+filled_keys words is js filled few all apart =
+    let kept = filled_apart words [] is js filled few (all_apart [] is apart) (none_before is) in
+    keys_from [] js (filled_addresses words is js filled all) kept.apart (all_free js)

@@ -105,7 +105,7 @@ boots_row : (d : DomainDef) → wrong_at (each (place.Inside element.Os element.
 unfolding wrong_at
 boots_row d = rw (at.os_is d, boot_in_os d.os) (boots_good (place.Inside element.Os element.Boot) d.os.boot)
 
--- ---- what is wanted where the guest goes down
+-- ---- what follows when the guest goes down
 action_row : (n : ElementName) (a : LifecycleAction) (t : Tree) → first_of n t ≡ Some (worded n [] (lifecycle_action_word a))
     → wrong_at (optional (place.Child n) source.Text content.LifecycleAction) t ≡ None
 unfolding content_fault

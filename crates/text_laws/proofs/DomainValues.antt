@@ -164,7 +164,7 @@ os_back : (d : DomainDef) → os_of (domain_tree d) ≡ d.os
 unfolding os_of
 os_back d = rw (at.os_is d, type_in_os d.os, arch_is d.os, machine_is d.os, boot_in_os d.os, boots_back d.os.boot)
 
--- ---- what is wanted where the guest goes down
+-- ---- what follows when the guest goes down
 lifecycle_is : (n : ElementName) (a default : LifecycleAction) (t : Tree) → first_of n t ≡ Some (worded n [] (lifecycle_action_word a))
     → lifecycle_in n default t ≡ a
 unfolding lifecycle_in

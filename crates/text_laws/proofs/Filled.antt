@@ -103,19 +103,19 @@ unfilled_by i (Some m) e =
     subst (λ j. AreNoLonger (interface_tree i ∷ []) (interface_tree j ∷ [])) (sym (stood_by i (Some m) e ∙ own_kept i (Some m) e)) (as_long (interface_tree i ∷ []))
 
 -- an interface that was filled in, and the same with any address in its place
-filled_by : (before : List Interface) (i j : Interface) (own : Option Mac) → i.mac ≡ own → IsMacFilled before i own j
+filled_by : (words : List ℕ) (before : List Interface) (i j : Interface) (own : Option Mac) → i.mac ≡ own → IsMacFilled words before i own j
     → AreNoLonger (interface_tree j ∷ []) (interface_tree (with_mac i) ∷ [])
-filled_by before i j None e is =
+filled_by words before i j None e is =
     subst (λ k. AreNoLonger (interface_tree j ∷ []) (interface_tree k ∷ [])) (sym (stood_by i None e))
     (subst (λ k. AreNoLonger (interface_tree k ∷ []) (interface_tree (record i { mac = Some any_mac }) ∷ [])) (sym is.1)
     (interface_longer i (Some (mac_among before is.0)) (Some any_mac) (mac_longer (mac_among before is.0) any_mac (among_is before is.0) any_is)))
-filled_by before i j (Some m) e is =
-    subst (λ k. AreNoLonger (interface_tree k ∷ []) (interface_tree (with_mac i) ∷ [])) (sym is) (unfilled_by i i.mac refl)
+filled_by words before i j (Some m) e is =
+    subst (λ k. AreNoLonger (interface_tree k ∷ []) (interface_tree (with_mac i) ∷ [])) (sym is.0) (unfilled_by i i.mac refl)
 
 -- nothing stands in where an interface was filled in
-settled_by : (before : List Interface) (i j : Interface) (own : Option Mac) → i.mac ≡ own → IsMacFilled before i own j → with_mac j ≡ j
-settled_by before i j None e is = ap with_mac is.1 ∙ sym is.1
-settled_by before i j (Some m) e is = ap with_mac is ∙ (stood_by i (Some m) e ∙ (own_kept i (Some m) e ∙ sym is))
+settled_by : (words : List ℕ) (before : List Interface) (i j : Interface) (own : Option Mac) → i.mac ≡ own → IsMacFilled words before i own j → with_mac j ≡ j
+settled_by words before i j None e is = ap with_mac is.1 ∙ sym is.1
+settled_by words before i j (Some m) e is = ap with_mac is.0 ∙ (stood_by i (Some m) e ∙ (own_kept i (Some m) e ∙ sym is.0))
 
 all_unfilled : (is : List Interface) → AreNoLonger (map interface_tree is) (map interface_tree (map with_mac is))
 all_unfilled [] = as_long []
@@ -123,20 +123,20 @@ all_unfilled (i ∷ is) =
     both_longer (interface_tree i ∷ []) (interface_tree (with_mac i) ∷ []) (map interface_tree is) (map interface_tree (map with_mac is))
     (unfilled_by i i.mac refl) (all_unfilled is)
 
-all_filled : (before is js : List Interface) → AreMacsFilled before is js → AreNoLonger (map interface_tree js) (map interface_tree (map with_mac is))
-all_filled before [] [] are = as_long []
-all_filled before [] (j ∷ js) are = absurd are
-all_filled before (i ∷ is) [] are = absurd are
-all_filled before (i ∷ is) (j ∷ js) are =
+all_filled : (words : List ℕ) (before is js : List Interface) → AreMacsFilled words before is js → AreNoLonger (map interface_tree js) (map interface_tree (map with_mac is))
+all_filled words before [] [] are = as_long []
+all_filled words before [] (j ∷ js) are = absurd are
+all_filled words before (i ∷ is) [] are = absurd are
+all_filled words before (i ∷ is) (j ∷ js) are =
     both_longer (interface_tree j ∷ []) (interface_tree (with_mac i) ∷ []) (map interface_tree js) (map interface_tree (map with_mac is))
-    (filled_by (before ++ i ∷ is) i j i.mac refl are.0) (all_filled (before ++ j ∷ []) is js are.1)
+    (filled_by are.0 (before ++ i ∷ is) i j i.mac refl are.2) (all_filled are.1 (before ++ j ∷ []) is js are.3)
 
-all_settled : (before is js : List Interface) → AreMacsFilled before is js → map with_mac js ≡ js
-all_settled before [] [] are = refl
-all_settled before [] (j ∷ js) are = absurd are
-all_settled before (i ∷ is) [] are = absurd are
-all_settled before (i ∷ is) (j ∷ js) are =
-    ap (λ k. k ∷ map with_mac js) (settled_by (before ++ i ∷ is) i j i.mac refl are.0) ∙ ap (λ ks. j ∷ ks) (all_settled (before ++ j ∷ []) is js are.1)
+all_settled : (words : List ℕ) (before is js : List Interface) → AreMacsFilled words before is js → map with_mac js ≡ js
+all_settled words before [] [] are = refl
+all_settled words before [] (j ∷ js) are = absurd are
+all_settled words before (i ∷ is) [] are = absurd are
+all_settled words before (i ∷ is) (j ∷ js) are =
+    ap (λ k. k ∷ map with_mac js) (settled_by are.0 (before ++ i ∷ is) i j i.mac refl are.2) ∙ ap (λ ks. j ∷ ks) (all_settled are.1 (before ++ j ∷ []) is js are.3)
 
 -- ---- domains
 gathered_longer : (n : ElementName) (ts us : List Tree) → AreNoLonger ts us → AreNoLonger (gathered n ts) (gathered n us)
@@ -182,15 +182,15 @@ uuid_unfilled : (u : Option (List ℕ)) → AreNoLonger (present uuid_tree u) (p
 uuid_unfilled None = none_longer (uuid_tree any_uuid ∷ [])
 uuid_unfilled (Some u) = as_long (uuid_tree u ∷ [])
 
-uuid_filled : (u v : Option (List ℕ)) → IsUuidFilled u v → AreNoLonger (present uuid_tree v) (present uuid_tree (Some (unwrap_or u any_uuid)))
-uuid_filled None None is = none_longer (uuid_tree any_uuid ∷ [])
-uuid_filled None (Some v) is = uuid_longer v any_uuid
-uuid_filled (Some u) v is = subst (λ w. AreNoLonger (present uuid_tree w) (uuid_tree u ∷ [])) (sym is) (as_long (uuid_tree u ∷ []))
+uuid_filled : (words : List ℕ) (u v : Option (List ℕ)) → IsUuidFilled words u v → AreNoLonger (present uuid_tree v) (present uuid_tree (Some (unwrap_or u any_uuid)))
+uuid_filled words None None is = none_longer (uuid_tree any_uuid ∷ [])
+uuid_filled words None (Some v) is = uuid_longer v any_uuid
+uuid_filled words (Some u) v is = subst (λ w. AreNoLonger (present uuid_tree w) (uuid_tree u ∷ [])) (sym is.0) (as_long (uuid_tree u ∷ []))
 
-uuid_settled : (u v : Option (List ℕ)) → IsUuidFilled u v → Some (unwrap_or v any_uuid) ≡ v
-uuid_settled None None is = absurd is
-uuid_settled None (Some v) is = refl
-uuid_settled (Some u) v is = ap (λ w. Some (unwrap_or w any_uuid)) is ∙ sym is
+uuid_settled : (words : List ℕ) (u v : Option (List ℕ)) → IsUuidFilled words u v → Some (unwrap_or v any_uuid) ≡ v
+uuid_settled words None None is = let none = is.2 in cc
+uuid_settled words None (Some v) is = refl
+uuid_settled words (Some u) v is = ap (λ w. Some (unwrap_or w any_uuid)) is.0 ∙ sym is.0
 
 pub domain_unfilled_fits : (d : DomainDef) → domain_fits d ≡ true → fits (domain_tree d) ≡ true
 unfolding domain_fits stood_in
@@ -201,18 +201,18 @@ domain_unfilled_fits d e =
 pub domain_filled_fits : (d f : DomainDef) → domain_fits d ≡ true → IsFilled d f → fits (domain_tree f) ≡ true
 unfolding domain_fits stood_in
 domain_filled_fits d f e is =
-    let same : f ≡ with_parts d f.uuid f.interfaces = is.others in
+    let same : f ≡ with_parts d f.uuid f.interfaces = is.1.others in
     fits_too (domain_tree f) (domain_tree (stood_in d))
     (subst (λ g. AreNoLonger (domain_tree g ∷ []) (domain_tree (stood_in d) ∷ [])) (sym same)
-    (domain_longer d f.uuid (Some (unwrap_or d.uuid any_uuid)) f.interfaces (map with_mac d.interfaces) (uuid_filled d.uuid f.uuid is.uuid)
-    (all_filled [] d.interfaces f.interfaces is.macs)))
+    (domain_longer d f.uuid (Some (unwrap_or d.uuid any_uuid)) f.interfaces (map with_mac d.interfaces) (uuid_filled is.1.for_uuid d.uuid f.uuid is.1.uuid)
+    (all_filled is.1.for_macs [] d.interfaces f.interfaces is.1.macs)))
     e
 
 domain_settled : (d f : DomainDef) → IsFilled d f → stood_in f ≡ f
 unfolding stood_in
 domain_settled d f is =
-    ap (λ u. with_parts f u (map with_mac f.interfaces)) (uuid_settled d.uuid f.uuid is.uuid)
-    ∙ ap (λ js. with_parts f f.uuid js) (all_settled [] d.interfaces f.interfaces is.macs)
+    ap (λ u. with_parts f u (map with_mac f.interfaces)) (uuid_settled is.1.for_uuid d.uuid f.uuid is.1.uuid)
+    ∙ ap (λ js. with_parts f f.uuid js) (all_settled is.1.for_macs [] d.interfaces f.interfaces is.1.macs)
 
 pub domain_filled_again : (d f : DomainDef) → domain_fits d ≡ true → IsFilled d f → domain_fits f ≡ true
 unfolding domain_fits
@@ -224,9 +224,9 @@ unfolding device_fits device_tree
 device_unfilled_fits (device.Disk d) e = e
 device_unfilled_fits (device.Interface i) e = fits_too (interface_tree i) (interface_tree (with_mac i)) (unfilled_by i i.mac refl) e
 
-alone_by : (i : Interface) (own : Option Mac) (f : DeviceDef) → i.mac ≡ own → IsAloneFilled i own f
+alone_by : (words : List ℕ) (i : Interface) (own : Option Mac) (f : DeviceDef) → i.mac ≡ own → IsAloneFilled words i own f
     → (j : Interface) × (f ≡ device.Interface j) × AreNoLonger (interface_tree j ∷ []) (interface_tree (with_mac i) ∷ []) × (with_mac j ≡ j)
-alone_by i None f e is =
+alone_by words i None f e is =
     let mac = local_mac (is.0 % tails) in (
       with_own i mac,
       is.1,
@@ -234,18 +234,18 @@ alone_by i None f e is =
           (interface_longer i (Some mac) (Some any_mac) (mac_longer mac any_mac (local_is (is.0 % tails) (omega arith)) any_is)),
       refl,
     )
-alone_by i (Some m) f e is = (i, is, unfilled_by i i.mac refl, stood_by i (Some m) e ∙ own_kept i (Some m) e)
+alone_by words i (Some m) f e is = (i, is.0, unfilled_by i i.mac refl, stood_by i (Some m) e ∙ own_kept i (Some m) e)
 
 pub device_filled_fits : (d f : DeviceDef) → device_fits d ≡ true → IsDeviceFilled d f → fits (device_tree f) ≡ true
 unfolding device_fits device_tree
-device_filled_fits (device.Disk d) f e is = ap (λ g. fits (device_tree g)) is ∙ e
+device_filled_fits (device.Disk d) f e is = ap (λ g. fits (device_tree g)) is.1.0 ∙ e
 device_filled_fits (device.Interface i) f e is =
-    let one = alone_by i i.mac f refl is in
+    let one = alone_by is.0 i i.mac f refl is.1 in
     ap (λ g. fits (device_tree g)) one.1 ∙ fits_too (interface_tree one.0) (interface_tree (with_mac i)) one.2 e
 
 pub device_filled_again : (d f : DeviceDef) → device_fits d ≡ true → IsDeviceFilled d f → device_fits f ≡ true
 unfolding device_fits device_tree
-device_filled_again (device.Disk d) f e is = ap device_fits is ∙ e
+device_filled_again (device.Disk d) f e is = ap device_fits is.1.0 ∙ e
 device_filled_again (device.Interface i) f e is =
-    let one = alone_by i i.mac f refl is in
+    let one = alone_by is.0 i i.mac f refl is.1 in
     ap device_fits one.1 ∙ (ap (λ j. fits (interface_tree j)) one.3 ∙ fits_too (interface_tree one.0) (interface_tree (with_mac i)) one.2 e)

@@ -45,36 +45,37 @@ version_is high low =
     let bytes = to_be_bytes w128 (high * 2 ^ 64 + low) in
     marked bytes (high_length 16 (high * 2 ^ 64 + low)) (high_bytes 16 (high * 2 ^ 64 + low))
 
-uuid_is : (u v : Option (List ℕ)) → IsUuidFilled u v → IsUuidOf u → IsUuidOf v
-uuid_is None None filled is = tt
-uuid_is None (Some v) filled is = subst (λ x. IsUuidOf (Some x)) (sym filled.2) (version_is filled.0 filled.1)
-uuid_is (Some u) v filled is = subst IsUuidOf (sym filled) is
+uuid_is : (words : List ℕ) (u v : Option (List ℕ)) → IsUuidFilled words u v → IsUuidOf u → IsUuidOf v
+uuid_is words None None filled is = tt
+uuid_is words None (Some v) filled is = subst IsUuidOf (sym filled.2) (version_is filled.0 filled.1)
+uuid_is words (Some u) v filled is = subst IsUuidOf (sym filled.0) is
 
 -- ---- interfaces
-text_by : (before : List Interface) (i j : Interface) (own : Option Mac) → IsMacFilled before i own j → IsInterfaceText i → IsInterfaceText j
-text_by before i j None filled is = subst IsInterfaceText (sym filled.1) is
-text_by before i j (Some m) filled is = subst IsInterfaceText (sym filled) is
+text_by : (words : List ℕ) (before : List Interface) (i j : Interface) (own : Option Mac) → IsMacFilled words before i own j → IsInterfaceText i → IsInterfaceText j
+text_by words before i j None filled is = subst IsInterfaceText (sym filled.1) is
+text_by words before i j (Some m) filled is = subst IsInterfaceText (sym filled.0) is
 
-texts : (before is js : List Interface) → AreMacsFilled before is js → AllByRecursion IsInterfaceText is → AllByRecursion IsInterfaceText js
-texts before [] [] filled all = tt
-texts before [] (j ∷ js) filled all = absurd filled
-texts before (i ∷ is) [] filled all = absurd filled
-texts before (i ∷ is) (j ∷ js) filled all = (text_by (before ++ i ∷ is) i j i.mac filled.0 all.0, texts (before ++ j ∷ []) is js filled.1 all.1)
+texts : (words : List ℕ) (before is js : List Interface) → AreMacsFilled words before is js → AllByRecursion IsInterfaceText is → AllByRecursion IsInterfaceText js
+texts words before [] [] filled all = tt
+texts words before [] (j ∷ js) filled all = absurd filled
+texts words before (i ∷ is) [] filled all = absurd filled
+texts words before (i ∷ is) (j ∷ js) filled all =
+    (text_by filled.0 (before ++ i ∷ is) i j i.mac filled.2 all.0, texts filled.1 (before ++ j ∷ []) is js filled.3 all.1)
 
-as_many : (before is js : List Interface) → AreMacsFilled before is js → length js ≡ length is
-as_many before [] [] filled = refl
-as_many before [] (j ∷ js) filled = absurd filled
-as_many before (i ∷ is) [] filled = absurd filled
-as_many before (i ∷ is) (j ∷ js) filled = ap suc (as_many (before ++ j ∷ []) is js filled.1)
+as_many : (words : List ℕ) (before is js : List Interface) → AreMacsFilled words before is js → length js ≡ length is
+as_many words before [] [] filled = refl
+as_many words before [] (j ∷ js) filled = absurd filled
+as_many words before (i ∷ is) [] filled = absurd filled
+as_many words before (i ∷ is) (j ∷ js) filled = ap suc (as_many filled.1 (before ++ j ∷ []) is js filled.3)
 
 -- ---- domains
-module _ (d : DomainDef) (u : Option (List ℕ)) (js : List Interface) (macs : AreMacsFilled [] d.interfaces js) where
-  values_filled : IsDomain d → IsUuidFilled d.uuid u → IsDomain (with_parts d u js)
-  values_filled is uuid =
+module _ (d : DomainDef) (u : Option (List ℕ)) (js : List Interface) (for_macs : List ℕ) (macs : AreMacsFilled for_macs [] d.interfaces js) where
+  values_filled : IsDomain d → (for_uuid : List ℕ) → IsUuidFilled for_uuid d.uuid u → IsDomain (with_parts d u js)
+  values_filled is for_uuid uuid =
       let few : length d.interfaces < tails = omega (arith, is.few) in
       record {
         name = is.name;
-        uuid = uuid_is d.uuid u uuid is.uuid;
+        uuid = uuid_is for_uuid d.uuid u uuid is.uuid;
         guest = is.guest;
         memory = is.memory;
         current_memory = is.current_memory;
@@ -82,9 +83,9 @@ module _ (d : DomainDef) (u : Option (List ℕ)) (js : List Interface) (macs : A
         current_vcpus = is.current_vcpus;
         disks = is.disks;
         disks_apart = is.disks_apart;
-        interfaces = filled_addresses d.interfaces js macs is.interfaces;
-        interfaces_apart = filled_keys d.interfaces js macs few is.interfaces is.interfaces_apart;
-        few = omega (arith, is.few, as_many [] d.interfaces js macs);
+        interfaces = filled_addresses for_macs d.interfaces js macs is.interfaces;
+        interfaces_apart = filled_keys for_macs d.interfaces js macs few is.interfaces is.interfaces_apart;
+        few = omega (arith, is.few, as_many for_macs [] d.interfaces js macs);
       }
 
   texts_filled : IsDomainText d → IsDomainText (with_parts d u js)
@@ -98,7 +99,7 @@ module _ (d : DomainDef) (u : Option (List ℕ)) (js : List Interface) (macs : A
     machine = is.machine;
     emulator = is.emulator;
     disks = is.disks;
-    interfaces = texts [] d.interfaces js macs is.interfaces;
+    interfaces = texts for_macs [] d.interfaces js macs is.interfaces;
     serials = is.serials;
     consoles = is.consoles;
     graphics = is.graphics;
@@ -107,10 +108,10 @@ module _ (d : DomainDef) (u : Option (List ℕ)) (js : List Interface) (macs : A
 
 pub domain_filled_sound : (d f : DomainDef) → IsSound d → IsFilled d f → IsSound f
 domain_filled_sound d f is filled =
-    let same : f ≡ with_parts d f.uuid f.interfaces = filled.others in
+    let same : f ≡ with_parts d f.uuid f.interfaces = filled.1.others in
     record {
-      values = subst IsDomain (sym same) (values_filled d f.uuid f.interfaces filled.macs is.values filled.uuid);
-      texts = subst IsDomainText (sym same) (texts_filled d f.uuid f.interfaces filled.macs is.texts);
+      values = subst IsDomain (sym same) (values_filled d f.uuid f.interfaces filled.1.for_macs filled.1.macs is.values filled.1.for_uuid filled.1.uuid);
+      texts = subst IsDomainText (sym same) (texts_filled d f.uuid f.interfaces filled.1.for_macs filled.1.macs is.texts);
       fitting = domain_filled_again d f is.fitting filled;
     }
 
@@ -119,14 +120,14 @@ record Good (d : DeviceDef) : Type 0 where
   values : IsDevice d
   texts : IsDeviceText d
 
-alone_by : (i : Interface) (own : Option Mac) (f : DeviceDef) → IsAloneFilled i own f → IsInterface i → IsInterfaceText i → Good f
-alone_by i None f filled is texts =
+alone_by : (words : List ℕ) (i : Interface) (own : Option Mac) (f : DeviceDef) → IsAloneFilled words i own f → IsInterface i → IsInterfaceText i → Good f
+alone_by words i None f filled is texts =
     subst Good (sym filled.1) (record { values = local_is (filled.0 % tails) (omega arith); texts = texts })
-alone_by i (Some m) f filled is texts = subst Good (sym filled) (record { values = is; texts = texts })
+alone_by words i (Some m) f filled is texts = subst Good (sym filled.0) (record { values = is; texts = texts })
 
 good_filled : (d f : DeviceDef) → IsDeviceFilled d f → IsDevice d → IsDeviceText d → Good f
-good_filled (device.Disk d) f filled is texts = subst Good (sym filled) (record { values = is; texts = texts })
-good_filled (device.Interface i) f filled is texts = alone_by i i.mac f filled is texts
+good_filled (device.Disk d) f filled is texts = subst Good (sym filled.1.0) (record { values = is; texts = texts })
+good_filled (device.Interface i) f filled is texts = alone_by filled.0 i i.mac f filled.1 is texts
 
 pub device_filled_sound : (d f : DeviceDef) → IsSoundDevice d → IsDeviceFilled d f → IsSoundDevice f
 device_filled_sound d f is filled =

@@ -27,7 +27,7 @@ pub record Full (depth room : ℕ) (g : Grown) : Type 0 where
 ContentReading : Type 0
 ContentReading = ℕ → List ℕ → Result Inside Flaw
 
--- a text and elements, and what was read behind them
+-- a text and elements, and what was read after them
 abbrev joined : List ℕ → List Tree → Inside → Inside
 joined text children i = record i { text = text ++ i.text; children = before children i.children }
 

@@ -28,7 +28,7 @@ pub room_ascii : (c : ℕ) (cs : List ℕ) → c < 128 → room (c ∷ cs) ≡ 1
 room_ascii c cs small = ap (λ xs. length (xs ++ encode_utf8_all cs)) (encode_ascii c small) ∙ omega arith
 
 -- ---- an element's content
-closing_room : (name : List ℕ) → room (closing name) ≡ 4 + room name
+pub closing_room : (name : List ℕ) → room (closing name) ≡ 4 + room name
 closing_room name =
     omega (
       arith,
@@ -39,14 +39,14 @@ closing_room name =
       room_ascii 10 [] (omega arith),
     )
 
-empty_room : room (codes "/>" ++ 10 ∷ []) ≡ 3
+pub empty_room : room (codes "/>" ++ 10 ∷ []) ≡ 3
 empty_room =
     omega (arith, room_ascii 47 (62 ∷ 10 ∷ []) (omega arith), room_ascii 62 (10 ∷ []) (omega arith), room_ascii 10 [] (omega arith))
 
-worded_room : (name : List ℕ) (c : ℕ) (x : List ℕ) → room (without_children name (c ∷ x)) ≡ 5 + (room (c ∷ x) + room name)
+pub worded_room : (name : List ℕ) (c : ℕ) (x : List ℕ) → room (without_children name (c ∷ x)) ≡ 5 + (room (c ∷ x) + room name)
 worded_room name c x = omega (arith, room_both (62 ∷ c ∷ x) (closing name), room_ascii 62 (c ∷ x) (omega arith), closing_room name)
 
-with_room : (inset name x inner : List ℕ) → room (with_children inset name x inner) ≡ 6 + (room x + (room inner + (room inset + room name)))
+pub with_room : (inset name x inner : List ℕ) → room (with_children inset name x inner) ≡ 6 + (room x + (room inner + (room inset + room name)))
 with_room inset name x inner =
     omega (
       arith,
@@ -94,7 +94,7 @@ attributes_room ps = room (flat_map attribute_written ps)
 abbrev pub text_room : List ℕ → ℕ
 text_room x = room (flat_map in_text (chars x))
 
-opened_room : (inset name : List ℕ) (ps : List Pair) → room (opened inset name ps) ≡ 1 + (room inset + (room name + attributes_room ps))
+pub opened_room : (inset name : List ℕ) (ps : List Pair) → room (opened inset name ps) ≡ 1 + (room inset + (room name + attributes_room ps))
 opened_room inset name ps =
     omega (
       arith,
@@ -103,17 +103,17 @@ opened_room inset name ps =
       room_ascii 60 name (omega arith),
     )
 
-tree_room : (inset name : List ℕ) (ps : List Pair) (x : List ℕ) (ts : Trees) → room (tree_written inset (element name ps x ts))
+pub tree_room : (inset name : List ℕ) (ps : List Pair) (x : List ℕ) (ts : Trees) → room (tree_written inset (element name ps x ts))
     ≡ room (opened inset (chars name) ps) + room (content_written inset (chars name) (flat_map in_text (chars x)) (trees_written (deeper inset) ts) ts)
 unfolding tree_written
 tree_room inset name ps x ts =
     room_both (opened inset (chars name) ps) (content_written inset (chars name) (flat_map in_text (chars x)) (trees_written (deeper inset) ts) ts)
 
-none_room : (inset : List ℕ) → room (trees_written inset none) ≡ 0
+pub none_room : (inset : List ℕ) → room (trees_written inset none) ≡ 0
 unfolding trees_written
 none_room inset = refl
 
-first_room : (inset : List ℕ) (t : Tree) (ts : Trees) → room (trees_written inset (first t ts)) ≡ room (tree_written inset t) + room (trees_written inset ts)
+pub first_room : (inset : List ℕ) (t : Tree) (ts : Trees) → room (trees_written inset (first t ts)) ≡ room (tree_written inset t) + room (trees_written inset ts)
 unfolding trees_written
 first_room inset t ts = room_both (tree_written inset t) (trees_written inset ts)
 

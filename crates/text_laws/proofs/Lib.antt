@@ -17,7 +17,7 @@ mod DomainElements
 mod DomainValues
 mod DomainFaults
 mod Plain
-mod Lengths
+pub mod Lengths
 mod Bare
 mod Names
 mod Tagged

@@ -37,7 +37,7 @@ pub other : (n m : AttributeName) (v : Option (List ℕ)) → Apart n m → valu
 other n m None apart = refl
 other n m (Some x) apart = rw (apart x)
 
--- the first attribute, and one behind it
+-- the first attribute, and one after it
 pub first_pair : (n : AttributeName) (x : List ℕ) (rest : List Pair) → Own n → value_of n (pair n x ∷ rest) ≡ Some x
 first_pair n x rest own = rw (own x)
 

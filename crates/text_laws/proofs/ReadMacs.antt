@@ -1,4 +1,4 @@
--- Addresses that are read, and the keys that they are told apart by.
+-- Addresses that are read, and the keys that they are distinguished by.
 use Rattle.std.proofs.Common.{◌≡◌, ℕ, zero, suc, ◌+◌, ◌*◌, ◌-◌, ◌/◌, ◌%◌, ◌<◌, List, [], ◌∷◌, length, drop, Bool, true, false, Option, Some, None, refl, sym, ◌∙◌, ap, subst, arith}
 use Rattle.std.specs.Prelude.{◌&&◌, ◌==◌, nat_le, slice_index, map, option_and_then, option_map, if◌then◌else◌}
 use Rattle.std.specs.Char.{digit_char, to_ascii_lowercase}

@@ -31,7 +31,7 @@ first_row names r rs t e =
     let parts = or_none _ _ e in
     (unplaced _ (wrong_at r t) parts.0, parts.1)
 
--- those behind the first ones
+-- those after the first ones
 pub later_rows : (n : ℕ) (names : List ElementName) (rs : List Row) (t : Tree) → rows_fault names rs t ≡ None → rows_fault names (drop n rs) t ≡ None
 later_rows zero names rs t e = e
 later_rows (suc n) names [] t e = e

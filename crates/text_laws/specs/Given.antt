@@ -9,6 +9,7 @@ use Rattle.virt_types.specs.declared.device_def.Disk.{Disk}
 use Rattle.virt_types.specs.declared.device_def.Interface.{Interface}
 use Rattle.virt_types.specs.declared.domain_def.DomainDef.{DomainDef}
 use Rattle.virt_types.specs.declared.mac.Mac.{Mac}
+use Rattle.text_spec.specs.DomainText.{most_devices}
 use Rattle.text_spec.specs.GuestScript.{entries_of}
 use Rattle.virt_types.specs.Mac.{mac_text}
 use Rattle.text_spec.specs.Tag.{is_among}
@@ -86,4 +87,4 @@ pub record IsDomain (d : DomainDef) : Type 0 where
   pub disks_apart : AreDisksApart [] d.disks
   pub interfaces : AllByRecursion IsInterface d.interfaces
   pub interfaces_apart : AreInterfacesApart [] d.interfaces
-  pub few : length d.disks + length d.interfaces ≤ 30
+  pub few : length d.disks + length d.interfaces ≤ most_devices

@@ -25,7 +25,7 @@ less_is : is_char 60 ≡ true
 unfolding is_char
 less_is = refl
 
--- ---- an element without the blanks before it and the line end behind it
+-- ---- an element without the blanks before it and the line end after it
 abbrev pub closing : List ℕ → List ℕ
 closing name = 60 ∷ 47 ∷ name ++ 62 ∷ []
 
@@ -59,7 +59,7 @@ core_is inset (element n ps t ts) =
     (content_is inset (chars n) (flat_map in_text (chars t)) (trees_written (deeper inset) ts) ts)
 
 -- ---- the trees in an element
--- what is read behind a text, up to a closing tag
+-- what is read after a text, up to a closing tag
 abbrev pub TreesRead : ElementReading → ℕ → ℕ → List ℕ → List ℕ → Trees → ℕ → List ℕ → Type 0
 TreesRead child k room cs s ts left tail =
     (w : List ℕ) × Blanks w × (content_at child (suc k) room cs ≡ Ok (record { text = s ++ w; children = ts; room = left; rest = tail }))
@@ -100,7 +100,7 @@ core_begins (suc depth) inset (element n ps t ts) rest is =
 core_long : (inset : List ℕ) (t : Tree) → 0 < length (core inset t)
 core_long inset (element n ps t ts) = omega arith
 
--- one tree behind a text, and others behind it
+-- one tree after a text, and others after it
 pub first_read : (child : ElementReading) (depth k room left : ℕ) (s inset tail : List ℕ) (t : Tree) (ts : Trees) (others : List ℕ)
     → AreChars s → Blanks inset → IsTree depth t → ElementRead child room inset t
     → length (flat_map in_text s ++ (tree_written inset t ++ others)) ≤ k

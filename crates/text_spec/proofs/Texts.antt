@@ -29,7 +29,7 @@ unfolding run_at
 run_back r x xs all stop is =
     rw (prefix_back is_run_char r x xs (runs r all) stop, take_at r (x ∷ xs) (length r) refl, drop_at r (x ∷ xs) (length r) refl, no_end 0 r all, is)
 
--- ---- what stands inside an element, a step at a time
+-- ---- what is inside an element, a step at a time
 pub before_before : (ts us : List Tree) (others : Trees) → before ts (before us others) ≡ before (ts ++ us) others
 before_before [] us others = refl
 before_before (t ∷ ts) us others = ap (first t) (before_before ts us others)

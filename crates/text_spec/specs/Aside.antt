@@ -1,4 +1,4 @@
--- What stands between tags besides text, of XML 1.0 (fifth edition): comments (15), processing
+-- What is between tags besides text, of XML 1.0 (fifth edition): comments (15), processing
 -- instructions (16, 17) and sections (18 to 21). A document type declaration (28) is refused.
 use Rattle.std.specs.Prelude.{ℕ, ◌+◌, ◌-◌, List, [], ◌∷◌, length, take, drop, Bool, true, false, ◌&&◌, Result, Ok, Err, ◌==◌, if◌then◌else◌, codes}
 use Rattle.std.specs.List.{prefix_len}
@@ -9,14 +9,14 @@ use Rattle.text_spec.specs.Reading.{Reading, ◌>>=◌, flaw, ended, expect}
 use Rattle.text_spec.specs.Character.{hyphen, question, greater, open_bracket, close_bracket, is_blank, is_char, is_run_char}
 use Rattle.text_spec.specs.Name.{name_at}
 
--- Comment (15), after its `<!--`: two hyphens stand only before the `>` that ends it
+-- Comment (15), after its `<!--`: two hyphens occur only before the `>` that ends it
 unfoldable pub comment_at : Flaw → Bool → List ℕ → Result (List ℕ) Flaw
 comment_at told hyphened [] = Err ended
 comment_at told hyphened (c ∷ cs) =
     if hyphened && (c == hyphen) then expect told (greater ∷ []) cs
     else (if is_char c then comment_at told (c == hyphen) cs else Err told)
 
--- PI (16), from behind its target to its `?>`
+-- PI (16), from after its target to its `?>`
 unfoldable pub instruction_at : Flaw → Bool → List ℕ → Result (List ℕ) Flaw
 instruction_at told questioned [] = Err ended
 instruction_at told questioned (c ∷ cs) =
@@ -29,7 +29,7 @@ is_reserved (x ∷ m ∷ l ∷ []) =
     (to_ascii_lowercase x == 120) && ((to_ascii_lowercase m == 109) && (to_ascii_lowercase l == 108))
 is_reserved _ = false
 
--- behind the target stands a blank or the end
+-- after the target comes a blank or the end
 abbrev pub after_target : Flaw → List ℕ → Result (List ℕ) Flaw
 after_target told [] = Err ended
 after_target told (c ∷ cs) =
@@ -72,7 +72,7 @@ unfoldable pub whole_section_at : Flaw → List ℕ → Reading (List ℕ)
 whole_section_at told cs =
     expect told (codes "CDATA[") cs >>= λ content. section_at told 0 content >>= λ rest. sectioned content rest
 
--- after `<!`: a section may stand only inside an element
+-- after `<!`: a section is allowed only inside an element
 unfoldable pub after_bang : Bool → List ℕ → List ℕ → Reading (List ℕ)
 after_bang inside start [] = Err ended
 after_bang inside start (c ∷ cs) =
@@ -87,12 +87,12 @@ after_less inside start [] = Err ended
 after_less inside start (c ∷ cs) =
     if c == question then without_text (targeted (flaw kind.Tag start) cs) else after_bang inside start cs
 
--- the text that a comment, an instruction or a section adds: what stands in the section, else nothing
+-- the text that a comment, an instruction or a section adds: the characters of a section, otherwise nothing
 unfoldable pub aside_at : Bool → List ℕ → Reading (List ℕ)
 aside_at inside [] = Err ended
 aside_at inside (c ∷ cs) = after_less inside (c ∷ cs) cs
 
--- `]]>` stands in these characters, of which the ones just before are so many closing brackets
+-- `]]>` occurs in these characters, of which the ones just before are so many closing brackets
 unfoldable pub ends_section : ℕ → List ℕ → Bool
 ends_section brackets [] = false
 ends_section brackets (c ∷ cs) =
@@ -103,7 +103,7 @@ abbrev pub run_then : Flaw → List ℕ → List ℕ → Reading (List ℕ)
 run_then told run [] = Ok (run, [])
 run_then told run (c ∷ cs) = if is_char c then Ok (run, c ∷ cs) else Err told
 
--- CharData (14): `]]>` doesn't stand in it
+-- CharData (14): without `]]>`
 unfoldable pub run_at : List ℕ → Reading (List ℕ)
 run_at cs =
     let n = prefix_len is_run_char cs in

@@ -57,7 +57,7 @@ open_bracket = 91
 abbrev pub close_bracket : ℕ
 close_bracket = 93
 
--- the mark that may stand before a text
+-- the mark that may come before a text
 abbrev pub byte_order_mark : ℕ
 byte_order_mark = 0xFEFF
 
@@ -98,7 +98,7 @@ is_name_char c = is_name_start c || is_in name_further_ranges c
 abbrev pub is_run_char : ℕ → Bool
 is_run_char c = is_char c && not (c == less || c == ampersand)
 
--- a blank stands at the front
+-- a blank is at the front
 abbrev pub starts_blank : List ℕ → Bool
 starts_blank [] = false
 starts_blank (c ∷ cs) = is_blank c

@@ -4,6 +4,7 @@ use Rattle.uuid.specs.Text.{parsed}
 use Rattle.virt_types.specs.Name.{bad_place}
 use Rattle.text_spec.specs.declared.definition.DefKind.{DefKind}
 use Rattle.text_spec.specs.declared.definition.DefKind.TheVariants as kind
+use Rattle.text_spec.specs.declared.limits.TheConstants.{MOST_VCPUS}
 use Rattle.text_spec.specs.declared.row.Content.{Content}
 use Rattle.text_spec.specs.declared.row.Content.TheVariants as content
 use Rattle.text_spec.specs.declared.size.SizeFault.{SizeFault}
@@ -20,7 +21,7 @@ use Rattle.text_spec.specs.Words.{domain_type_of, boot_device_of, lifecycle_acti
 abbrev pub bad_unless : Bool → Option DefKind
 bad_unless good = if good then None else Some kind.BadValue
 
--- a value that is one where it stands for something
+-- a value that is one where it means something
 abbrev pub known : {A : Type 0} → Option A → Option DefKind
 known value = bad_unless (is_some value)
 
@@ -37,6 +38,10 @@ abbrev pub count_fault : ℕ → ℕ → Option ℕ → Option DefKind
 count_fault least most None = Some kind.BadValue
 count_fault least most (Some n) = if nat_le least n && nat_le n most then None else Some kind.Range
 
+-- a domain has at most so many processors
+abbrev pub most_vcpus : ℕ
+most_vcpus = MOST_VCPUS
+
 -- the number of processors that an element's text is
 abbrev pub processors_of : Tree → ℕ
 processors_of t = unwrap_or (number_of (text_of t)) 1
@@ -50,7 +55,7 @@ content_fault content.Uuid t v = known (parsed v)
 content_fault content.Mac t v = known (mac_of v)
 content_fault content.Script t v = known (entries_of v)
 content_fault content.Memory t v = size_fault (kibibytes_of v (attribute_of attribute.Unit t))
-content_fault content.Vcpus t v = count_fault 1 255 (number_of v)
+content_fault content.Vcpus t v = count_fault 1 most_vcpus (number_of v)
 content_fault content.CurrentVcpus t v = count_fault 1 (processors_of t) (number_of v)
 content_fault content.DomainType t v = known (domain_type_of v)
 content_fault content.BootDevice t v = known (boot_device_of v)

@@ -7,7 +7,7 @@ use Rattle.text_spec.specs.declared.fault.TextKind.TheVariants as kind
 use Rattle.text_spec.specs.Reading.{Reading, ◌>>=◌, flaw, ended, expect}
 use Rattle.text_spec.specs.Character.{equals, quote, apostrophe, starts_blank, after_blanks}
 
--- as `expect`, for small letters that may stand as capitals
+-- as `expect`, for small letters in either case
 unfoldable pub expect_in_any_case : Flaw → List ℕ → List ℕ → Result (List ℕ) Flaw
 expect_in_any_case told [] cs = Ok cs
 expect_in_any_case told (w ∷ ws) [] = Err ended
@@ -55,12 +55,12 @@ standalone_at told cs =
     >>= λ q. yes_or_no told q.1
     >>= λ rest. expect told (q.0 ∷ []) rest
 
--- the letter stands at the front
+-- the letter is at the front
 abbrev pub begins_with : ℕ → List ℕ → Bool
 begins_with letter [] = false
 begins_with letter (c ∷ cs) = c == letter
 
--- the encoding may stand behind a blank, and so may the word on standing alone
+-- after a blank the encoding may follow, and then the standalone declaration
 unfoldable pub after_encoding : Flaw → List ℕ → Result (List ℕ) Flaw
 after_encoding told cs =
     if starts_blank cs && begins_with 101 (after_blanks cs) then encoding_at told (after_blanks cs) else Ok cs
@@ -82,6 +82,6 @@ abbrev pub if_declared : List ℕ → Result (List ℕ) Flaw → Result (List �
 if_declared cs (Ok rest) = if starts_blank rest then declaration_at (flaw kind.Tag cs) rest else Ok cs
 if_declared cs (Err f) = Ok cs
 
--- what follows the declaration, where one stands
+-- what follows the declaration, if there is one
 unfoldable pub after_declaration : List ℕ → Result (List ℕ) Flaw
 after_declaration cs = if_declared cs (expect ended (codes "<?xml") cs)

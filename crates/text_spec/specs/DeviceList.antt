@@ -17,8 +17,8 @@ use Rattle.text_spec.specs.Table.{fault_at, rows_fault, root_fault, told}
 use Rattle.text_spec.specs.Tag.{is_among}
 use Rattle.text_spec.specs.Tree.{Tree}
 
--- the element of a kind, its table, and its key with the element in which that stands; of a MAC
--- address the case of the letters says nothing
+-- the element of a kind, its table, and its key with the element that has it; of a MAC
+-- address the case of the letters does not matter
 abbrev pub element_for : DeviceKind → ElementName
 element_for of.Disk = element.Disk
 element_for of.Interface = element.Interface
@@ -57,7 +57,7 @@ devices_fault d names keys (t ∷ ts) =
     option_or (device_fault d names keys t) (devices_fault d names (with_key (key_in d t) keys) ts)
 
 -- ---- a device as a text of its own
--- the fault of a device's element that stands alone
+-- the fault of a device's element on its own
 abbrev pub alone_fault : DeviceKind → Tree → Option DefFault
 alone_fault d t = rows_fault (element_for d ∷ []) (rows_for d) t
 

@@ -50,7 +50,7 @@ disk_source_of t = record {
   volume = attribute_of attribute.Volume t;
 }
 
--- by what a disk is told apart
+-- by what a disk is distinguished
 abbrev pub target_dev : Tree → Option (List ℕ)
 target_dev t = value_at (place.Child element.Target) (source.Attribute attribute.Dev) t
 
@@ -90,7 +90,7 @@ interface_source_of t = record {
 abbrev pub interface_model_of : Tree → InterfaceModel
 interface_model_of t = record { kind = attribute_of attribute.Type t }
 
--- by what an interface is told apart
+-- by what an interface is distinguished
 abbrev pub mac_address : Tree → Option (List ℕ)
 mac_address t = value_at (place.Child element.Mac) (source.Attribute attribute.Address) t
 

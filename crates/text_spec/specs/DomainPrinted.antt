@@ -24,7 +24,7 @@ use Rattle.text_spec.specs.Written.{written}
 abbrev pub uuid_tree : List ℕ → Tree
 uuid_tree uuid = worded element.Uuid [] (hyphenated_text lower uuid)
 
--- a script stands where it says something
+-- a script that says something has an element
 abbrev pub script_tree : List ℕ → Tree
 script_tree text = holding element.Metadata [] (worded element.Guest [] text ∷ [])
 
@@ -60,7 +60,7 @@ graphics_tree g = tagged element.Graphics (pairs attribute.Type g.kind ++ pairs 
 abbrev pub memballoon_tree : Memballoon → Tree
 memballoon_tree m = tagged element.Memballoon (pairs attribute.Model m.model)
 
--- the devices behind disks and interfaces
+-- the devices after disks and interfaces
 abbrev pub other_device_trees : DomainDef → List Tree
 other_device_trees d =
     map (character_tree element.Serial) d.serials
@@ -72,7 +72,7 @@ device_trees d =
     present (worded element.Emulator []) d.emulator
     ++ (map disk_tree d.disks ++ (map interface_tree d.interfaces ++ other_device_trees d))
 
--- elements that stand in one of their own, where there are any
+-- elements gathered in one of their own, if there are any
 abbrev pub gathered : ElementName → List Tree → List Tree
 gathered n [] = []
 gathered n (t ∷ ts) = holding n [] (t ∷ ts) ∷ []
@@ -94,7 +94,7 @@ size_trees d =
     ∷ vcpu_tree d.vcpus d.current_vcpus
     ∷ []
 
--- what is wanted where the guest goes down
+-- what follows when the guest goes down
 abbrev pub action_trees : DomainDef → List Tree
 action_trees d =
     worded element.OnPoweroff [] (lifecycle_action_word d.on_poweroff)

@@ -6,6 +6,7 @@ use Rattle.text_spec.specs.declared.definition.DefFault.{DefFault}
 use Rattle.text_spec.specs.declared.definition.DefKind.TheVariants as kind
 use Rattle.text_spec.specs.declared.device_kind.DeviceKind.{DeviceKind}
 use Rattle.text_spec.specs.declared.device_kind.DeviceKind.TheVariants as of
+use Rattle.text_spec.specs.declared.limits.TheConstants.{MOST_DEVICES}
 use Rattle.text_spec.specs.declared.row.Content.TheVariants as content
 use Rattle.text_spec.specs.declared.row.Place.TheVariants as place
 use Rattle.text_spec.specs.declared.row.Row.{Row}
@@ -43,7 +44,7 @@ domain_rows =
 
 -- disks and interfaces are together at most so many
 abbrev pub most_devices : ℕ
-most_devices = 30
+most_devices = MOST_DEVICES
 
 -- the elements of a kind of device
 abbrev pub devices_at : DeviceKind → Tree → List Tree

@@ -1,4 +1,4 @@
--- The values of a domain's element that has no fault, with what stands for those that are absent.
+-- The values of a domain's element that has no fault, with defaults for those that are absent.
 use Rattle.std.specs.Prelude.{ℕ, List, [], map, min, Option, unwrap_or, option_and_then, option_map}
 use Rattle.std.specs.List.{filter_map}
 use Rattle.std.specs.Result.{result_ok}
@@ -22,6 +22,7 @@ use Rattle.text_spec.specs.declared.row.Source.TheVariants as source
 use Rattle.text_spec.specs.declared.vocabulary.AttributeName.TheVariants as attribute
 use Rattle.text_spec.specs.declared.vocabulary.ElementName.{ElementName}
 use Rattle.text_spec.specs.declared.vocabulary.ElementName.TheVariants as element
+use Rattle.text_spec.specs.Content.{most_vcpus}
 use Rattle.text_spec.specs.DeviceText.{disk_of, interface_of}
 use Rattle.text_spec.specs.GuestScript.{entries_of, number_within}
 use Rattle.text_spec.specs.Look.{attribute_of, elements_at, element_at, text_of, value_at}
@@ -55,7 +56,7 @@ unfoldable pub current_memory_of : Tree → ℕ
 current_memory_of t = min (memory_of t) (unwrap_or (memory_at element.CurrentMemory t) (memory_of t))
 
 unfoldable pub vcpus_of : Tree → ℕ
-vcpus_of t = unwrap_or (option_and_then (number_within 1 255) (value_at (place.Child element.Vcpu) source.Text t)) 1
+vcpus_of t = unwrap_or (option_and_then (number_within 1 most_vcpus) (value_at (place.Child element.Vcpu) source.Text t)) 1
 
 unfoldable pub current_vcpus_of : Tree → ℕ
 current_vcpus_of t =
@@ -88,7 +89,7 @@ os_of t = record {
 unfoldable pub domain_type_in : Tree → DomainType
 domain_type_in t = unwrap_or (option_and_then domain_type_of (attribute_of attribute.Type t)) domain_type.Kvm
 
--- what is wanted where the guest goes down, by the element that says so
+-- what follows when the guest goes down, by the element that says so
 unfoldable pub lifecycle_in : ElementName → LifecycleAction → Tree → LifecycleAction
 lifecycle_in n default t = unwrap_or (option_and_then lifecycle_action_of (own_text n t)) default
 

@@ -11,7 +11,7 @@ use Rattle.text_spec.specs.Aside.{aside_at, run_at}
 use Rattle.text_spec.specs.Tag.{Tag, opening_tag_at, closing_tag_at}
 use Rattle.text_spec.specs.Tree.{Tree, element, Trees, none, before}
 
--- what begins behind a `<`
+-- what begins after a `<`
 abbrev pub ahead_in_tag : List ℕ → Ahead
 ahead_in_tag [] = ahead.Nothing
 ahead_in_tag (c ∷ cs) =
@@ -28,7 +28,7 @@ pub record Grown : Type 0 where
   pub room : ℕ
   pub rest : List ℕ
 
--- what stands inside an element: its own text and its elements, and then the same
+-- what is inside an element: its own text and its elements, and then the same
 pub record Inside : Type 0 where
   pub text : List ℕ
   pub children : Trees
@@ -39,7 +39,7 @@ pub record Inside : Type 0 where
 unfoldable pub trimmed : List ℕ → List ℕ
 trimmed cs = reverse (after_blanks (reverse (after_blanks cs)))
 
--- the text that a piece adds, which begins as told
+-- the text that a piece adds, which begins in this way
 unfoldable pub piece_at : Ahead → List ℕ → Reading (List ℕ)
 piece_at ahead.Nothing cs = Err ended
 piece_at ahead.ClosingTag cs = Err ended
@@ -48,7 +48,7 @@ piece_at ahead.Aside cs = aside_at true cs
 piece_at ahead.Reference cs = reference_at cs >>= λ r. Ok (r.0 ∷ [], r.1)
 piece_at ahead.Run cs = run_at cs
 
--- what was read, behind text and elements that stand before it
+-- what was read, after text and elements before it
 abbrev pub after_inside : List ℕ → List Tree → Result Inside Flaw → Result Inside Flaw
 after_inside text children read =
     read >>= λ i. Ok (record i { text = text ++ i.text; children = before children i.children })
@@ -57,11 +57,11 @@ after_inside text children read =
 abbrev pub ElementReading : Type 0
 ElementReading = ℕ → List ℕ → Result Grown Flaw
 
--- a piece of text, and what stands behind it
+-- a piece of text, and what follows it
 abbrev pub with_piece : (ℕ → List ℕ → Result Inside Flaw) → ℕ → Reading (List ℕ) → Result Inside Flaw
 with_piece more room piece = piece >>= λ p. after_inside p.0 [] (more room p.1)
 
--- an element, and what stands behind it
+-- an element, and what follows it
 abbrev pub with_element : (ℕ → List ℕ → Result Inside Flaw) → Result Grown Flaw → Result Inside Flaw
 with_element more child = child >>= λ e. after_inside [] (e.tree ∷ []) (more e.room e.rest)
 

@@ -1,6 +1,6 @@
 -- What is filled in where a definition lacks it: an identifier of version 4 (RFC 9562, section 5.4),
 -- and addresses of this project's own range.
-use Rattle.std.specs.Prelude.{◌≡◌, ℕ, zero, suc, ◌+◌, ◌*◌, ◌/◌, ◌%◌, ◌^◌, ◌<◌, List, [], ◌∷◌, ◌++◌, Bool, false, Option, Some, None, IsSomeAnd, if◌then◌else◌}
+use Rattle.std.specs.Prelude.{◌≡◌, ℕ, zero, suc, ◌+◌, ◌*◌, ◌/◌, ◌%◌, ◌^◌, ◌<◌, List, [], ◌∷◌, ◌++◌, Bool, false, Option, Some, None, if◌then◌else◌}
 use Rattle.std.specs.Int.{to_be_bytes, w128}
 use Rattle.std.specs.List.{list_any}
 use Rattle.std.specs.Option.{option_map_or}
@@ -19,13 +19,11 @@ use Rattle.virt_types.specs.declared.mac.Mac.{Mac}
 unfoldable pub version_4 : ℕ → ℕ → List ℕ
 version_4 high low = with_version (with_variant (to_be_bytes w128 (high * 2 ^ 64 + low)) RFC4122) Random
 
-abbrev pub IsVersion4 : List ℕ → Type 0
-IsVersion4 uuid = (high : ℕ) × (low : ℕ) × (uuid ≡ version_4 high low)
-
--- what is there stays
-abbrev pub IsUuidFilled : Option (List ℕ) → Option (List ℕ) → Type 0
-IsUuidFilled None new = IsSomeAnd new IsVersion4
-IsUuidFilled (Some uuid) new = new ≡ Some uuid
+-- An absent identifier is made of the two words that were drawn for it. One that is there stays, and
+-- no word is drawn.
+abbrev pub IsUuidFilled : List ℕ → Option (List ℕ) → Option (List ℕ) → Type 0
+IsUuidFilled words None new = (high : ℕ) × (low : ℕ) × (new ≡ Some (version_4 high low)) × (words ≡ high ∷ low ∷ [])
+IsUuidFilled words (Some uuid) new = (new ≡ Some uuid) × (words ≡ [])
 
 -- ---- addresses
 -- how many addresses the range has
@@ -61,31 +59,45 @@ mac_among interfaces word = local_mac (raised tails interfaces (word % tails))
 abbrev pub with_own : Interface → Mac → Interface
 with_own i mac = record i { mac = Some mac }
 
--- one of these interfaces, and what it is once it has an address
-abbrev pub IsMacFilled : List Interface → Interface → Option Mac → Interface → Type 0
-IsMacFilled interfaces old None new = (word : ℕ) × (new ≡ with_own old (mac_among interfaces word))
-IsMacFilled interfaces old (Some mac) new = new ≡ old
+-- one of these interfaces, and what it is once it has an address, by the word that was drawn for it
+abbrev pub IsMacFilled : List ℕ → List Interface → Interface → Option Mac → Interface → Type 0
+IsMacFilled words interfaces old None new = (word : ℕ) × (new ≡ with_own old (mac_among interfaces word)) × (words ≡ word ∷ [])
+IsMacFilled words interfaces old (Some mac) new = (new ≡ old) × (words ≡ [])
 
--- interfaces one after another, behind those that are filled already
-abbrev pub AreMacsFilled : List Interface → List Interface → List Interface → Type 0
-AreMacsFilled before [] [] = Unit {0}
-AreMacsFilled before [] (j ∷ new) = ⊥
-AreMacsFilled before (i ∷ old) [] = ⊥
-AreMacsFilled before (i ∷ old) (j ∷ new) =
-    IsMacFilled (before ++ i ∷ old) i i.mac j × AreMacsFilled (before ++ j ∷ []) old new
+-- interfaces one after another, after those that are filled already
+abbrev pub AreMacsFilled : List ℕ → List Interface → List Interface → List Interface → Type 0
+AreMacsFilled words before [] [] = words ≡ []
+AreMacsFilled words before [] (j ∷ new) = ⊥
+AreMacsFilled words before (i ∷ old) [] = ⊥
+AreMacsFilled words before (i ∷ old) (j ∷ new) =
+    (first : List ℕ) × (others : List ℕ) × IsMacFilled first (before ++ i ∷ old) i i.mac j
+    × AreMacsFilled others (before ++ j ∷ []) old new × (words ≡ first ++ others)
 
 -- ---- definitions
--- a definition, and the same with all that it lacked
-pub record IsFilled (old new : DomainDef) : Type 0 where
-  pub uuid : IsUuidFilled old.uuid new.uuid
-  pub macs : AreMacsFilled [] old.interfaces new.interfaces
+-- a definition, and the same with all that it lacked, of these words in order: those for its
+-- identifier, then those for its interfaces
+pub record IsFilledBy (words : List ℕ) (old new : DomainDef) : Type 0 where
+  pub for_uuid : List ℕ
+  pub for_macs : List ℕ
+  pub uuid : IsUuidFilled for_uuid old.uuid new.uuid
+  pub macs : AreMacsFilled for_macs [] old.interfaces new.interfaces
   pub others : new ≡ record old { uuid = new.uuid; interfaces = new.interfaces }
+  pub order : words ≡ for_uuid ++ for_macs
 
--- an interface that stands alone gets the address of a word as it is
-abbrev pub IsAloneFilled : Interface → Option Mac → DeviceDef → Type 0
-IsAloneFilled old None new = (word : ℕ) × (new ≡ device.Interface (with_own old (local_mac (word % tails))))
-IsAloneFilled old (Some mac) new = new ≡ device.Interface old
+-- filled in, of whichever words
+abbrev pub IsFilled : DomainDef → DomainDef → Type 0
+IsFilled old new = (words : List ℕ) × IsFilledBy words old new
 
+-- an interface on its own gets the address of a word as it is
+abbrev pub IsAloneFilled : List ℕ → Interface → Option Mac → DeviceDef → Type 0
+IsAloneFilled words old None new = (word : ℕ) × (new ≡ device.Interface (with_own old (local_mac (word % tails)))) × (words ≡ word ∷ [])
+IsAloneFilled words old (Some mac) new = (new ≡ device.Interface old) × (words ≡ [])
+
+-- a device, and the same with the address that it lacked, of these words
+abbrev pub IsDeviceFilledBy : List ℕ → DeviceDef → DeviceDef → Type 0
+IsDeviceFilledBy words (device.Disk d) new = (new ≡ device.Disk d) × (words ≡ [])
+IsDeviceFilledBy words (device.Interface i) new = IsAloneFilled words i i.mac new
+
+-- filled in, of whichever words
 abbrev pub IsDeviceFilled : DeviceDef → DeviceDef → Type 0
-IsDeviceFilled (device.Disk d) new = new ≡ device.Disk d
-IsDeviceFilled (device.Interface i) new = IsAloneFilled i i.mac new
+IsDeviceFilled old new = (words : List ℕ) × IsDeviceFilledBy words old new

@@ -21,7 +21,7 @@ is_in_word c = not (is_gap c)
 unfoldable pub after_gap : List ℕ → List ℕ
 after_gap cs = drop (prefix_len is_gap cs) cs
 
--- the word at the front, behind blanks, and what follows it
+-- the word at the front, after blanks, and what follows it
 unfoldable pub word_at : List ℕ → List ℕ × List ℕ
 word_at cs =
     let word = after_gap cs in
@@ -50,11 +50,11 @@ act_of word = meant act_word (act.End ∷ act.Refuse ∷ act.Lost ∷ []) word
 abbrev pub count_of : List ℕ → Option ℕ
 count_of word = number_within 1 (2 ^ 62 - 1) word
 
--- `stall`, behind that word
+-- `stall`, after that word
 abbrev pub stall_at : List ℕ → Option ScriptEntry
 stall_at cs = if is_over cs then Some entry.Stall else None
 
--- `slow N`, behind its first word
+-- `slow N`, after its first word
 abbrev pub slow_by : List ℕ × List ℕ → Option ScriptEntry
 slow_by number = if is_over number.1 then option_map entry.Slow (number_within 0 1000000 number.0) else None
 

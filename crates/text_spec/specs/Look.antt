@@ -1,4 +1,4 @@
--- What stands in a tree: elements by name, attributes, text.
+-- What is in a tree: elements by name, attributes, text.
 use Rattle.std.specs.Prelude.{ℕ, List, [], ◌∷◌, Bool, Option, Some, None, find, filter, option_map, option_and_then}
 use Rattle.std.specs.Str.{bytes_eq}
 use Rattle.text_spec.specs.declared.pair.Pair.{Pair}
@@ -62,11 +62,11 @@ element_at place.Here t = Some t
 element_at (place.Child n) t = first_of n t
 element_at (place.Inside outer n) t = option_and_then (first_of n) (first_of outer t)
 
--- the value that stands in an element
+-- the value in an element
 abbrev pub value_in : Source → Tree → Option (List ℕ)
 value_in source.Text t = Some (text_of t)
 value_in (source.Attribute n) t = attribute_of n t
 
--- the value that stands at a place
+-- the value at a place
 abbrev pub value_at : Place → Source → Tree → Option (List ℕ)
 value_at p s t = option_and_then (value_in s) (element_at p t)

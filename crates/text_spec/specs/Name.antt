@@ -5,11 +5,11 @@ use Rattle.text_spec.specs.declared.fault.Flaw.{Flaw}
 use Rattle.text_spec.specs.Reading.{Reading, ended}
 use Rattle.text_spec.specs.Character.{is_name_start, is_name_char}
 
--- the first n characters, behind which the text goes on
+-- the first n characters, after which the text goes on
 abbrev pub front : ℕ → List ℕ → Reading (List ℕ)
 front n cs = if nat_lt n (length cs) then Ok (take n cs, drop n cs) else Err ended
 
--- Name (5): the flaw is told where none begins
+-- Name (5): the flaw is reported where none begins
 unfoldable pub name_at : Flaw → List ℕ → Reading (List ℕ)
 name_at told [] = Err ended
 name_at told (c ∷ cs) =

@@ -4,7 +4,7 @@ use Rattle.text_spec.specs.declared.fault.Flaw.{Flaw}
 use Rattle.text_spec.specs.declared.fault.TextKind.{TextKind}
 use Rattle.text_spec.specs.declared.fault.TextKind.TheVariants as kind
 
--- what stands at the front of the characters, and the characters after it
+-- what is at the front of the characters, and the characters after it
 abbrev pub Reading : Type 0 → Type 0
 Reading A = Result (A × List ℕ) Flaw
 
@@ -22,7 +22,7 @@ flaw k cs = record { left = length cs; kind = k }
 abbrev pub ended : Flaw
 ended = record { left = 0; kind = kind.End }
 
--- these very characters stand at the front, and what follows them; otherwise the flaw is told
+-- these very characters are at the front: what follows them; otherwise the flaw is reported
 unfoldable pub expect : Flaw → List ℕ → List ℕ → Result (List ℕ) Flaw
 expect told [] cs = Ok cs
 expect told (w ∷ ws) [] = Err ended

@@ -11,7 +11,7 @@ use Rattle.text_spec.specs.Character.{ampersand, hash, semicolon, less, greater,
 abbrev pub greatest : ℕ
 greatest = 0x10FFFF
 
--- the character of this number, behind the `;`
+-- the character of this number, after the `;`
 abbrev pub number_end : Flaw → ℕ → Bool → ℕ → List ℕ → Reading ℕ
 number_end told number some c cs =
     if (c == semicolon) && (some && is_char number) then Ok (number, cs) else Err told
@@ -30,7 +30,7 @@ abbrev pub numbered : Flaw → List ℕ → Reading ℕ
 numbered told [] = Err ended
 numbered told (c ∷ cs) = if c == 120 then number_at 16 told 0 false cs else number_at 10 told 0 false (c ∷ cs)
 
--- the character, where this name stands here
+-- the character, where this name comes next
 abbrev pub named : Flaw → ℕ → List ℕ → List ℕ → Reading ℕ
 named told character name cs = expect told name cs >>= λ rest. Ok (character, rest)
 
@@ -50,7 +50,7 @@ after_ampersand told (c ∷ cs) =
     else (if c == 103 then named told greater (codes "t;") cs
     else (if c == 113 then named told quote (codes "uot;") cs else Err told))))
 
--- the character that a reference stands for; the flaw is told at its `&`
+-- the character that a reference stands for; the flaw is reported at its `&`
 unfoldable pub reference_at : List ℕ → Reading ℕ
 reference_at [] = Err ended
 reference_at (c ∷ cs) = after_ampersand (flaw kind.Reference (c ∷ cs)) cs

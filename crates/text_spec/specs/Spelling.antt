@@ -1,4 +1,4 @@
--- How the parts of a definition stand in its tree: attributes, elements, and what is absent.
+-- How the parts of a definition are spelled in its tree: attributes, elements, and what is absent.
 use Rattle.std.specs.Prelude.{ℕ, List, [], ◌∷◌, length, Option, option_map, if◌then◌else◌, Bool, ◌&&◌, nat_le}
 use Rattle.std.specs.Option.{option_to_list}
 use Rattle.text_spec.specs.declared.pair.Pair.{Pair}
@@ -38,7 +38,7 @@ holding n attributes children = filled n attributes [] children
 abbrev pub present : {A : Type 0} → (A → Tree) → Option A → List Tree
 present tree_of part = option_to_list (option_map tree_of part)
 
--- an element that stands where this is so
+-- an element that is there where this is so
 abbrev pub flagged : ElementName → Bool → List Tree
 flagged n flag = if flag then tagged n [] ∷ [] else []
 

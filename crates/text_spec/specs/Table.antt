@@ -1,4 +1,4 @@
--- Element tables: a row says where a value stands, how often, and what it may be. The fault of an
+-- Element tables: a row says where a value is, how often it occurs, and what it may be. The fault of an
 -- element is the first one in the order of the rows.
 use Rattle.std.specs.Prelude.{ℕ, List, [], ◌∷◌, ◌++◌, Option, Some, None, Result, Ok, Err}
 use Rattle.std.specs.List.{flat_map}
@@ -31,7 +31,7 @@ abbrev pub each : Place → Source → Content → Row
 each p s c = record { place = p; source = s; need = need.Each; content = c }
 
 -- ---- paths
--- the names of elements, each behind a slash
+-- the names of elements, each after a slash
 abbrev pub path_of : List ElementName → List ℕ
 path_of names = flat_map (λ n. slash ∷ element_word n) names
 
@@ -45,7 +45,7 @@ abbrev pub fault_at : List ElementName → DefKind → DefFault
 fault_at names k = record { path = path_of names; kind = k }
 
 -- ---- faults
--- a value that is absent from an element that stands
+-- a value that is absent from an element that is there
 abbrev pub absent_in : Need → Option DefKind
 absent_in need.Needed = Some kind.Missing
 absent_in need.Optional = None

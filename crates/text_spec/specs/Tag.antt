@@ -1,5 +1,5 @@
--- Tags of XML 1.0 (fifth edition), productions 10, 25 and 40 to 44. A fault in a tag is told at
--- its first byte, but for a reference, which is told at its own.
+-- Tags of XML 1.0 (fifth edition), productions 10, 25 and 40 to 44. A fault in a tag is reported at
+-- its first byte, but for a reference, which is reported at its own.
 use Rattle.std.specs.Prelude.{ℕ, zero, suc, ◌+◌, List, [], ◌∷◌, ◌++◌, length, drop, Bool, true, false, ◌&&◌, not, Option, Some, None, Result, Ok, Err, ◌==◌, if◌then◌else◌, encode_utf8_all}
 use Rattle.std.specs.List.{list_any}
 use Rattle.std.specs.Str.{bytes_eq}
@@ -12,7 +12,7 @@ use Rattle.text_spec.specs.Reference.{reference_at}
 use Rattle.text_spec.specs.Declaration.{equals_at, quote_at}
 use Rattle.text_spec.specs.declared.pair.Pair.{Pair}
 
--- what was read, behind what was read before
+-- what was read, after what was read before
 abbrev pub behind : {A : Type 0} → List A → Reading (List A) → Reading (List A)
 behind front read = read >>= λ v. Ok (front ++ v.0, v.1)
 
@@ -62,14 +62,14 @@ Attributes = List Pair × Bool
 abbrev pub after_attributes : List Pair → Reading Attributes → Reading Attributes
 after_attributes found read = read >>= λ more. Ok ((found ++ more.0.0, more.0.1), more.1)
 
--- the end of a tag, where it stands here: whether it is `/>`, and what follows it
+-- the end of a tag, where it comes next: whether it is `/>`, and what follows it
 unfoldable pub tag_end_at : Flaw → List ℕ → Result (Option (Bool × List ℕ)) Flaw
 tag_end_at told [] = Err ended
 tag_end_at told (c ∷ cs) =
     if c == greater then Ok (Some (false, cs))
     else (if c == slash then (expect told (greater ∷ []) cs >>= λ rest. Ok (Some (true, rest))) else Ok None)
 
--- how a tag that begins at start goes on: by its end, or behind a blank by an attribute and so on
+-- how a tag that begins at start goes on: by its end, or after a blank by an attribute and so on
 abbrev pub in_tag : (List (List ℕ) → List ℕ → Reading Attributes) → List ℕ → List (List ℕ) → Bool → List ℕ
     → Option (Bool × List ℕ) → Reading Attributes
 in_tag more start names blank cs (Some end) = Ok (([], end.0), end.1)

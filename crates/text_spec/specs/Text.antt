@@ -8,6 +8,8 @@ use Rattle.text_spec.specs.declared.fault.Flaw.{Flaw}
 use Rattle.text_spec.specs.declared.fault.TextFault.{TextFault}
 use Rattle.text_spec.specs.declared.fault.TextKind.{TextKind}
 use Rattle.text_spec.specs.declared.fault.TextKind.TheVariants as kind
+use Rattle.text_spec.specs.declared.limits.TheConstants.{MOST_LEVELS, MOST_ELEMENTS}
+use Rattle.virt_types.specs.Limits.{most_text_bytes}
 use Rattle.text_spec.specs.Reading.{◌>>=◌, flaw, ended}
 use Rattle.text_spec.specs.Character.{byte_order_mark, less, after_blanks}
 use Rattle.text_spec.specs.Aside.{aside_at}
@@ -17,13 +19,13 @@ use Rattle.text_spec.specs.Element.{ahead_of, Grown, element_at}
 
 -- the limits of a text
 abbrev pub most_bytes : ℕ
-most_bytes = 65536
+most_bytes = most_text_bytes
 
 abbrev pub most_levels : ℕ
-most_levels = 32
+most_levels = MOST_LEVELS
 
 abbrev pub most_elements : ℕ
-most_elements = 4096
+most_elements = MOST_ELEMENTS
 
 -- nothing follows, or only a `<`
 abbrev pub at_end : List ℕ → Result (List ℕ) Flaw
@@ -62,7 +64,7 @@ document cs =
     >>= λ root. misc_at (length root.rest + 1) root.rest
     >>= λ rest. all_read root.tree rest
 
--- without the mark that may stand in front
+-- without the mark that may come first
 unfoldable pub unmarked : List ℕ → List ℕ
 unmarked [] = []
 unmarked (c ∷ cs) = if c == byte_order_mark then cs else c ∷ cs
@@ -79,7 +81,7 @@ placed cs (Err f) = Err (fault_of cs f)
 unfoldable pub tree_of_characters : List ℕ → Result Tree TextFault
 tree_of_characters cs = placed cs (document (unmarked cs))
 
--- Where bytes that are not UTF-8 follow: a fault before them stands, and else they are the fault.
+-- Where bytes that are not UTF-8 follow: a fault before them counts; otherwise they are the fault.
 abbrev pub cut_by : TextKind → TextFault → TextFault → TextFault
 cut_by kind.End cut found = cut
 cut_by _ cut found = found

@@ -1,5 +1,5 @@
 -- Numbers and sizes in definition texts: the units of libvirt's domain and storage formats, with
--- powers of 1000 behind a `B` alone and powers of 1024 behind `iB` or nothing (IEC 80000-13).
+-- powers of 1000 after a `B` alone and powers of 1024 after `iB` or nothing (IEC 80000-13).
 use Rattle.std.specs.Prelude.{ℕ, ◌*◌, ◌^◌, List, [], ◌∷◌, length, Bool, ◌&&◌, ◌||◌, ◌==◌, nat_le, Option, Some, None, Result, Ok, Err, option_and_then, if◌then◌else◌, codes}
 use Rattle.std.specs.Char.{is_ascii_digit, to_ascii_lowercase}
 use Rattle.std.specs.Int.{div_ceil}
@@ -31,7 +31,7 @@ power_of letter =
     else (if letter == 112 then Some 5
     else (if letter == 101 then Some 6 else None)))))
 
--- what is raised to that power, by what stands behind the letter
+-- what is raised to that power, by what follows the letter
 unfoldable pub base_of : List ℕ → Option ℕ
 base_of rest =
     if str_eq_ignore_ascii_case rest (codes "b") then Some 1000
@@ -48,7 +48,7 @@ unfoldable pub unit_of : List ℕ → Option ℕ
 unit_of unit =
     if str_eq_ignore_ascii_case unit (codes "b") || str_eq_ignore_ascii_case unit (codes "bytes") then Some 1 else scaled unit
 
--- the bytes of a number of units; where no unit stands, of the one that is usual there
+-- the bytes of a number of units; without a unit, of the usual one
 unfoldable pub size_of : ℕ → List ℕ → Option (List ℕ) → Option ℕ
 size_of usual text unit =
     option_and_then (λ number. option_map (λ bytes. number * bytes) (option_map_or unit_of unit (Some usual))) (number_of text)

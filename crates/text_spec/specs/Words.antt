@@ -1,4 +1,4 @@
--- The words that stand for the values of the domain format's lists, for reading and for printing.
+-- The words for the values of the domain format's lists, for reading and for printing.
 use Rattle.std.specs.Prelude.{ℕ, List, [], ◌∷◌, codes, find, Option}
 use Rattle.std.specs.Str.{bytes_eq}
 use Rattle.virt_types.specs.declared.domain_def.DomainType.{DomainType}

@@ -18,7 +18,7 @@ unfoldable pub in_value : ℕ → List ℕ
 in_value c =
     if c == quote then codes "&quot;" else (if c == apostrophe then codes "&apos;" else in_text c)
 
--- an attribute, behind a blank
+-- an attribute, after a blank
 abbrev pub attribute_written : Pair → List ℕ
 attribute_written p =
     space ∷ chars p.name ++ codes "='" ++ flat_map in_value (chars p.value) ++ apostrophe ∷ []
@@ -27,7 +27,7 @@ attribute_written p =
 abbrev pub closing : List ℕ → List ℕ
 closing name = less ∷ slash ∷ name ++ greater ∷ line_feed ∷ []
 
--- an element without children, behind its attributes
+-- an element without children, after its attributes
 abbrev pub without_children : List ℕ → List ℕ → List ℕ
 without_children name [] = codes "/>" ++ line_feed ∷ []
 without_children name (c ∷ text) = greater ∷ c ∷ text ++ closing name
@@ -48,7 +48,7 @@ deeper inset = inset ++ space ∷ space ∷ []
 abbrev pub opened : List ℕ → List ℕ → List Pair → List ℕ
 opened inset name attributes = inset ++ less ∷ name ++ flat_map attribute_written attributes
 
--- the characters of an element behind these blanks, and of elements one after another
+-- the characters of an element after these blanks, and of elements one after another
 unfoldable mutual
   pub tree_written : List ℕ → Tree → List ℕ
   tree_written inset (element name attributes text children) =

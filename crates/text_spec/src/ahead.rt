@@ -1,4 +1,4 @@
-// What begins where reading stands inside an element.
+// What begins at the place that reading has reached inside an element.
 
 /// What begins at a place inside an element, as its first two characters tell.
 #[derive(Clone, Copy, Debug, PartialEq, Eq)]

@@ -15,7 +15,7 @@ pub struct Pair {
     pub value: Text,
 }
 
-/// Attributes in the order in which they stand, which contracts see as their list.
+/// Attributes in their order, which contracts see as their list.
 #[derive(Debug, Drop)]
 pub struct PairList {
     pairs: Vec<Pair>,

@@ -1,8 +1,8 @@
 // What a row of an element table says.
 use crate::vocabulary::{AttributeName, ElementName};
 
-/// Where a row's elements stand, from the element that its table is of. Of an outer element that
-/// stands more than once the first counts.
+/// Where a row's elements are, seen from the element of its table. Of several outer elements the
+/// first counts.
 #[derive(Clone, Copy, Debug, PartialEq, Eq)]
 pub enum Place {
     /// The element itself.
@@ -22,7 +22,7 @@ pub enum Source {
     Attribute(AttributeName),
 }
 
-/// How often a value stands.
+/// How often a value occurs.
 #[derive(Clone, Copy, Debug, PartialEq, Eq)]
 pub enum Need {
     /// Once: in the first element of the place, where it may not be absent.
@@ -73,11 +73,11 @@ pub enum Content {
 /// A row of an element table.
 #[derive(Clone, Copy, Debug, PartialEq, Eq)]
 pub struct Row {
-    /// Where its elements stand.
+    /// Where its elements are.
     pub place: Place,
     /// What of them it is about.
     pub source: Source,
-    /// How often it stands.
+    /// How often it occurs.
     pub need: Need,
     /// What it may be.
     pub content: Content,

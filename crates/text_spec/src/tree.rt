@@ -2,7 +2,7 @@
 use crate::pair::PairList;
 use virt_types::Text;
 
-/// An element with all that stands in it.
+/// An element with all that is in it.
 #[derive(Debug, Drop)]
 pub struct Tree {
     /// Its name.

@@ -1,10 +1,9 @@
-use Rattle.std.proofs.Common.{List, [], ◌++◌, take, drop}
-use Rattle.virt_types.specs.declared.device_def.Interface.{Interface}
-use Rattle.text_spec.specs.Fill.{AreMacsFilled}
+use Rattle.std.proofs.Common.{ℕ, List}
+use Rattle.std.specs.Io.KnownBytes.{Appends}
+use Rattle.definition_fill.proofs.Macs.{IsFilledSoFar}
 use Rattle.definition_fill.proofs.mac.fill_macs.Given as goal
 
--- however the interfaces from here on are filled, all are then filled
 abbrev pub invariant-loop-place : goal.invariant-loop-place
 invariant-loop-place g l =
-    (new : List Interface) → AreMacsFilled (take l.place l.interfaces) (drop l.place l.interfaces) new
-    → AreMacsFilled [] l.initial.interfaces (take l.place l.interfaces ++ new)
+    (drawn : List ℕ) × IsFilledSoFar l.initial.interfaces drawn l.interfaces l.place
+    × Appends (g.R.Random.drawn l.initial.random) (g.R.Random.drawn l.random) drawn

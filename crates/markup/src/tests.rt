@@ -1,3 +1,0 @@
-mod faults;
-mod trees;
-mod written;
