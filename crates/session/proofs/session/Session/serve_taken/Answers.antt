@@ -1,5 +1,5 @@
 use Rattle.session.proofs.Courses.{closed_ends, stopped_ends}
-use Rattle.session.proofs.serve.serve_taken.Goals as goal
+use Rattle.session.proofs.session.Session.serve_taken.Goals as goal
 
 pub returns-in-Err-SinkFault-clause-some : goal.returns-in-Err-SinkFault-clause-some
 returns-in-Err-SinkFault-clause-some g c =

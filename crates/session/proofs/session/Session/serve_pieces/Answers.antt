@@ -1,7 +1,7 @@
 use Rattle.std.proofs.Common.{◌<◌, length, arith, inl, inr}
 use Rattle.session.proofs.Courses.{going_ends, going_more, going_none, going_over}
 use Rattle.session.proofs.Known.{Consumes-none}
-use Rattle.session.proofs.serve.serve_pieces.Goals as goal
+use Rattle.session.proofs.session.Session.serve_pieces.Goals as goal
 
 pub loop-taken-init : goal.loop-taken-init
 loop-taken-init g c = record {
