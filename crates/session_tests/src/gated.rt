@@ -93,6 +93,16 @@ impl Source for GatedSource {
     }
 }
 
+// Takes the replies that are whole off what is owed; so many bytes have at most as many.
+fn settle(feed: &mut Feed, owed: &Cell<u64>, most: usize) {
+    for _ in 0..most {
+        if feed.next().is_none() {
+            break;
+        }
+        owed.set(owed.get().saturating_sub(1));
+    }
+}
+
 impl GatedSink {
     /// What was put.
     pub(crate) fn bytes(&self) -> &[u8] {
@@ -110,9 +120,7 @@ impl Sink for GatedSink {
     fn put(&mut self, piece: &[u8]) -> Result<usize, Failed> {
         let count = self.replies.put(piece)?;
         let _ = self.feed.feed(piece.split_at(count).0);
-        while let Some(_reply) = self.feed.next() {
-            self.owed.set(self.owed.get().saturating_sub(1));
-        }
+        settle(&mut self.feed, &self.owed, count);
         Ok(count)
     }
 }

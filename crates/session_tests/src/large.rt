@@ -50,7 +50,10 @@ fn long_calls_are_refused_and_the_session_goes_on(rt: HostRuntime) -> Result<(),
     put(alloc, &mut replies, AT_FOUR)?;
     put(alloc, &mut replies, AT_ZERO)?;
     put(alloc, &mut replies, OPENED)?;
-    for served in [serve_in_turn(alloc, calls.as_slice())?, serve(alloc, calls, 8192)?] {
+    for served in [
+        serve_in_turn(alloc, calls.as_slice())?,
+        serve(alloc, calls, 8192)?,
+    ] {
         assert!(&rt; served.output.as_slice() == replies.as_slice());
         assert!(&rt; served.end == End::Eof);
     }

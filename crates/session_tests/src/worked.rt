@@ -47,7 +47,11 @@ fn each_row_is_answered_as_it_says(rt: HostRuntime) -> Result<(), Fail> {
             End::Eof,
         ),
         ("lookups", &rows::LOOKUPS, End::Eof),
-        ("texts that have no reading", &rows::TEXTS_THAT_HAVE_NO_READING, End::Eof),
+        (
+            "texts that have no reading",
+            &rows::TEXTS_THAT_HAVE_NO_READING,
+            End::Eof,
+        ),
         (
             "calls that are not served, and one that is",
             &rows::CALLS_THAT_ARE_NOT_SERVED_AND_ONE_THAT_IS,
