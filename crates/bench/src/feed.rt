@@ -1,10 +1,7 @@
 // Packets that are fed in pieces.
-use packet::{BadPacket, Feed, Header, write_packet};
+use packet::{BadPacket, CALL, Feed, HEADER_LENGTH, Header, MOST_BYTES, OK, write_packet};
 use std::alloc::Global;
 use virt_types::{Bytes, NoMemory, OrNoMemory};
-
-/// The length of a packet without payload.
-const HEADER_LENGTH: usize = 28;
 
 /// A call of this length, or of the nearest length that a packet may have.
 fn packet_of(alloc: Global, size: usize) -> Result<Bytes, NoMemory> {
@@ -12,12 +9,12 @@ fn packet_of(alloc: Global, size: usize) -> Result<Bytes, NoMemory> {
         prog: 0x2000_8086,
         vers: 1,
         procedure: 23,
-        kind: 0,
+        kind: CALL,
         serial: 1,
-        status: 0,
+        status: OK,
     };
-    let length = size.clamp(HEADER_LENGTH, 4_194_304);
-    let payload = vec![in alloc; 0u8; length - HEADER_LENGTH]?;
+    let length = size.clamp(HEADER_LENGTH as usize, MOST_BYTES as usize);
+    let payload = vec![in alloc; 0u8; length - HEADER_LENGTH as usize]?;
     match write_packet(alloc, &header, &payload) {
         Ok(bytes) => Ok(bytes),
         Err(_) => Err(NoMemory),

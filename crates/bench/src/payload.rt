@@ -1,23 +1,20 @@
 // Calls that define a domain, read, and their replies, written.
 ghost use Rattle.procedure_spec.specs.Results.{HasResult};
 
-use packet::Header;
+use packet::{CALL, Header, OK};
 use procedure_spec::REMOTE;
 use remote_args::{read_call, write_reply};
 use std::alloc::Global;
-use virt_types::{DomainRef, Name, NoMemory, OrNoMemory, Uuid, Value};
+use virt_types::{DomainRef, MOST_TEXT_BYTES, Name, NoMemory, OrNoMemory, Uuid, Value};
 
 /// The procedure that defines a domain.
 const DEFINE: u32 = 11;
-
-/// The longest text of a definition.
-const MOST: u32 = 65_536;
 
 /// How many bytes of payloads lie in memory, so that texts of every length come from beyond the
 /// processor's caches.
 const RING: usize = 1 << 25;
 
-/// Payloads of calls, one behind the other, each with a text of this many blanks.
+/// Payloads of calls, one after the other, each with a text of this many blanks.
 fn definitions(alloc: Global, size: u32) -> Result<Vec<u8>, NoMemory> {
     let length = 4 + size as usize;
     let mut ring = Vec::new(alloc);
@@ -61,12 +58,12 @@ pub(crate) fn define(alloc: Global, size: u32, rounds: u32) -> Result<u64, NoMem
         prog: REMOTE,
         vers: 1,
         procedure: DEFINE,
-        kind: 0,
+        kind: CALL,
         serial: 1,
-        status: 0,
+        status: OK,
     };
     let value = Value::Domain(demo(alloc)?);
-    let size = size.min(MOST) / 4 * 4;
+    let size = size.min(MOST_TEXT_BYTES as u32) / 4 * 4;
     let ring = definitions(alloc, size)?;
     let mut served = 0u64;
     for _ in 0..rounds {

@@ -21,7 +21,7 @@ pub waited : (b : Bool) (o : Option BadPacket) (bad : BadPacket) → cond b None
 waited true o bad e = absurd cc
 waited false o bad e = (refl, e)
 
--- the faults behind a test may change, if they stay where it fails
+-- the faults after a test may change, if they stay where it fails
 pub behind_test : (b : Bool) (x y z : Option BadPacket) (bad : BadPacket) → cond b x y ≡ Some bad → (y ≡ Some bad → z ≡ Some bad) → cond b x z ≡ Some bad
 behind_test true x y z bad e f = e
 behind_test false x y z bad e f = f e

@@ -6,3 +6,4 @@ pub mod Taken
 pub mod Unique
 pub mod Whole
 pub mod Words
+pub mod Written

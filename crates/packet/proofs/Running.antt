@@ -6,16 +6,16 @@ use Rattle.wire_spec.specs.Packets.{spelling, IsPacket}
 use Rattle.wire_spec.specs.Split.{stream, IsRest, Splits}
 use Rattle.wire_spec.specs.declared.message.Packet.{Packet}
 use Rattle.packet.specs.Feeding.{Held, IsSplit, bytes_of, nothing}
-use Rattle.packet.specs.Runs.{Run, Step, Gives, Takes, bytes_fed, packets_given}
+use Rattle.packet.specs.Runs.{Fed, Given, Run, Step, bytes_fed, packets_given}
 
--- all that was fed behind what was held is given or held now
+-- all that was fed after what was held is given or held now
 pub run_whole : (steps : List Step) (old new : Held) → IsSplit old → Run steps old new
     → (bytes_of old ++ bytes_fed steps ≡ stream (packets_given steps ++ new.ready) new.rest) × AllByRecursion IsPacket (packets_given steps ++ new.ready) × IsRest new.rest
 run_whole [] old new is r = (append-nil (bytes_of old) ∙ ap bytes_of (sym r), subst (λ (h : Held). AllByRecursion IsPacket h.ready) (sym r) is.each, subst (λ (h : Held). IsRest h.rest) (sym r) is.part)
-run_whole (Takes piece ∷ steps) old new is r =
+run_whole (Fed piece ∷ steps) old new is r =
     let later = run_whole steps r.0 new r.2 r.3 in
     (sym (append_assoc (bytes_of old) piece (bytes_fed steps)) ∙ (ap (λ (b : List ℕ). b ++ bytes_fed steps) (sym r.1) ∙ later.0), later.1, later.2)
-run_whole (Gives packet ∷ steps) old new is r =
+run_whole (Given packet ∷ steps) old new is r =
     let all : AllByRecursion IsPacket (packet ∷ r.0.ready) = subst (λ (ps : List Packet). AllByRecursion IsPacket ps) r.1 is.each in
     let part : IsRest r.0.rest = subst IsRest (sym r.2) is.part in
     let later = run_whole steps r.0 new (record { each = all.1; part = part }) r.3 in

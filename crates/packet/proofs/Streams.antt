@@ -1,4 +1,4 @@
--- One more packet behind those that are ready.
+-- One more packet after those that are ready.
 use Rattle.std.proofs.Common.{◌≡◌, ◌≤◌, ◌<◌, ◌+◌, ◌++◌, ℕ, List, [], ◌∷◌, length, drop, take, sym, ap, ◌∙◌, arith, append_assoc}
 use Rattle.std.proofs.lemmas.Grind.{flat_map-append}
 use Rattle.std.proofs.lemmas.List.{append-nil, drop-drop, length-drop}
@@ -18,7 +18,7 @@ pub each-one_more : (packets : List Packet) (packet : Packet) → AllByRecursion
 each-one_more [] packet h p = (p, tt)
 each-one_more (x ∷ xs) packet h p = (h.0, each-one_more xs packet h.1 p)
 
--- some packets of the bytes, up to a place, stand behind those that were ready
+-- some packets of the bytes, up to a place, stand after those that were ready
 pub record Decoding (ready : List Packet) (bytes : List ℕ) (now : List Packet) (used : ℕ) : Type 0 where
   pub more : List Packet
   pub behind : now ≡ ready ++ more
@@ -26,7 +26,7 @@ pub record Decoding (ready : List Packet) (bytes : List ℕ) (now : List Packet)
   pub whole : stream now (drop used bytes) ≡ stream ready bytes
   pub each : AllByRecursion IsPacket ready → AllByRecursion IsPacket now
 
--- what the front of the bytes behind that place was found to be
+-- what the front of the bytes after that place was found to be
 abbrev pub IsFront : Packet → ℕ → List ℕ → Type 0
 IsFront packet size bytes = IsPacket packet × (size ≤ length bytes) × (0 < size) × (bytes ≡ spelling packet ++ drop size bytes)
 
@@ -43,6 +43,6 @@ decoding_more ready bytes now after used size packet kept is found =
       each = λ all. each-one_more now packet (kept.each all) found.0;
     })
 
--- without what was put behind them, the packets are those that were ready
+-- without what was put after them, the packets are those that were ready
 pub decoding_back : (ready : List Packet) (bytes : List ℕ) (now : List Packet) (used : ℕ) → Decoding ready bytes now used → take (length ready) now ≡ ready
 decoding_back ready bytes now used kept = ap (λ (ps : List Packet). take (length ready) ps) kept.behind ∙ take-append_seam ready kept.more

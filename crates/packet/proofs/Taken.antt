@@ -3,7 +3,7 @@ use Rattle.std.proofs.Common.{◌≡◌, ◌+◌, ◌++◌, ℕ, List, [], take,
 use Rattle.std.proofs.lemmas.List.{take-append-drop, drop-drop}
 use Rattle.std.proofs.Math.Seq.{drop-nil}
 
--- what was left is what was taken now, and what is left behind it
+-- what was left is what was taken now, and what is left after it
 pub taken : (bytes into : List ℕ) (before count : ℕ) → take count into ≡ take count (drop before bytes) → drop before bytes ≡ take count into ++ drop (before + count) bytes
 taken bytes into before count e =
     sym (take-append-drop count (drop before bytes))

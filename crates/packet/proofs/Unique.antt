@@ -24,7 +24,7 @@ behind_word a rest = refl
 same_word : (a b : ℕ) (x y : List ℕ) → a < 2 ^ 32 → b < 2 ^ 32 → word a ++ x ≡ word b ++ y → (a ≡ b) × (x ≡ y)
 same_word a b x y l m e = (sym (front_word a x l) ∙ (ap (word_at 0) e ∙ front_word b y m), sym (behind_word a x) ∙ (ap (drop 4) e ∙ behind_word b y))
 
--- the seven words and the payload, one behind the other
+-- the seven words and the payload, one after the other
 abbrev laid : ℕ → Header → List ℕ → List ℕ
 laid l h tail = word l ++ (word h.prog ++ (word h.vers ++ (word h.procedure ++ (word h.kind ++ (word h.serial ++ (word h.status ++ tail))))))
 

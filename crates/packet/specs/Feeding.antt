@@ -8,7 +8,7 @@ use Rattle.wire_spec.specs.declared.message.Packet.{Packet}
 use Rattle.wire_spec.specs.Packets.{IsPacket, fault}
 use Rattle.wire_spec.specs.Split.{IsRest, stream}
 
--- whole packets that wait, and the bytes behind them
+-- whole packets that wait, and the bytes after them
 pub record Held : Type 0 where
   pub ready : List Packet
   pub rest : List ℕ
@@ -17,7 +17,7 @@ pub record Held : Type 0 where
 abbrev pub nothing : Held
 nothing = record { ready = []; rest = [] }
 
--- the packets are such, and the bytes behind them begin with no whole one
+-- the packets are such, and the bytes after them begin with no whole one
 pub record IsSplit (held : Held) : Type 0 where
   pub each : AllByRecursion IsPacket held.ready
   pub part : IsRest held.rest
@@ -25,7 +25,7 @@ pub record IsSplit (held : Held) : Type 0 where
 abbrev pub bytes_of : Held → List ℕ
 bytes_of held = stream held.ready held.rest
 
--- the piece was put behind what was held
+-- the piece was put after what was held
 abbrev pub Grows : Held → List ℕ → Held → Type 0
 Grows old piece new = bytes_of new ≡ bytes_of old ++ piece
 

@@ -7,7 +7,7 @@ use Rattle.wire_spec.specs.Split.{IsRest}
 use Rattle.packet.specs.declared.head.Front.{Front}
 use Rattle.packet.specs.declared.head.Front.TheVariants.{Part, Bad, Whole}
 
--- the six words behind the length
+-- the six words after the length
 abbrev pub header_at : List ℕ → Header
 header_at bytes = record { prog = word_at 4 bytes; vers = word_at 8 bytes; procedure = word_at 12 bytes; kind = word_at 16 bytes; serial = word_at 20 bytes; status = word_at 24 bytes }
 

@@ -5,21 +5,21 @@ use Rattle.packet.specs.Feeding.{Grows, Held, IsSplit}
 
 -- a piece that was taken, or a packet that was given
 pub data Step : Type 0 where
-  Takes : List ℕ → Step
-  Gives : Packet → Step
+  Fed : List ℕ → Step
+  Given : Packet → Step
 
 -- each step does what `feed` and `next` say that they do
 abbrev pub Run : List Step → Held → Held → Type 0
 Run [] old new = new ≡ old
-Run (Takes piece ∷ steps) old new = (held : Held) × Grows old piece held × IsSplit held × Run steps held new
-Run (Gives packet ∷ steps) old new = (held : Held) × (old.ready ≡ packet ∷ held.ready) × (held.rest ≡ old.rest) × Run steps held new
+Run (Fed piece ∷ steps) old new = (held : Held) × Grows old piece held × IsSplit held × Run steps held new
+Run (Given packet ∷ steps) old new = (held : Held) × (old.ready ≡ packet ∷ held.ready) × (held.rest ≡ old.rest) × Run steps held new
 
 abbrev pub bytes_fed : List Step → List ℕ
 bytes_fed [] = []
-bytes_fed (Takes piece ∷ steps) = piece ++ bytes_fed steps
-bytes_fed (Gives packet ∷ steps) = bytes_fed steps
+bytes_fed (Fed piece ∷ steps) = piece ++ bytes_fed steps
+bytes_fed (Given packet ∷ steps) = bytes_fed steps
 
 abbrev pub packets_given : List Step → List Packet
 packets_given [] = []
-packets_given (Takes piece ∷ steps) = packets_given steps
-packets_given (Gives packet ∷ steps) = packet ∷ packets_given steps
+packets_given (Fed piece ∷ steps) = packets_given steps
+packets_given (Given packet ∷ steps) = packet ∷ packets_given steps

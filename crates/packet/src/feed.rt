@@ -15,7 +15,7 @@ use wire_spec::{BadPacket, Packet};
 const ROOM: usize = 4096;
 
 /// Takes a stream in pieces, however they are cut, and gives its packets. Contracts see the whole
-/// packets that wait, and the bytes behind them.
+/// packets that wait, and the bytes after them.
 #[derive(Drop)]
 pub struct Feed {
     alloc: Global,
@@ -47,7 +47,7 @@ impl Feed {
         })
     }
 
-    /// Takes the next piece of the stream. Where the bytes behind the whole packets are those of no
+    /// Takes the next piece of the stream. Where the bytes after the whole packets are those of no
     /// packet it answers the first word that shows it; so does each later call, which takes nothing.
     /// The packets before are still given. After `NoMemory` the piece was not taken.
     pub fn feed(&mut self, piece: &[u8]) -> Result<(), OrNoMemory<BadPacket>>
@@ -78,7 +78,7 @@ impl Feed {
         self.ready.pop_front()
     }
 
-    /// How many bytes of the packet begun stand behind the whole ones; 0 where they are those of no
+    /// How many bytes of the packet begun stand after the whole ones; 0 where they are those of no
     /// packet.
     pub fn rest(&self) -> u32
         ensures rest { result ≡ begun self.now.rest }

@@ -5,13 +5,9 @@ ghost use Rattle.packet.specs.Front.{Begins, StandsAt, header_at};
 
 use std::alloc::Global;
 use virt_types::{Bytes, NoMemory};
-use wire_spec::{BadPacket, Header, Packet};
-
-/// The length of a packet without payload: the length word and the six words behind it.
-pub(crate) const HEADER_LENGTH: usize = 28;
-
-/// The greatest length of a packet.
-pub(crate) const MOST: usize = 4_194_304;
+use wire_spec::{
+    BadPacket, CALL, CONTINUE, HEADER_LENGTH, Header, MESSAGE, MOST_BYTES, OK, Packet,
+};
 
 /// What stands at the front of some bytes.
 #[derive(Drop)]
@@ -35,7 +31,7 @@ fn word_of(bytes: &[u8], at: usize) -> u32
 fn bad_status(kind: u32, status: u32) -> Option<BadPacket>
     ensures { result ≡ status_fault kind status }
 {
-    if status > 2 || kind == 0 && status > 0 {
+    if status > CONTINUE || kind == CALL && status > OK {
         Some(BadPacket::Status { s: status })
     } else {
         None
@@ -45,9 +41,9 @@ fn bad_status(kind: u32, status: u32) -> Option<BadPacket>
 fn bad_kind(bytes: &[u8], kind: u32) -> Option<BadPacket>
     ensures { result ≡ kind_fault bytes.now kind }
 {
-    if kind > 2 {
+    if kind > MESSAGE {
         Some(BadPacket::Kind { t: kind })
-    } else if bytes.len() < HEADER_LENGTH {
+    } else if bytes.len() < HEADER_LENGTH as usize {
         None
     } else {
         bad_status(kind, word_of(bytes, 24))
@@ -57,9 +53,9 @@ fn bad_kind(bytes: &[u8], kind: u32) -> Option<BadPacket>
 fn bad_length(bytes: &[u8], length: u32) -> Option<BadPacket>
     ensures { result ≡ length_fault bytes.now length }
 {
-    if length < 28 {
+    if length < HEADER_LENGTH {
         Some(BadPacket::LengthLow { l: length })
-    } else if length > 4_194_304 {
+    } else if length > MOST_BYTES {
         Some(BadPacket::LengthHigh { l: length })
     } else if bytes.len() < 20 {
         None
@@ -102,7 +98,7 @@ fn packet_of(alloc: Global, bytes: &[u8], size: usize) -> Result<Packet, NoMemor
     ensures { IfOk result (StandsAt bytes.now size) }
 {
     let header = header_of(bytes);
-    let payload = Bytes::copy_of(alloc, &bytes[HEADER_LENGTH..size])?;
+    let payload = Bytes::copy_of(alloc, &bytes[HEADER_LENGTH as usize..size])?;
     Ok(Packet { header, payload })
 }
 

@@ -7,12 +7,12 @@ pub fn one_way()
 {}
 
 /// However a stream is cut, and whenever packets are asked for: those given so far, those that wait
-/// and the bytes behind them are the packets and the rest of all bytes fed.
+/// and the bytes after them are the packets and the rest of all bytes fed.
 pub fn any_cutting()
     ensures { SplitsHoweverCut }
 {}
 
-/// More bytes of a stream only add packets behind those that were there.
+/// More bytes of a stream only add packets after those that were there.
 pub fn more_bytes()
     ensures { MoreBytesAdd }
 {}

@@ -13,5 +13,7 @@ mod write;
 
 pub use feed::Feed;
 pub use outside::{Sink, Source};
-pub use wire_spec::{BadPacket, Header, Packet};
-pub use write::{WriteFault, write_packet};
+pub use wire_spec::{
+    BadPacket, CALL, ERROR, HEADER_LENGTH, Header, MESSAGE, MOST_BYTES, OK, Packet, REPLY,
+};
+pub use write::{WriteFault, begin_packet, finish_packet, write_packet};

@@ -2,7 +2,7 @@
 ghost use Rattle.std.specs.Prelude.{◌≡◌, ◌≤◌, length, drop, take, vec_len, IfOk, OnErr};
 ghost use Rattle.wire_spec.specs.Packets.{fault};
 ghost use Rattle.wire_spec.specs.Split.{IsRest, begun};
-ghost use Rattle.packet.specs.Pieces.{Decodes, Takes};
+ghost use Rattle.packet.specs.Pieces.{Decodes, TakesPiece};
 
 use crate::head::{Front, front_of};
 use std::alloc::Global;
@@ -17,7 +17,7 @@ struct Decoded {
     bad: Option<BadPacket>,
 }
 
-/// Puts the whole packets of the bytes behind those that are ready. An `Err` may leave some there.
+/// Puts the whole packets of the bytes after those that are ready. An `Err` may leave some there.
 fn decode(alloc: Global, ready: &mut VecDeque<Packet>, bytes: &[u8]) -> Result<Decoded, NoMemory>
     ensures ok { IfOk result (λ d. Decodes ready.old.items bytes.now ready.new.items d.used d.bad) }
     ensures err { OnErr result (take (length ready.old.items) ready.new.items ≡ ready.old.items) }
@@ -49,14 +49,14 @@ fn remove_front(bytes: &mut Vec<u8>, count: usize)
     bytes.truncate(left);
 }
 
-/// Puts a piece behind the bytes, and moves each packet that is whole now. An `Err` changes nothing.
+/// Puts a piece after the bytes, and moves each packet that is whole now. An `Err` changes nothing.
 pub(crate) fn take_piece(
     alloc: Global,
     ready: &mut VecDeque<Packet>,
     rest: &mut Vec<u8>,
     piece: &[u8],
 ) -> Result<Option<BadPacket>, NoMemory>
-    ensures ok { IfOk result (Takes ready.old.items rest.old.items piece.now ready.new.items rest.new.items) }
+    ensures ok { IfOk result (TakesPiece ready.old.items rest.old.items piece.now ready.new.items rest.new.items) }
     ensures err { OnErr result ((ready.new.items ≡ ready.old.items) × (rest.new.items ≡ rest.old.items)) }
 {
     let held = rest.len();

@@ -18,10 +18,10 @@ use Rattle.wire_spec.proofs.Steps.{Takes-then}
 use Rattle.wire_spec.proofs.Strings.{IsItem-fixed}
 use Rattle.wire_spec.specs.declared.fault.XdrFault.TheVariants.{TooLong}
 use Rattle.wire_spec.specs.declared.message.Header.{Header}
-use Rattle.procedure_spec.specs.Arguments.{packet_bound, procedure_of}
+use Rattle.procedure_spec.specs.Arguments.{procedure_of}
 use Rattle.procedure_spec.specs.Calls.{IsCall}
 use Rattle.procedure_spec.specs.Reading.{◌>>=◌, item, unless}
-use Rattle.procedure_spec.specs.Results.{HasParts, HasResult, HasShape, IsAnswer, IsReference, domain_reference, names, names_bound, result, result_shape}
+use Rattle.procedure_spec.specs.Results.{HasParts, HasResult, HasShape, IsAnswer, IsReference, domain_reference, names, result, result_shape}
 use Rattle.procedure_spec.specs.ResultsReading.{count_fault, first_count, first_domain, first_list, first_name, first_name_list, first_names, first_nothing, first_reference, first_text, reply_of, value_in, value_shaped}
 use Rattle.procedure_spec.specs.declared.fault.ArgFault.{ArgFault}
 use Rattle.procedure_spec.specs.declared.fault.ArgFault.TheVariants as fault
@@ -32,6 +32,7 @@ use Rattle.procedure_spec.proofs.Answered.{result_shaped}
 use Rattle.procedure_spec.proofs.NameParts.{IsPart-name}
 use Rattle.procedure_spec.proofs.Parts.{IsPart, IsPart-item, after_both, bind_ok, made_again, made_found, ok_is, unless_ok}
 use Rattle.procedure_spec.proofs.Targets.{IsItem-name}
+use Rattle.procedure_spec.specs.declared.words.TheConstants.{NAMES_BOUND, PACKET_BOUND}
 
 -- ---- a domain
 
@@ -99,29 +100,29 @@ names_again (suc n) l (x ∷ ns) rest len each e =
 part_word : IsPart IsWord word (item first_word)
 part_word = IsPart-item IsWord word first_word IsItem-word
 
-few : (place count : ℕ) (b : Bool) → ltb names_bound count ≡ b → (let o : Option ArgFault = cond b (Some (fault.Xdr (TooLong place count))) None in o ≡ None) → count ≤ names_bound
+few : (place count : ℕ) (b : Bool) → ltb NAMES_BOUND count ≡ b → (let o : Option ArgFault = cond b (Some (fault.Xdr (TooLong place count))) None in o ≡ None) → count ≤ NAMES_BOUND
 few place count true t e = absurd cc
-few place count false t e = ltb-false names_bound count t
+few place count false t e = ltb-false NAMES_BOUND count t
 
-count_found : (l : Left) (x : ℕ × Left) → IsBytes l.bytes → first_count l ≡ Ok x → (x.0 ≤ names_bound) × Takes l (word x.0) x.1 × IsBytes x.1.bytes
+count_found : (l : Left) (x : ℕ × Left) → IsBytes l.bytes → first_count l ≡ Ok x → (x.0 ≤ NAMES_BOUND) × Takes l (word x.0) x.1 × IsBytes x.1.bytes
 unfolding first_count
 count_found l x fits e =
     let m = bind_ok (item first_word l) (λ n. unless (count_fault l.place n.0) n) x e in
     let f = part_word.found l m.0 fits m.1 in
     let u = unless_ok (count_fault l.place m.0.0) m.0 x m.2 in
-    let le = few l.place m.0.0 (ltb names_bound m.0.0) refl u.0 in
-    subst (λ (y : ℕ × Left). (y.0 ≤ names_bound) × Takes l (word y.0) y.1 × IsBytes y.1.bytes) u.1 (le, f.1, f.2)
+    let le = few l.place m.0.0 (ltb NAMES_BOUND m.0.0) refl u.0 in
+    subst (λ (y : ℕ × Left). (y.0 ≤ NAMES_BOUND) × Takes l (word y.0) y.1 × IsBytes y.1.bytes) u.1 (le, f.1, f.2)
 
-count_again : (l : Left) (n : ℕ) (rest : List ℕ) → n ≤ names_bound → l.bytes ≡ word n ++ rest → first_count l ≡ Ok (taken l n (word n) rest)
+count_again : (l : Left) (n : ℕ) (rest : List ℕ) → n ≤ NAMES_BOUND → l.bytes ≡ word n ++ rest → first_count l ≡ Ok (taken l n (word n) rest)
 unfolding first_count
 count_again l n rest le e =
-    let off : ltb names_bound n ≡ false = le-ltb _ _ le in
+    let off : ltb NAMES_BOUND n ≡ false = le-ltb _ _ le in
     rw (part_word.again l n rest (omega (arith, le)) e, off) refl
 
-part_count : IsPart (λ n. n ≤ names_bound) word first_count
+part_count : IsPart (λ n. n ≤ NAMES_BOUND) word first_count
 part_count = record { found = count_found; again = count_again }
 
-list_found : (l : Left) (x : List (List ℕ) × Left) → IsBytes l.bytes → first_list l ≡ Ok x → ((length x.0 ≤ names_bound) × AllByRecursion IsName x.0) × Takes l (names x.0) x.1 × IsBytes x.1.bytes
+list_found : (l : Left) (x : List (List ℕ) × Left) → IsBytes l.bytes → first_list l ≡ Ok x → ((length x.0 ≤ NAMES_BOUND) × AllByRecursion IsName x.0) × Takes l (names x.0) x.1 × IsBytes x.1.bytes
 unfolding first_list
 list_found l x fits e =
     let c = bind_ok (first_count l) (λ n. first_names n.0 n.1) x e in
@@ -130,18 +131,18 @@ list_found l x fits e =
     let all : Takes l (word c.0.0 ++ flat_map opaque x.0) x.1 = Takes-then l c.0.1 x.1 (word c.0.0) (flat_map opaque x.0) f.1 g.2 in
     ((rw g.0 f.0, g.1), subst (λ (n : ℕ). Takes l (word n ++ flat_map opaque x.0) x.1) (sym g.0) all, g.3)
 
-list_again : (l : Left) (ns : List (List ℕ)) (rest : List ℕ) → (length ns ≤ names_bound) × AllByRecursion IsName ns → l.bytes ≡ names ns ++ rest → first_list l ≡ Ok (taken l ns (names ns) rest)
+list_again : (l : Left) (ns : List (List ℕ)) (rest : List ℕ) → (length ns ≤ NAMES_BOUND) × AllByRecursion IsName ns → l.bytes ≡ names ns ++ rest → first_list l ≡ Ok (taken l ns (names ns) rest)
 unfolding first_list
 list_again l ns rest are e =
     let f = part_count.again l (length ns) (flat_map opaque ns ++ rest) are.0 (e ∙ append_assoc (word (length ns)) (flat_map opaque ns) rest) in
     let g = names_again (length ns) (taken l (length ns) (word (length ns)) (flat_map opaque ns ++ rest)).1 ns rest refl are.1 refl in
     rw (f, g, after_both (word (length ns)) (flat_map opaque ns) l.place) refl
 
-part_list : IsPart (λ ns. (length ns ≤ names_bound) × AllByRecursion IsName ns) names first_list
+part_list : IsPart (λ ns. (length ns ≤ NAMES_BOUND) × AllByRecursion IsName ns) names first_list
 part_list = record { found = list_found; again = list_again }
 
-part_text : IsPart (IsString packet_bound) opaque (item (first_string packet_bound))
-part_text = IsPart-item (IsString packet_bound) opaque (first_string packet_bound) IsItem-name
+part_text : IsPart (IsString PACKET_BOUND) opaque (item (first_string PACKET_BOUND))
+part_text = IsPart-item (IsString PACKET_BOUND) opaque (first_string PACKET_BOUND) IsItem-name
 
 -- ---- whole payloads
 
@@ -166,10 +167,10 @@ shaped_found shape.Domain payload v fits e =
     let m = made_found IsReference domain_reference first_reference value.Domain part_reference payload v fits e in
     subst (λ (w : Value). IsShaped shape.Domain payload w) m.is (record { shaped = refl; parts = m.value; spelled = m.whole })
 shaped_found shape.Text payload v fits e =
-    let m = made_found (IsString packet_bound) opaque (item (first_string packet_bound)) value.Text part_text payload v fits e in
+    let m = made_found (IsString PACKET_BOUND) opaque (item (first_string PACKET_BOUND)) value.Text part_text payload v fits e in
     subst (λ (w : Value). IsShaped shape.Text payload w) m.is (record { shaped = (refl, omega (arith, m.value.bounded)); parts = m.value; spelled = m.whole })
 shaped_found shape.Names payload v fits e =
-    let m = made_found (λ ns. (length ns ≤ names_bound) × AllByRecursion IsName ns) names first_list value.Names part_list payload v fits e in
+    let m = made_found (λ ns. (length ns ≤ NAMES_BOUND) × AllByRecursion IsName ns) names first_list value.Names part_list payload v fits e in
     subst (λ (w : Value). IsShaped shape.Names payload w) m.is (record { shaped = (refl, m.value.0); parts = m.value.1; spelled = m.whole })
 shaped_found _ payload v fits e = absurd cc
 
@@ -183,10 +184,10 @@ shaped_again s payload (value.Domain d) is =
     (made_again IsReference domain_reference first_reference value.Domain part_reference payload d is.parts is.spelled)
 shaped_again s payload (value.Text t) is =
     subst (λ (u : ResultShape). value_in u payload ≡ Ok (value.Text t)) (sym is.shaped.0)
-    (made_again (IsString packet_bound) opaque (item (first_string packet_bound)) value.Text part_text payload t is.parts is.spelled)
+    (made_again (IsString PACKET_BOUND) opaque (item (first_string PACKET_BOUND)) value.Text part_text payload t is.parts is.spelled)
 shaped_again s payload (value.Names ns) is =
     subst (λ (u : ResultShape). value_in u payload ≡ Ok (value.Names ns)) (sym is.shaped.0)
-    (made_again (λ ns. (length ns ≤ names_bound) × AllByRecursion IsName ns) names first_list value.Names part_list payload ns (is.shaped.1, is.parts) is.spelled)
+    (made_again (λ ns. (length ns ≤ NAMES_BOUND) × AllByRecursion IsName ns) names first_list value.Names part_list payload ns (is.shaped.1, is.parts) is.spelled)
 shaped_again s payload _ is = absurd is.shaped
 
 -- ---- replies

@@ -8,7 +8,7 @@ use Rattle.virt_types.specs.Refusal.{refusal_message}
 use Rattle.virt_types.specs.declared.refusal.RefusalCode.{RefusalCode}
 use Rattle.virt_types.specs.declared.refusal.RefusalCode.TheVariants as code
 use Rattle.wire_spec.specs.Xdr.{IsString}
-use Rattle.procedure_spec.specs.Arguments.{packet_bound}
+use Rattle.procedure_spec.specs.declared.words.TheConstants.{PACKET_BOUND}
 
 pub message_short : (c : RefusalCode) → length (refusal_message c) < 2 ^ 32
 message_short code.NoMemory = lit< tt
@@ -32,7 +32,6 @@ message_short code.GuestEnded = lit< tt
 message_short code.MonitorLost = lit< tt
 message_short code.TooManyWaiting = lit< tt
 message_short code.ListFull = lit< tt
-message_short code.HistoryFull = lit< tt
 message_short code.NotBuilt = lit< tt
 message_short code.Stalled = lit< tt
 message_short code.SnapshotExists = lit< tt
@@ -55,10 +54,10 @@ ascii_of [] e i = IsAscii-nil i
 ascii_of (b ∷ bs) e zero = ltb-true b 128 (both_true (ltb b 128) (is_ascii bs) e).0
 ascii_of (b ∷ bs) e (suc i) = ascii_of bs (both_true (ltb b 128) (is_ascii bs) e).1 i
 
-short_string : (message : List ℕ) → length message < 1000 → is_ascii message ≡ true → IsString packet_bound message
+short_string : (message : List ℕ) → length message < 1000 → is_ascii message ≡ true → IsString PACKET_BOUND message
 short_string message short ascii = record { bounded = omega (arith, short); text = IsUtf8-from_ascii message (ascii_of message ascii) }
 
-pub message_string : (c : RefusalCode) → IsString packet_bound (refusal_message c)
+pub message_string : (c : RefusalCode) → IsString PACKET_BOUND (refusal_message c)
 message_string code.NoMemory = short_string (refusal_message code.NoMemory) (lit< tt) refl
 message_string code.UnknownProcedure = short_string (refusal_message code.UnknownProcedure) (lit< tt) refl
 message_string code.InvalidArgument = short_string (refusal_message code.InvalidArgument) (lit< tt) refl
@@ -80,7 +79,6 @@ message_string code.GuestEnded = short_string (refusal_message code.GuestEnded) 
 message_string code.MonitorLost = short_string (refusal_message code.MonitorLost) (lit< tt) refl
 message_string code.TooManyWaiting = short_string (refusal_message code.TooManyWaiting) (lit< tt) refl
 message_string code.ListFull = short_string (refusal_message code.ListFull) (lit< tt) refl
-message_string code.HistoryFull = short_string (refusal_message code.HistoryFull) (lit< tt) refl
 message_string code.NotBuilt = short_string (refusal_message code.NotBuilt) (lit< tt) refl
 message_string code.Stalled = short_string (refusal_message code.Stalled) (lit< tt) refl
 message_string code.SnapshotExists = short_string (refusal_message code.SnapshotExists) (lit< tt) refl

@@ -8,12 +8,12 @@ use Rattle.virt_types.proofs.Names.{first_of_text, name_of, place_none}
 use Rattle.wire_spec.specs.Xdr.{IsString, opaque}
 use Rattle.wire_spec.specs.XdrAnswer.{Takes}
 use Rattle.wire_spec.specs.XdrReading.{IsBytes, Left, first_string}
-use Rattle.procedure_spec.specs.Arguments.{packet_bound}
 use Rattle.procedure_spec.specs.Reading.{item, unless}
 use Rattle.procedure_spec.specs.ResultsReading.{first_name, name_fault}
 use Rattle.procedure_spec.specs.declared.fault.ArgFault.TheVariants as fault
 use Rattle.procedure_spec.proofs.Parts.{IsPart, IsPart-item, bind_ok, unless_ok}
 use Rattle.procedure_spec.proofs.Targets.{IsItem-name}
+use Rattle.procedure_spec.specs.declared.words.TheConstants.{PACKET_BOUND}
 
 -- ---- where bytes are no name
 
@@ -38,7 +38,7 @@ none_where bs is = place_none bs is.utf8 (all_pass bs is) (whole_good (length bs
 place_within : (wrong l at : ℕ) (whole : Bool) → cond (nat_lt wrong l) (Some wrong) (cond whole (Some l) None) ≡ Some at → at ≤ l
 place_within wrong l at whole e = grind (arith, e)
 
--- the place of a wrong byte is in the bytes, or right behind them
+-- the place of a wrong byte is in the bytes, or right after them
 pub bad_within : (bs : List ℕ) (at : ℕ) → bad_place bs ≡ Some at → at ≤ length bs
 unfolding bad_place
 bad_within bs at e = place_within (first_wrong bs) (length bs) at (is_bad_whole bs) e
@@ -49,17 +49,17 @@ no_fault : (place : ℕ) (o : Option ℕ) → option_map (λ wrong. fault.Name (
 no_fault place None e = refl
 no_fault place (Some wrong) e = absurd cc
 
-name_string : (bs : List ℕ) → IsName bs → IsString packet_bound bs
+name_string : (bs : List ℕ) → IsName bs → IsString PACKET_BOUND bs
 name_string bs is = record { bounded = omega (arith, is.most); text = is.utf8 }
 
-part_string : IsPart (IsString packet_bound) opaque (item (first_string packet_bound))
-part_string = IsPart-item (IsString packet_bound) opaque (first_string packet_bound) IsItem-name
+part_string : IsPart (IsString PACKET_BOUND) opaque (item (first_string PACKET_BOUND))
+part_string = IsPart-item (IsString PACKET_BOUND) opaque (first_string PACKET_BOUND) IsItem-name
 
 pub IsPart-name : IsPart IsName opaque first_name
 unfolding first_name
 IsPart-name = record {
   found = λ l x fits e.
-      let m = bind_ok (item (first_string packet_bound) l) (λ n. unless (name_fault l.place n.0) n) x e in
+      let m = bind_ok (item (first_string PACKET_BOUND) l) (λ n. unless (name_fault l.place n.0) n) x e in
       let f = part_string.found l m.0 fits m.1 in
       let u = unless_ok (name_fault l.place m.0.0) m.0 x m.2 in
       let name = name_where m.0.0 f.0.text (no_fault l.place (bad_place m.0.0) u.0) in

@@ -6,6 +6,7 @@ use Rattle.std.proofs.lemmas.List.{append-nil, nil_from_length}
 use Rattle.virt_types.specs.declared.object_request.DomainRequest.TheVariants as on_domain
 use Rattle.virt_types.specs.declared.request.Request.{Request}
 use Rattle.virt_types.specs.declared.request.Request.TheVariants as request
+use Rattle.virt_types.specs.Limits.{most_text_bytes}
 use Rattle.wire_spec.specs.declared.fault.XdrFault.{XdrFault}
 use Rattle.wire_spec.specs.declared.fault.XdrFault.TheVariants.{Extra}
 use Rattle.wire_spec.specs.Xdr.{IsString, fixed, integer, opaque, optional, word}
@@ -16,12 +17,13 @@ use Rattle.wire_spec.proofs.Seen.{IsItem-integer}
 use Rattle.wire_spec.proofs.Steps.{bind_ok, ok_is}
 use Rattle.wire_spec.proofs.Strings.{IsItem-fixed, IsItem-string}
 use Rattle.wire_spec.proofs.Wholes.{IsItem-optional}
-use Rattle.procedure_spec.specs.Arguments.{HasArguments, arguments, definition_bound, packet_bound, procedure_of, target}
+use Rattle.procedure_spec.specs.Arguments.{HasArguments, arguments, procedure_of, target}
 use Rattle.procedure_spec.specs.ArgumentsReading.{first_close, first_define, first_get_xml, first_list_defined, first_lookup_by_name, first_lookup_by_uuid, first_open, request_in}
 use Rattle.procedure_spec.specs.Faults.{xdr}
 use Rattle.procedure_spec.specs.declared.procedure.Procedure.{Procedure}
 use Rattle.procedure_spec.specs.declared.procedure.Procedure.TheVariants as procedure
 use Rattle.procedure_spec.proofs.Targets.{IsItem-name, IsItem-target}
+use Rattle.procedure_spec.specs.declared.words.TheConstants.{PACKET_BOUND}
 
 -- a request of this procedure, whose arguments the payload spells
 pub record IsOf (p : Procedure) (payload : List ℕ) (r : Request) : Type 0 where
@@ -37,7 +39,7 @@ ended : {A : Type 0} (b : Bool) (f : XdrFault) (x y : A) → cond b (Ok x) (Err 
 ended true f x y e = (refl, cc)
 ended false f x y e = absurd cc
 
--- what was read, and that nothing stands behind it
+-- what was read, and that nothing stands after it
 pub record IsAll (first : Left → Result (Request × Left) XdrFault) (payload : List ℕ) (r : Request) : Type 0 where
   pub left : Left
   pub read : first (all_of payload) ≡ Ok (r, left)
@@ -75,11 +77,11 @@ two_all p IsA one first IsB other second f item next of payload r fits e =
     let is = of m.a m.b m.value.0 m.value.1 in
     subst (λ (q : Request). IsOf p payload q) (sym m.is) (record { procedure = is.procedure; has = is.has; spelled = to_end payload (one m.a ++ other m.b) a.left.bytes m.taken.parts a.nothing ∙ is.spelled })
 
-IsItem-definition : IsItem (IsString definition_bound) opaque (first_string definition_bound)
-IsItem-definition = IsItem-string definition_bound (lit< tt)
+IsItem-definition : IsItem (IsString most_text_bytes) opaque (first_string most_text_bytes)
+IsItem-definition = IsItem-string most_text_bytes (lit< tt)
 
-IsItem-optional_name : IsItem (λ n. IfSome n (IsString packet_bound)) (optional opaque) (first_optional (first_string packet_bound))
-IsItem-optional_name = IsItem-optional (IsString packet_bound) opaque (first_string packet_bound) IsItem-name
+IsItem-optional_name : IsItem (λ n. IfSome n (IsString PACKET_BOUND)) (optional opaque) (first_optional (first_string PACKET_BOUND))
+IsItem-optional_name = IsItem-optional (IsString PACKET_BOUND) opaque (first_string PACKET_BOUND) IsItem-name
 
 -- what is read is a request of the procedure, spelled by the payload
 pub request_found : (p : Procedure) (payload : List ℕ) (r : Request) → IsBytes payload → request_in p payload ≡ Ok r → IsOf p payload r

@@ -9,16 +9,17 @@ use Rattle.wire_spec.proofs.Items.{IsItem, taken}
 use Rattle.wire_spec.proofs.Seen.{IsItem-integer}
 use Rattle.wire_spec.proofs.Steps.{Takes-then, bind_ok, ok_is}
 use Rattle.wire_spec.proofs.Strings.{IsItem-fixed, IsItem-string}
-use Rattle.procedure_spec.specs.Arguments.{IsTarget, packet_bound, target}
+use Rattle.procedure_spec.specs.Arguments.{IsTarget, target}
 use Rattle.procedure_spec.specs.ArgumentsReading.{first_target}
+use Rattle.procedure_spec.specs.declared.words.TheConstants.{PACKET_BOUND}
 
-pub IsItem-name : IsItem (IsString packet_bound) opaque (first_string packet_bound)
-IsItem-name = IsItem-string packet_bound (lit< tt)
+pub IsItem-name : IsItem (IsString PACKET_BOUND) opaque (first_string PACKET_BOUND)
+IsItem-name = IsItem-string PACKET_BOUND (lit< tt)
 
 target_found : (l : Left) (x : DomainTarget × Left) → IsBytes l.bytes → first_target l ≡ Ok x → IsTarget x.0 × Takes l (target x.0) x.1 × IsBytes x.1.bytes
 unfolding first_target
 target_found l x fits e =
-    let n = bind_ok (first_string packet_bound l) (λ name. first_fixed 16 name.1 >>= λ uuid. first_integer uuid.1 >>= λ id. Ok (record { name = name.0; uuid = uuid.0; id = id.0 }, id.1)) x e in
+    let n = bind_ok (first_string PACKET_BOUND l) (λ name. first_fixed 16 name.1 >>= λ uuid. first_integer uuid.1 >>= λ id. Ok (record { name = name.0; uuid = uuid.0; id = id.0 }, id.1)) x e in
     let u = bind_ok (first_fixed 16 n.0.1) (λ uuid. first_integer uuid.1 >>= λ id. Ok (record { name = n.0.0; uuid = uuid.0; id = id.0 }, id.1)) x n.2 in
     let i = bind_ok (first_integer u.0.1) (λ id. Ok (record { name = n.0.0; uuid = u.0.0; id = id.0 }, id.1)) x u.2 in
     let name = IsItem-name.found l n.0 fits n.1 in

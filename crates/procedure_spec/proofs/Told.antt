@@ -8,7 +8,7 @@ use Rattle.procedure_spec.specs.Reading.{◌>>=◌}
 use Rattle.procedure_spec.specs.declared.fault.ArgFault.{ArgFault}
 use Rattle.procedure_spec.proofs.Parts.{IsPart, after_both, bind_ok, ok_is}
 
--- what is left behind an item
+-- what is left after an item
 abbrev pub after : Left → List ℕ → List ℕ → Left
 after l item rest = record { place = l.place + length item; bytes = rest }
 
@@ -45,7 +45,7 @@ IsTold-then a b f g p q = record {
 pub IsTold-as : (a b : List ℕ) (f : Left → Result Left ArgFault) → a ≡ b → IsTold a f → IsTold b f
 IsTold-as a b f e p = subst (λ (s : List ℕ). IsTold s f) e p
 
--- a part with what has to stand behind it
+-- a part with what has to stand after it
 pub IsPart-then : {A : Type 0} (IsValue : A → Type 0) (one other : A → List ℕ) (first : Left → Result (A × Left) ArgFault) (second : A → Left → Result Left ArgFault) → IsPart IsValue one first → ((a : A) → IsTold (other a) (second a)) → IsPart IsValue (λ a. one a ++ other a) (λ l. first l >>= λ x. second x.0 x.1 >>= λ r. Ok (x.0, r))
 IsPart-then {A = A} IsValue one other first second part next = record {
   found = λ l x fits e.

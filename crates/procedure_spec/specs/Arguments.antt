@@ -5,38 +5,19 @@ use Rattle.virt_types.specs.declared.object_request.DomainRequest.{DomainRequest
 use Rattle.virt_types.specs.declared.object_request.DomainRequest.TheVariants as on_domain
 use Rattle.virt_types.specs.declared.request.Request.{Request}
 use Rattle.virt_types.specs.declared.request.Request.TheVariants as request
+use Rattle.virt_types.specs.Limits.{most_text_bytes}
 use Rattle.wire_spec.specs.Xdr.{IsInteger, IsWord, fixed, integer, opaque, optional, word}
 pub use Rattle.wire_spec.specs.Xdr.{IsString}
+use Rattle.procedure_spec.specs.declared.words.TheConstants.{PACKET_BOUND}
 use Rattle.procedure_spec.specs.declared.procedure.Procedure.{Procedure}
 use Rattle.procedure_spec.specs.declared.procedure.Procedure.TheVariants as procedure
-
--- strings that nothing but the packet bounds: 4,194,304 bytes less the seven words before a payload
-abbrev pub packet_bound : ℕ
-packet_bound = 4194276
-
--- the longest text of a definition
-abbrev pub definition_bound : ℕ
-definition_bound = 65536
-
--- the payload is that of CONNECT_OPEN: a name, which may be absent, and flags
-pub record Opens (payload : List ℕ) : Type 0 where
-  pub name : Option (List ℕ)
-  pub flags : ℕ
-  pub spelled : payload ≡ optional opaque name ++ word flags
-  pub name_is : IfSome name (IsString packet_bound)
-  pub flags_are : flags < 2 ^ 32
-
--- the payload is that of DOMAIN_LOOKUP_BY_NAME for this name
-pub record LooksUp (payload name : List ℕ) : Type 0 where
-  pub spelled : payload ≡ opaque name
-  pub name_is : IsString packet_bound name
 
 -- the domain that a call is for: its name, its identifier and its number
 abbrev pub target : DomainTarget → List ℕ
 target d = opaque d.name ++ fixed d.uuid ++ integer d.id
 
 pub record IsTarget (d : DomainTarget) : Type 0 where
-  pub name : IsString packet_bound d.name
+  pub name : IsString PACKET_BOUND d.name
   pub uuid : length d.uuid ≡ 16
   pub id : IsInteger d.id
 
@@ -75,11 +56,11 @@ HasDomainArguments domain (on_domain.GetXmlDesc flags) = IsTarget domain × IsWo
 HasDomainArguments domain _ = ⊥
 
 abbrev pub HasArguments : Request → Type 0
-HasArguments (request.ConnectOpen name flags) = IfSome name (IsString packet_bound) × IsWord flags
+HasArguments (request.ConnectOpen name flags) = IfSome name (IsString PACKET_BOUND) × IsWord flags
 HasArguments request.ConnectClose = Unit {0}
-HasArguments (request.DomainDefineXml xml) = IsString definition_bound xml
+HasArguments (request.DomainDefineXml xml) = IsString most_text_bytes xml
 HasArguments (request.OnDomain domain asked) = HasDomainArguments domain asked
 HasArguments (request.ListDefinedDomains most) = IsInteger most
-HasArguments (request.DomainLookupByName name) = IsString packet_bound name
+HasArguments (request.DomainLookupByName name) = IsString PACKET_BOUND name
 HasArguments (request.DomainLookupByUuid uuid) = length uuid ≡ 16
 HasArguments _ = ⊥

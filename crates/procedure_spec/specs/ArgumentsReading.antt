@@ -4,26 +4,27 @@ use Rattle.virt_types.specs.declared.reference.DomainTarget.{DomainTarget}
 use Rattle.virt_types.specs.declared.object_request.DomainRequest.TheVariants as on_domain
 use Rattle.virt_types.specs.declared.request.Request.{Request}
 use Rattle.virt_types.specs.declared.request.Request.TheVariants as request
+use Rattle.virt_types.specs.Limits.{most_text_bytes}
 use Rattle.wire_spec.specs.declared.fault.XdrFault.{XdrFault}
 use Rattle.wire_spec.specs.XdrReading.{Left, ◌>>=◌, first_fixed, first_integer, first_optional, first_string, first_word, whole}
-use Rattle.procedure_spec.specs.Arguments.{definition_bound, packet_bound}
 use Rattle.procedure_spec.specs.Faults.{xdr}
 use Rattle.procedure_spec.specs.declared.fault.ArgFault.{ArgFault}
 use Rattle.procedure_spec.specs.declared.fault.ArgFault.TheVariants as fault
 use Rattle.procedure_spec.specs.declared.procedure.Procedure.{Procedure}
 use Rattle.procedure_spec.specs.declared.procedure.Procedure.TheVariants as procedure
+use Rattle.procedure_spec.specs.declared.words.TheConstants.{PACKET_BOUND}
 
 -- the domain that a call is for
 unfoldable pub first_target : Left → Result (DomainTarget × Left) XdrFault
 first_target l = do
-  name ← first_string packet_bound l
+  name ← first_string PACKET_BOUND l
   uuid ← first_fixed 16 name.1
   id ← first_integer uuid.1
   Ok (record { name = name.0; uuid = uuid.0; id = id.0 }, id.1)
 
 unfoldable pub first_open : Left → Result (Request × Left) XdrFault
 first_open l = do
-  name ← first_optional (first_string packet_bound) l
+  name ← first_optional (first_string PACKET_BOUND) l
   flags ← first_word name.1
   Ok (request.ConnectOpen name.0 flags.0, flags.1)
 
@@ -32,7 +33,7 @@ first_close l = Ok (request.ConnectClose, l)
 
 unfoldable pub first_define : Left → Result (Request × Left) XdrFault
 first_define l = do
-  xml ← first_string definition_bound l
+  xml ← first_string most_text_bytes l
   Ok (request.DomainDefineXml xml.0, xml.1)
 
 unfoldable pub first_get_xml : Left → Result (Request × Left) XdrFault
@@ -48,7 +49,7 @@ first_list_defined l = do
 
 unfoldable pub first_lookup_by_name : Left → Result (Request × Left) XdrFault
 first_lookup_by_name l = do
-  name ← first_string packet_bound l
+  name ← first_string PACKET_BOUND l
   Ok (request.DomainLookupByName name.0, name.1)
 
 unfoldable pub first_lookup_by_uuid : Left → Result (Request × Left) XdrFault

@@ -10,7 +10,7 @@ every_code =
     code.DomainExists ∷ code.NetworkExists ∷ code.StoreFailed ∷ code.MalformedCall ∷ code.NoDomain ∷
     code.NoNetwork ∷ code.NoPool ∷ code.NoVolume ∷ code.OperationInvalid ∷ code.OperationTimeout ∷
     code.NoSnapshot ∷ code.OperationAborted ∷ code.GuestEnded ∷ code.MonitorLost ∷ code.TooManyWaiting ∷
-    code.ListFull ∷ code.HistoryFull ∷ code.NotBuilt ∷ code.Stalled ∷ code.SnapshotExists ∷
+    code.ListFull ∷ code.NotBuilt ∷ code.Stalled ∷ code.SnapshotExists ∷
     code.NoFreeSlot ∷ code.EventsLost ∷ code.CountSpent ∷ code.PoolExists ∷ code.VolumeExists ∷ []
 
 -- the code with this number

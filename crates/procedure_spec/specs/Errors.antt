@@ -3,16 +3,17 @@ use Rattle.std.specs.Prelude.{◌≡◌, ℕ, List, [], ◌∷◌, ◌++◌, Opt
 use Rattle.virt_types.specs.Refusal.{refusal_message, refusal_number}
 use Rattle.virt_types.specs.declared.refusal.Refusal.{Refusal}
 use Rattle.wire_spec.specs.Xdr.{IsString, opaque, optional, word}
-use Rattle.procedure_spec.specs.Arguments.{packet_bound}
+use Rattle.procedure_spec.specs.declared.words.TheConstants.{ERROR_DOMAIN, ERROR_LEVEL}
+use Rattle.procedure_spec.specs.declared.words.TheConstants.{PACKET_BOUND}
 
 -- a kept text stands there where it is not empty
 abbrev pub kept_string : List ℕ → Option (List ℕ)
 kept_string [] = None
 kept_string (b ∷ bs) = Some (b ∷ bs)
 
--- the code, the part that speaks (10, the QEMU driver), the message, the level (2, an error), no domain
+-- the code, the error domain, the message, the level, no domain
 abbrev pub head : ℕ → List ℕ → List ℕ
-head code message = word code ++ word 10 ++ optional opaque (Some message) ++ word 2 ++ word 0
+head code message = word code ++ word ERROR_DOMAIN ++ optional opaque (Some message) ++ word ERROR_LEVEL ++ word 0
 
 -- no other strings, two numbers that are not used, no network
 abbrev pub tail : List ℕ
@@ -28,5 +29,5 @@ refusal_payload r = error_payload (refusal_number r.code) (refusal_message r.cod
 
 -- the payload is that of the error that tells this refusal
 pub record IsErrorOf (payload : List ℕ) (r : Refusal) : Type 0 where
-  pub kept : IsString packet_bound r.kept
+  pub kept : IsString PACKET_BOUND r.kept
   pub spelled : payload ≡ refusal_payload r

@@ -5,13 +5,14 @@ use Rattle.virt_types.specs.Refusal.{refusal_message}
 use Rattle.virt_types.specs.declared.refusal.Refusal.{Refusal}
 use Rattle.virt_types.specs.declared.refusal.RefusalCode.{RefusalCode}
 use Rattle.wire_spec.specs.XdrReading.{Left, first_optional, first_string, first_truth, first_word}
-use Rattle.procedure_spec.specs.Arguments.{packet_bound}
 use Rattle.procedure_spec.specs.Codes.{code_numbered}
 use Rattle.procedure_spec.specs.Reading.{◌>>=◌, all, item}
+use Rattle.procedure_spec.specs.declared.words.TheConstants.{ERROR_DOMAIN, ERROR_LEVEL}
 use Rattle.procedure_spec.specs.declared.fault.ArgFault.{ArgFault}
 use Rattle.procedure_spec.specs.declared.fault.ArgFault.TheVariants.{Foreign}
+use Rattle.procedure_spec.specs.declared.words.TheConstants.{PACKET_BOUND}
 
--- what is left behind an item, where it says what it has to
+-- what is left after an item, where it says what it has to
 abbrev pub told : ℕ → Bool → Left → Result Left ArgFault
 told place is l = if is then Ok l else Err (Foreign place)
 
@@ -34,7 +35,7 @@ is_text wanted (Some text) = bytes_eq text wanted
 -- this text
 unfoldable pub told_text : List ℕ → Left → Result Left ArgFault
 told_text wanted l = do
-  text ← item (first_optional (first_string packet_bound)) l
+  text ← item (first_optional (first_string PACKET_BOUND)) l
   told l.place (is_text wanted text.0) text.1
 
 abbrev pub known_code : ℕ → Option RefusalCode → Left → Result (RefusalCode × Left) ArgFault
@@ -46,12 +47,12 @@ first_code l = do
   number ← item first_word l
   known_code l.place (code_numbered number.0) number.1
 
--- the part that speaks (10, the QEMU driver), the code's message, the level (2, an error), no domain
+-- the error domain, the code's message, the level, no domain
 unfoldable pub told_head : List ℕ → Left → Result Left ArgFault
 told_head message l = do
-  part ← told_word 10 l
+  part ← told_word ERROR_DOMAIN l
   text ← told_text message part
-  level ← told_word 2 text
+  level ← told_word ERROR_LEVEL text
   told_absent level
 
 unfoldable pub first_head : Left → Result (RefusalCode × Left) ArgFault
@@ -68,7 +69,7 @@ kept_of place (Some (b ∷ bs)) l = Ok (b ∷ bs, l)
 
 unfoldable pub first_kept : Left → Result (List ℕ × Left) ArgFault
 first_kept l = do
-  kept ← item (first_optional (first_string packet_bound)) l
+  kept ← item (first_optional (first_string PACKET_BOUND)) l
   kept_of l.place kept.0 kept.1
 
 -- no other strings, two numbers that are not used, no network

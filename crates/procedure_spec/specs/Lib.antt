@@ -5,6 +5,7 @@ pub mod Codes
 pub mod Errors
 pub mod ErrorsReading
 pub mod Faults
+pub mod Numbers
 pub mod Procedures
 pub mod Reading
 pub mod Results

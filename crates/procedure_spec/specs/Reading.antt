@@ -26,7 +26,7 @@ item first l = xdr (first l)
 abbrev pub ended : {A : Type 0} → A × Left → Result A ArgFault
 ended x = if length x.1.bytes == 0 then Ok x.0 else Err (Xdr (Extra x.1.place))
 
--- all of a payload, with nothing behind it
+-- all of a payload, with nothing after it
 unfoldable pub all : {A : Type 0} → (Left → Result (A × Left) ArgFault) → List ℕ → Result A ArgFault
 all first payload = do
   x ← first (all_of payload)

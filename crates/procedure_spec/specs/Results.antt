@@ -11,11 +11,14 @@ use Rattle.virt_types.specs.declared.value.Value.{Value}
 use Rattle.virt_types.specs.declared.value.Value.TheVariants as value
 use Rattle.wire_spec.specs.Xdr.{IsInteger, IsString, fixed, integer, opaque, word}
 use Rattle.wire_spec.specs.declared.message.Header.{Header}
-use Rattle.procedure_spec.specs.Arguments.{packet_bound, procedure_of}
+use Rattle.wire_spec.specs.declared.message.TheConstants.{REPLY}
+use Rattle.procedure_spec.specs.Arguments.{procedure_of}
 use Rattle.procedure_spec.specs.Procedures.{row_of}
+use Rattle.procedure_spec.specs.declared.words.TheConstants.{NAMES_BOUND}
 use Rattle.procedure_spec.specs.declared.procedure.ResultShape.{ResultShape}
 use Rattle.procedure_spec.specs.declared.procedure.ResultShape.TheVariants as shape
 use Rattle.procedure_spec.specs.declared.procedure.Row.{Row}
+use Rattle.procedure_spec.specs.declared.words.TheConstants.{PACKET_BOUND}
 
 -- a domain: its name, its identifier, and the number of its live boot or -1
 abbrev pub domain_reference : DomainRef → List ℕ
@@ -24,10 +27,6 @@ domain_reference d = opaque d.name ++ fixed d.uuid ++ integer d.id
 -- names: how many, then each
 abbrev pub names : List (List ℕ) → List ℕ
 names ns = word (length ns) ++ flat_map opaque ns
-
--- the most names of a list
-abbrev pub names_bound : ℕ
-names_bound = 1024
 
 -- the payload of a reply with this value, of the values that are built
 abbrev pub result : Value → List ℕ
@@ -41,7 +40,7 @@ abbrev pub HasShape : Value → ResultShape → Type 0
 HasShape value.Nothing s = s ≡ shape.Nothing
 HasShape (value.Domain d) s = s ≡ shape.Domain
 HasShape (value.Text t) s = (s ≡ shape.Text) × (length t < 2 ^ 32)
-HasShape (value.Names ns) s = (s ≡ shape.Names) × (length ns ≤ names_bound)
+HasShape (value.Names ns) s = (s ≡ shape.Names) × (length ns ≤ NAMES_BOUND)
 HasShape _ s = ⊥
 
 -- the domain has a spelling
@@ -53,7 +52,7 @@ pub record IsReference (d : DomainRef) : Type 0 where
 -- the parts of the value have a spelling
 abbrev pub HasParts : Value → Type 0
 HasParts (value.Domain d) = IsReference d
-HasParts (value.Text t) = IsString packet_bound t
+HasParts (value.Text t) = IsString PACKET_BOUND t
 HasParts (value.Names ns) = AllByRecursion IsName ns
 HasParts _ = Unit {0}
 
@@ -86,4 +85,4 @@ pub record IsAnswer (asked : Request) (payload : List ℕ) (v : Value) : Type 0 
 
 -- the header of a reply to a call: its own words, but for kind and status
 abbrev pub reply_header : Header → ℕ → Header
-reply_header h status = record h { kind = 1; status = status }
+reply_header h status = record h { kind = REPLY; status = status }

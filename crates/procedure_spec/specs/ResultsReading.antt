@@ -8,14 +8,15 @@ use Rattle.virt_types.specs.declared.value.Value.TheVariants as value
 use Rattle.wire_spec.specs.XdrReading.{Left, first_fixed, first_integer, first_string, first_word}
 use Rattle.wire_spec.specs.declared.fault.XdrFault.TheVariants.{TooLong}
 use Rattle.wire_spec.specs.declared.message.Header.{Header}
-use Rattle.procedure_spec.specs.Arguments.{packet_bound, procedure_of}
+use Rattle.procedure_spec.specs.Arguments.{procedure_of}
 use Rattle.procedure_spec.specs.Calls.{IsCall}
 use Rattle.procedure_spec.specs.Reading.{◌>>=◌, all, item, unless}
-use Rattle.procedure_spec.specs.Results.{names_bound, result, result_shape}
+use Rattle.procedure_spec.specs.Results.{result, result_shape}
 use Rattle.procedure_spec.specs.declared.fault.ArgFault.{ArgFault}
 use Rattle.procedure_spec.specs.declared.fault.ArgFault.TheVariants as fault
 use Rattle.procedure_spec.specs.declared.procedure.ResultShape.{ResultShape}
 use Rattle.procedure_spec.specs.declared.procedure.ResultShape.TheVariants as shape
+use Rattle.procedure_spec.specs.declared.words.TheConstants.{NAMES_BOUND, PACKET_BOUND}
 
 -- why a string whose length word stands at a place is no name
 abbrev pub name_fault : ℕ → List ℕ → Option ArgFault
@@ -24,7 +25,7 @@ name_fault place bytes = option_map (λ wrong. fault.Name (place + 4 + wrong)) (
 -- a name: it is a string before it is looked at as a name
 unfoldable pub first_name : Left → Result (List ℕ × Left) ArgFault
 first_name l = do
-  name ← item (first_string packet_bound) l
+  name ← item (first_string PACKET_BOUND) l
   unless (name_fault l.place name.0) name
 
 -- a domain: its name, its identifier, and the number of its live boot or -1
@@ -42,7 +43,7 @@ first_names (suc n) l = first_name l >>= λ name. first_names n name.1 >>= λ mo
 
 -- why a word at a place is no number of names
 abbrev pub count_fault : ℕ → ℕ → Option ArgFault
-count_fault place count = if nat_lt names_bound count then Some (fault.Xdr (TooLong place count)) else None
+count_fault place count = if nat_lt NAMES_BOUND count then Some (fault.Xdr (TooLong place count)) else None
 
 -- how many names, at most 1,024
 unfoldable pub first_count : Left → Result (ℕ × Left) ArgFault
@@ -66,7 +67,7 @@ first_domain l = do
 
 unfoldable pub first_text : Left → Result (Value × Left) ArgFault
 first_text l = do
-  text ← item (first_string packet_bound) l
+  text ← item (first_string PACKET_BOUND) l
   Ok (value.Text text.0, text.1)
 
 unfoldable pub first_name_list : Left → Result (Value × Left) ArgFault

@@ -1,3 +1,7 @@
+// Why a payload is none of a procedure's.
+use std::error::Error;
+use std::fmt;
+use virt_types::OrNoMemory;
 use wire_spec::XdrFault;
 
 /// Why a payload is none of a procedure's, the first reason in this order. The last two come only
@@ -14,14 +18,51 @@ pub enum ArgFault {
     Xdr(XdrFault),
     /// A string stands where a name has to, and is no name.
     Name {
-        /// The first byte that is wrong, or the one behind the string where only its length or the
+        /// The first byte that is wrong, or the one after the string where only its length or the
         /// whole is.
         at: u64,
     },
     /// An item of an error is well spelled and yet not what errors have there: a code of no table,
-    /// another part, message or level than the code's, an empty kept text, or what is always absent.
+    /// another error domain, message or level than the code's, an empty kept text, or what is always absent.
     Foreign {
         /// The item's first byte.
         at: u64,
     },
+}
+
+impl fmt::Display for ArgFault {
+    fn fmt<W: fmt::Write>(&self, f: &mut fmt::Formatter<W>) -> fmt::Result {
+        match self {
+            ArgFault::Program => write!(f, "unknown program"),
+            ArgFault::Version => write!(f, "unknown version"),
+            ArgFault::Procedure => write!(f, "unknown procedure"),
+            ArgFault::Xdr(fault) => write!(f, "{fault}"),
+            ArgFault::Name { at } => write!(f, "no name at {at}"),
+            ArgFault::Foreign { at } => write!(f, "no error of this project at {at}"),
+        }
+    }
+}
+
+impl Error for ArgFault {}
+
+impl From<ArgFault> for OrNoMemory<ArgFault> {
+    ghost use Rattle.std.specs.Prelude.{◌≡◌};
+    ghost use Rattle.virt_types.specs.declared.memory.OrNoMemory.TheVariants as or;
+
+    ghost from_gives = { λ fault e. e ≡ or.Fault fault };
+
+    fn from(fault: ArgFault) -> OrNoMemory<ArgFault> {
+        OrNoMemory::Fault(fault)
+    }
+}
+
+impl From<XdrFault> for ArgFault {
+    ghost use Rattle.std.specs.Prelude.{◌≡◌};
+    ghost use Rattle.procedure_spec.specs.declared.fault.ArgFault.TheVariants as fault;
+
+    ghost from_gives = { λ bad e. e ≡ fault.Xdr bad };
+
+    fn from(bad: XdrFault) -> ArgFault {
+        ArgFault::Xdr(bad)
+    }
 }

@@ -67,7 +67,7 @@ pub enum Procedure {
     Leases,
 }
 
-/// What the payload of a call holds, one item behind the other. A domain, network or pool is its
+/// What the payload of a call holds, one item after the other. A domain, network or pool is its
 /// name and identifier, and a domain its number too; a definition is a text.
 #[derive(Clone, Copy, Debug, PartialEq, Eq)]
 #[allow(missing_docs)]

@@ -13,7 +13,6 @@ use Rattle.wire_spec.specs.Packets.{IsPacket}
 use Rattle.wire_spec.specs.Xdr.{IsString, fixed, opaque, optional, padding, word}
 use Rattle.wire_spec.specs.declared.message.Header.{Header}
 use Rattle.packet.specs.Writing.{packet_with}
-use Rattle.procedure_spec.specs.Arguments.{packet_bound}
 use Rattle.procedure_spec.specs.Errors.{head, kept_string, refusal_payload, tail}
 use Rattle.procedure_spec.specs.ErrorsReading.{error_of}
 use Rattle.procedure_spec.specs.Results.{HasParts, HasResult, result}
@@ -22,6 +21,7 @@ use Rattle.procedure_spec.proofs.Answers.{reads_back}
 use Rattle.procedure_spec.proofs.Refusals.{error_again}
 use Rattle.remote_args.specs.Holding.{Holds}
 use Rattle.remote_args.proofs.Written.{on_ok}
+use Rattle.procedure_spec.specs.declared.words.TheConstants.{PACKET_BOUND}
 
 -- one more name
 pub names_more : (xs : List (List ℕ)) (i : ℕ) (d : List ℕ) → i < length xs → AllByRecursion IsName (take i xs) → IsName (get_or xs i d) → AllByRecursion IsName (take (suc i) xs)
@@ -44,7 +44,7 @@ kept_long : (kept : List ℕ) → length kept ≤ length (optional opaque (kept_
 kept_long [] = omega arith
 kept_long (b ∷ bs) = omega (arith, length-append (word 1) (opaque (b ∷ bs)), opaque_long (b ∷ bs))
 
-pub kept_fits : (r : Refusal) → IsUtf8 r.kept → 28 + length (refusal_payload r) ≤ 4194304 → IsString packet_bound r.kept
+pub kept_fits : (r : Refusal) → IsUtf8 r.kept → 28 + length (refusal_payload r) ≤ 4194304 → IsString PACKET_BOUND r.kept
 kept_fits r text fits = record {
   bounded = omega (arith, fits, kept_long r.kept, length-append (head (refusal_number r.code) (refusal_message r.code) ++ optional opaque (kept_string r.kept)) tail, length-append (head (refusal_number r.code) (refusal_message r.code)) (optional opaque (kept_string r.kept)));
   text = text;

@@ -1,4 +1,3 @@
-pub mod CallLines
 pub mod Holding
 pub mod NameLists
 pub mod Written

@@ -11,7 +11,7 @@ use Rattle.procedure_spec.specs.ResultsReading.{first_name, first_names}
 use Rattle.procedure_spec.specs.declared.fault.ArgFault.{ArgFault}
 use Rattle.remote_args.specs.Steps.{Walks}
 
--- what is read, behind what was read
+-- what is read, after what was read
 abbrev pub behind_names : List (List ℕ) → Result (List (List ℕ) × Left) ArgFault → Result (List (List ℕ) × Left) ArgFault
 behind_names xs (Ok y) = Ok (xs ++ y.0, y.1)
 behind_names xs (Err f) = Err f

@@ -1,21 +1,19 @@
 -- What was written part by part is the packet or the payload.
-use Rattle.std.proofs.Common.{◌≡◌, ◌+◌, ◌≤◌, ℕ, List, ◌++◌, length, drop, Result, Ok, Err, refl, sym, ap, ◌∙◌, append_assoc, arith}
-use Rattle.std.specs.Prelude.{IfErr, IfOk, OnOk}
+use Rattle.std.proofs.Common.{◌≡◌, ◌≤◌, ℕ, List, ◌++◌, Option, None, Some, Result, Ok, Err, refl, sym, ap, ◌∙◌, append_assoc, arith}
+use Rattle.std.specs.Prelude.{IfOk, IfSome, IsSome, OnOk, option_map}
 use Rattle.virt_types.specs.declared.memory.OrNoMemory.{OrNoMemory}
-use Rattle.virt_types.specs.declared.memory.OrNoMemory.TheVariants.{Fault, NoMemory}
 use Rattle.virt_types.specs.declared.refusal.Refusal.{Refusal}
 use Rattle.virt_types.specs.declared.request.Request.{Request}
-use Rattle.procedure_spec.specs.Calls.{call_header}
+use Rattle.procedure_spec.specs.Arguments.{arguments}
+use Rattle.procedure_spec.specs.Calls.{call_header, packet_of}
 use Rattle.virt_types.specs.Refusal.{refusal_message, refusal_number}
 use Rattle.wire_spec.specs.declared.message.Header.{Header}
-use Rattle.wire_spec.specs.Packets.{HasKind, IsPacket, header, spelling}
-use Rattle.wire_spec.specs.Xdr.{opaque, optional, word}
+use Rattle.wire_spec.specs.Packets.{HasKind, IsPacket, spelling}
+use Rattle.wire_spec.specs.Xdr.{opaque, optional}
 use Rattle.packet.specs.declared.write.WriteFault.{WriteFault}
-use Rattle.packet.specs.declared.write.WriteFault.TheVariants.{TooBig}
 use Rattle.packet.specs.Writing.{packet_with}
 use Rattle.procedure_spec.specs.Errors.{head, kept_string, refusal_payload, tail}
 use Rattle.procedure_spec.specs.Results.{reply_header}
-use Rattle.remote_args.specs.Frames.{Frames, HasWords, IsTooBig}
 
 pub on_ok : {T E : Type 0} (r : Result T E) (P Q : Type 0) → OnOk r P → (P → Q) → OnOk r Q
 on_ok (Ok x) P Q p f = f p
@@ -29,42 +27,21 @@ error_parts old r one two three e f g =
     g ∙ ap (λ (t : List ℕ). t ++ tail) (f ∙ ap (λ (t : List ℕ). t ++ optional opaque (kept_string r.kept)) e)
     ∙ joined old (head (refusal_number r.code) (refusal_message r.code)) (optional opaque (kept_string r.kept)) tail
 
--- ---- packets
-
-behind_length : (h : Header) (payload : List ℕ) → drop 4 ((word 0 ++ header h) ++ payload) ≡ header h ++ payload
-unfolding word
-behind_length h payload = refl
-
-whole_length : (h : Header) (payload : List ℕ) → length ((word 0 ++ header h) ++ payload) ≡ 28 + length payload
-unfolding word
-whole_length h payload = omega arith
-
-pub long_enough : (h : Header) (payload written : List ℕ) → written ≡ (word 0 ++ header h) ++ payload → 28 ≤ length written
-long_enough h payload written e = rw e (omega (arith, whole_length h payload))
-
-pub packet_bytes : (h : Header) (payload written : List ℕ) (result : Result (List ℕ) (OrNoMemory WriteFault)) → written ≡ (word 0 ++ header h) ++ payload → Frames written result → IfOk result (λ bytes. bytes ≡ spelling (packet_with h payload))
-packet_bytes h payload written (Ok bytes) e frames =
-    let size : length written ≡ 28 + length payload = ap length e ∙ whole_length h payload in
-    let rest : drop 4 written ≡ header h ++ payload = ap (drop 4) e ∙ behind_length h payload in
-    frames.0 ∙ (λ i. word (size i) ++ rest i) ∙ sym (append_assoc (word (28 + length payload)) (header h) payload)
-packet_bytes h payload written (Err f) e frames = tt
-
-pub is_packet : (h : Header) (payload written : List ℕ) (result : Result (List ℕ) (OrNoMemory WriteFault)) → HasWords h → HasKind h → written ≡ (word 0 ++ header h) ++ payload → Frames written result → OnOk result (IsPacket (packet_with h payload))
-is_packet h payload written (Ok bytes) words kind e frames = record {
-  header = record { prog = words.prog; vers = words.vers; procedure = words.procedure; serial = words.serial; allowed = kind };
-  length = omega (arith, frames.1, ap length e, whole_length h payload);
-}
-is_packet h payload written (Err f) words kind e frames = tt
-
-pub too_big : (h : Header) (payload written : List ℕ) (result : Result (List ℕ) (OrNoMemory WriteFault)) → written ≡ (word 0 ++ header h) ++ payload → Frames written result → IfErr result (IsTooBig (28 + length payload))
-too_big h payload written (Ok bytes) e frames = tt
-too_big h payload written (Err (Fault (TooBig l))) e frames =
-    let size : length written ≡ 28 + length payload = ap length e ∙ whole_length h payload in
-    (frames.0 ∙ size, omega (arith, size, frames.1))
-too_big h payload written (Err NoMemory) e frames = tt
-
 pub reply_kind : (h : Header) (status : ℕ) → status ≤ 1 → HasKind (reply_header h status)
 reply_kind h status le = record { kind = omega arith; status = omega arith; call = λ e. absurd (omega (arith, e)) }
 
-pub call_kind : (asked : Request) (serial : ℕ) → HasKind (call_header asked serial)
-call_kind asked serial = record { kind = omega arith; status = omega arith; call = λ e. refl }
+pub call_kind : (numbers : ℕ × ℕ) (serial : ℕ) → HasKind (call_header numbers serial)
+call_kind numbers serial = record { kind = omega arith; status = omega arith; call = λ e. refl }
+
+-- of an answer for the packet that there is
+pub bytes_of : (numbers : Option (ℕ × ℕ)) (n : ℕ × ℕ) (asked : Request) (serial : ℕ) (result : Result (List ℕ) (OrNoMemory WriteFault)) → numbers ≡ Some n → IfOk result (λ bytes. bytes ≡ spelling (packet_with (call_header n serial) (arguments asked))) → IfOk result (λ bytes. option_map spelling (packet_of numbers asked serial) ≡ Some bytes)
+bytes_of numbers n asked serial (Ok bytes) is e = rw is (ap (λ (t : List ℕ). Some t) (sym e))
+bytes_of numbers n asked serial (Err bad) is e = tt
+
+pub packet_is : (numbers : Option (ℕ × ℕ)) (n : ℕ × ℕ) (asked : Request) (serial : ℕ) (result : Result (List ℕ) (OrNoMemory WriteFault)) → numbers ≡ Some n → OnOk result (IsPacket (packet_with (call_header n serial) (arguments asked))) → OnOk result (IfSome (packet_of numbers asked serial) IsPacket)
+packet_is numbers n asked serial (Ok bytes) is e = rw is e
+packet_is numbers n asked serial (Err bad) is e = tt
+
+pub none_asked : (numbers : Option (ℕ × ℕ)) → IsSome numbers → numbers ≡ None → ⊥
+none_asked None some is = cc
+none_asked (Some n) some is = cc

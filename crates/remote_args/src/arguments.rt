@@ -1,23 +1,18 @@
 // Reading the arguments of each procedure that is built.
 ghost use Rattle.std.specs.Prelude.{◌≡◌, IfOk, IfSome};
 ghost use Rattle.wire_spec.specs.XdrReading.{first_fixed, first_optional, first_string, whole};
-ghost use Rattle.procedure_spec.specs.Arguments.{IsString, packet_bound};
+ghost use Rattle.procedure_spec.specs.Arguments.{IsString};
 ghost use Rattle.procedure_spec.specs.ArgumentsReading.{first_close, first_define, first_get_xml, first_list_defined, first_lookup_by_name, first_lookup_by_uuid, first_open, first_target, request_in};
-ghost use Rattle.procedure_spec.specs.Calls.{Finds};
+ghost use Rattle.virt_types.specs.Memory.{UnlessNoMemory};
 ghost use Rattle.remote_args.specs.Steps.{Walks};
+ghost use Rattle.procedure_spec.specs.declared.words.TheConstants.{PACKET_BOUND};
 
 use crate::item::lifted;
-use procedure_spec::{ArgFault, Procedure};
+use procedure_spec::{ArgFault, PACKET_BOUND, Procedure};
 use std::alloc::Global;
-use virt_types::{DomainRequest, DomainTarget, OrNoMemory, Request, Text, Uuid};
+use virt_types::{DomainRequest, DomainTarget, MOST_TEXT_BYTES, OrNoMemory, Request, Text, Uuid};
 use wire_spec::XdrFault;
 use xdr_codec::Reader;
-
-/// The most bytes of a string that nothing but the packet bounds.
-pub(crate) const PACKET_BOUND: u32 = 4_194_276;
-
-/// The most bytes of a definition's text.
-pub(crate) const DEFINITION_BOUND: u32 = 65_536;
 
 // The items that several procedures have.
 
@@ -26,13 +21,13 @@ pub(crate) fn optional_name(
     alloc: Global,
     reader: &mut Reader<'_>,
 ) -> Result<Option<Text>, OrNoMemory<XdrFault>>
-    ensures read { Walks (first_optional (first_string packet_bound)) reader.old result reader.new }
-    ensures name { IfOk result (λ name. IfSome name (IsString packet_bound)) }
+    ensures read { Walks (first_optional (first_string PACKET_BOUND)) reader.old result reader.new }
+    ensures name { IfOk result (λ name. IfSome name (IsString PACKET_BOUND)) }
 {
-    match reader.take_optional() {
-        Ok(true) => Ok(Some(reader.take_text(alloc, PACKET_BOUND)?)),
-        Ok(false) => Ok(None),
-        Err(fault) => Err(OrNoMemory::Fault(fault)),
+    if reader.take_optional()? {
+        Ok(Some(reader.take_text(alloc, PACKET_BOUND)?))
+    } else {
+        Ok(None)
     }
 }
 
@@ -55,7 +50,7 @@ fn target(alloc: Global, reader: &mut Reader<'_>) -> Result<DomainTarget, OrNoMe
 {
     let name = reader.take_text(alloc, PACKET_BOUND)?;
     let uuid = identifier(alloc, reader)?;
-    let id = reader.take_i32().map_err(OrNoMemory::Fault)?;
+    let id = reader.take_i32()?;
     Ok(DomainTarget { name, uuid, id })
 }
 
@@ -63,41 +58,41 @@ fn target(alloc: Global, reader: &mut Reader<'_>) -> Result<DomainTarget, OrNoMe
 
 #[tactic(auto, unfolding(wire_spec::specs::XdrReading::whole, procedure_spec::specs::ArgumentsReading::first_open))]
 fn open(alloc: Global, payload: &[u8]) -> Result<Request, OrNoMemory<XdrFault>>
-    ensures { Finds result (whole first_open payload.now) }
+    ensures { UnlessNoMemory result (whole first_open payload.now) }
 {
     let mut reader = Reader::new(payload);
     let name = optional_name(alloc, &mut reader)?;
-    let flags = reader.take_u32().map_err(OrNoMemory::Fault)?;
-    reader.end().map_err(OrNoMemory::Fault)?;
+    let flags = reader.take_u32()?;
+    reader.end()?;
     Ok(Request::ConnectOpen { name, flags })
 }
 
 #[tactic(auto, unfolding(wire_spec::specs::XdrReading::whole, procedure_spec::specs::ArgumentsReading::first_close))]
 fn close(payload: &[u8]) -> Result<Request, OrNoMemory<XdrFault>>
-    ensures { Finds result (whole first_close payload.now) }
+    ensures { UnlessNoMemory result (whole first_close payload.now) }
 {
-    Reader::new(payload).end().map_err(OrNoMemory::Fault)?;
+    Reader::new(payload).end()?;
     Ok(Request::ConnectClose)
 }
 
 #[tactic(auto, unfolding(wire_spec::specs::XdrReading::whole, procedure_spec::specs::ArgumentsReading::first_define))]
 fn define(alloc: Global, payload: &[u8]) -> Result<Request, OrNoMemory<XdrFault>>
-    ensures { Finds result (whole first_define payload.now) }
+    ensures { UnlessNoMemory result (whole first_define payload.now) }
 {
     let mut reader = Reader::new(payload);
-    let xml = reader.take_text(alloc, DEFINITION_BOUND)?;
-    reader.end().map_err(OrNoMemory::Fault)?;
+    let xml = reader.take_text(alloc, MOST_TEXT_BYTES as u32)?;
+    reader.end()?;
     Ok(Request::DomainDefineXml { xml })
 }
 
 #[tactic(auto, unfolding(wire_spec::specs::XdrReading::whole, procedure_spec::specs::ArgumentsReading::first_get_xml))]
 fn get_xml(alloc: Global, payload: &[u8]) -> Result<Request, OrNoMemory<XdrFault>>
-    ensures { Finds result (whole first_get_xml payload.now) }
+    ensures { UnlessNoMemory result (whole first_get_xml payload.now) }
 {
     let mut reader = Reader::new(payload);
     let domain = target(alloc, &mut reader)?;
-    let flags = reader.take_u32().map_err(OrNoMemory::Fault)?;
-    reader.end().map_err(OrNoMemory::Fault)?;
+    let flags = reader.take_u32()?;
+    reader.end()?;
     Ok(Request::OnDomain {
         domain,
         request: DomainRequest::GetXmlDesc { flags },
@@ -106,31 +101,31 @@ fn get_xml(alloc: Global, payload: &[u8]) -> Result<Request, OrNoMemory<XdrFault
 
 #[tactic(auto, unfolding(wire_spec::specs::XdrReading::whole, procedure_spec::specs::ArgumentsReading::first_list_defined))]
 fn list_defined(payload: &[u8]) -> Result<Request, OrNoMemory<XdrFault>>
-    ensures { Finds result (whole first_list_defined payload.now) }
+    ensures { UnlessNoMemory result (whole first_list_defined payload.now) }
 {
     let mut reader = Reader::new(payload);
-    let most = reader.take_i32().map_err(OrNoMemory::Fault)?;
-    reader.end().map_err(OrNoMemory::Fault)?;
+    let most = reader.take_i32()?;
+    reader.end()?;
     Ok(Request::ListDefinedDomains { most })
 }
 
 #[tactic(auto, unfolding(wire_spec::specs::XdrReading::whole, procedure_spec::specs::ArgumentsReading::first_lookup_by_name))]
 fn lookup_by_name(alloc: Global, payload: &[u8]) -> Result<Request, OrNoMemory<XdrFault>>
-    ensures { Finds result (whole first_lookup_by_name payload.now) }
+    ensures { UnlessNoMemory result (whole first_lookup_by_name payload.now) }
 {
     let mut reader = Reader::new(payload);
     let name = reader.take_text(alloc, PACKET_BOUND)?;
-    reader.end().map_err(OrNoMemory::Fault)?;
+    reader.end()?;
     Ok(Request::DomainLookupByName { name })
 }
 
 #[tactic(auto, unfolding(wire_spec::specs::XdrReading::whole, procedure_spec::specs::ArgumentsReading::first_lookup_by_uuid))]
 fn lookup_by_uuid(alloc: Global, payload: &[u8]) -> Result<Request, OrNoMemory<XdrFault>>
-    ensures { Finds result (whole first_lookup_by_uuid payload.now) }
+    ensures { UnlessNoMemory result (whole first_lookup_by_uuid payload.now) }
 {
     let mut reader = Reader::new(payload);
     let uuid = identifier(alloc, &mut reader)?;
-    reader.end().map_err(OrNoMemory::Fault)?;
+    reader.end()?;
     Ok(Request::DomainLookupByUuid { uuid })
 }
 
@@ -140,7 +135,7 @@ pub(crate) fn request(
     procedure: Procedure,
     payload: &[u8],
 ) -> Result<Request, OrNoMemory<ArgFault>>
-    ensures { Finds result (request_in procedure payload.now) }
+    ensures { UnlessNoMemory result (request_in procedure payload.now) }
 {
     match procedure {
         Procedure::ConnectOpen => lifted(open(alloc, payload)),

@@ -1,12 +1,12 @@
 // Reading calls.
-ghost use Rattle.std.specs.Prelude.{◌≡◌, IfOk, IsTrue, ◌↔◌};
+ghost use Rattle.std.specs.Prelude.{Ok, ◌≡◌, IfOk, IsTrue, ◌↔◌, IsErrOf, IsOk};
+ghost use Rattle.virt_types.specs.declared.memory.OrNoMemory.TheVariants.{NoMemory};
 ghost use Rattle.virt_types.specs.declared.request.Request.{Request as Asked};
-ghost use Rattle.wire_spec.specs.XdrAnswer.{Gives};
-ghost use Rattle.procedure_spec.specs.Calls.{Finds, IsCall, IsKnown, call_of, is_program};
-ghost use Rattle.remote_args.specs.Lines.{line_of};
+ghost use Rattle.procedure_spec.specs.Calls.{IsCall, IsKnown, call_of, is_program, line_of};
+ghost use Rattle.virt_types.specs.Memory.{UnlessNoMemory};
 
 use crate::arguments::request;
-use procedure_spec::{ArgFault, OWN, REMOTE, Row, find};
+use procedure_spec::{ArgFault, OWN, REMOTE, Row, VERSION, find};
 use std::alloc::Global;
 use virt_types::{OrNoMemory, Request};
 use wire_spec::Header;
@@ -25,13 +25,14 @@ pub fn is_known(header: &Header) -> bool
 }
 
 // The line of the procedure that the packet calls, which is built.
+#[tactic(auto, unfolding(procedure_spec::specs::Calls::line_of))]
 fn line(header: &Header) -> Result<Row, ArgFault>
     ensures { result ≡ line_of header.now }
 {
     if !is_known_program(header.prog) {
         return Err(ArgFault::Program);
     }
-    if header.vers != 1 {
+    if header.vers != VERSION {
         return Err(ArgFault::Version);
     }
     match find(header.prog, header.procedure) {
@@ -48,8 +49,10 @@ pub fn read_call(
     payload: &[u8],
 ) -> Result<Request, OrNoMemory<ArgFault>>
     ensures found { IfOk result (IsCall header.now payload.now) }
-    ensures only { (asked : Asked) → IsCall header.now payload.now asked → Gives result asked }
-    ensures fault { Finds result (call_of header.now payload.now) }
+    ensures only { (asked : Asked) → IsCall header.now payload.now asked → UnlessNoMemory result (Ok asked) }
+    ensures fault { UnlessNoMemory result (call_of header.now payload.now) }
+    // Memory is asked for only once program, version and procedure are good.
+    ensures memory { IsErrOf result NoMemory → IsOk (line_of header.now) }
 {
     match line(header) {
         Ok(row) => request(alloc, row.procedure, payload),

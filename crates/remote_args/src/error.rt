@@ -5,14 +5,9 @@ ghost use Rattle.virt_types.specs.Refusal.{refusal_message, refusal_number};
 ghost use Rattle.wire_spec.specs.Xdr.{opaque, optional};
 ghost use Rattle.procedure_spec.specs.Errors.{head, kept_string, refusal_payload, tail};
 
+use procedure_spec::{ERROR_DOMAIN, ERROR_LEVEL};
 use virt_types::{NoMemory, Refusal, RefusalCode, Text};
 use xdr_codec::Writer;
-
-/// The part that speaks in each error: libvirt's `VIR_FROM_QEMU`.
-pub(crate) const DOMAIN: u32 = 10;
-
-/// The level of each error: libvirt's `VIR_ERR_ERROR`.
-pub(crate) const LEVEL: u32 = 2;
 
 // The first string of an error, which is absent where nothing is kept.
 fn put_kept(writer: &mut Writer, kept: &Text) -> Result<(), NoMemory>
@@ -39,16 +34,16 @@ fn put_tail(writer: &mut Writer) -> Result<(), NoMemory>
     writer.put_optional(false)
 }
 
-// The code, the part that speaks, the message, the level, and no domain.
+// The code, the error domain, the message, the level, and no domain.
 #[tactic(auto, using(procedure_spec::proofs::Messages::message_short))]
 fn put_head(writer: &mut Writer, code: RefusalCode) -> Result<(), NoMemory>
     ensures { OnOk result (writer.new ≡ writer.old ++ head (refusal_number code) (refusal_message code)) }
 {
     writer.put_u32(code.number())?;
-    writer.put_u32(DOMAIN)?;
+    writer.put_u32(ERROR_DOMAIN)?;
     writer.put_optional(true)?;
     writer.put_string(code.message().as_bytes())?;
-    writer.put_u32(LEVEL)?;
+    writer.put_u32(ERROR_LEVEL)?;
     writer.put_optional(false)
 }
 

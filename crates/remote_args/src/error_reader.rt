@@ -1,16 +1,14 @@
 // Reading the payload of an error.
-ghost use Rattle.std.specs.Prelude.{◌≡◌, IfOk};
+ghost use Rattle.std.specs.Prelude.{Ok, ◌≡◌, IfOk};
 ghost use Rattle.virt_types.specs.declared.refusal.Refusal.{Refusal as Told};
-ghost use Rattle.wire_spec.specs.XdrAnswer.{Gives};
-ghost use Rattle.procedure_spec.specs.Calls.{Finds};
+ghost use Rattle.virt_types.specs.Memory.{UnlessNoMemory};
 ghost use Rattle.procedure_spec.specs.Codes.{code_numbered as code_by};
 ghost use Rattle.procedure_spec.specs.Errors.{IsErrorOf};
 ghost use Rattle.procedure_spec.specs.ErrorsReading.{error_of, first_code, first_head, first_kept, first_refusal, is_text as told_is_text, told_absent, told_head, told_tail, told_text, told_word};
 ghost use Rattle.remote_args.specs.Steps.{Passes, Walks};
 
-use crate::error::{DOMAIN, LEVEL};
 use crate::item::{end, optional_text, truth, word};
-use procedure_spec::ArgFault;
+use procedure_spec::{ArgFault, ERROR_DOMAIN, ERROR_LEVEL};
 use std::alloc::Global;
 use virt_types::{OrNoMemory, Refusal, RefusalCode, Text};
 use xdr_codec::Reader;
@@ -80,7 +78,7 @@ fn code(reader: &mut Reader<'_>) -> Result<RefusalCode, OrNoMemory<ArgFault>>
     }
 }
 
-// The part that speaks, the message, the level, and no domain.
+// The error domain, the message, the level, and no domain.
 #[tactic(auto, unfolding(procedure_spec::specs::ErrorsReading::told_head))]
 fn pass_head(
     alloc: Global,
@@ -89,9 +87,9 @@ fn pass_head(
 ) -> Result<(), OrNoMemory<ArgFault>>
     ensures { Passes (told_head message.now) reader.old result reader.new }
 {
-    pass_word(reader, DOMAIN)?;
+    pass_word(reader, ERROR_DOMAIN)?;
     pass_text(alloc, reader, message)?;
-    pass_word(reader, LEVEL)?;
+    pass_word(reader, ERROR_LEVEL)?;
     pass_absent(reader)
 }
 
@@ -141,7 +139,7 @@ fn refusal(alloc: Global, reader: &mut Reader<'_>) -> Result<Refusal, OrNoMemory
 
 #[tactic(auto, unfolding(procedure_spec::specs::Reading::all))]
 fn whole(alloc: Global, payload: &[u8]) -> Result<Refusal, OrNoMemory<ArgFault>>
-    ensures { Finds result (error_of payload.now) }
+    ensures { UnlessNoMemory result (error_of payload.now) }
 {
     let mut reader = Reader::new(payload);
     let refusal = refusal(alloc, &mut reader)?;
@@ -153,8 +151,8 @@ fn whole(alloc: Global, payload: &[u8]) -> Result<Refusal, OrNoMemory<ArgFault>>
 /// anything else than this project's errors do are refused as `Foreign`.
 pub fn read_error(alloc: Global, payload: &[u8]) -> Result<Refusal, OrNoMemory<ArgFault>>
     ensures found { IfOk result (IsErrorOf payload.now) }
-    ensures only { (told : Told) → IsErrorOf payload.now told → Gives result told }
-    ensures fault { Finds result (error_of payload.now) }
+    ensures only { (told : Told) → IsErrorOf payload.now told → UnlessNoMemory result (Ok told) }
+    ensures fault { UnlessNoMemory result (error_of payload.now) }
 {
     whole(alloc, payload)
 }

@@ -3,12 +3,12 @@ ghost use Rattle.std.specs.Prelude.{IfOk};
 ghost use Rattle.wire_spec.specs.Xdr.{opaque};
 ghost use Rattle.wire_spec.specs.XdrAnswer.{Takes};
 ghost use Rattle.wire_spec.specs.XdrReading.{first_fixed, first_integer, first_optional, first_string, first_truth, first_word};
-ghost use Rattle.procedure_spec.specs.Arguments.{packet_bound};
 ghost use Rattle.procedure_spec.specs.Reading.{item};
 ghost use Rattle.remote_args.specs.Steps.{Ends, Lifts, Walks};
+ghost use Rattle.procedure_spec.specs.declared.words.TheConstants.{PACKET_BOUND};
 
-use crate::arguments::{PACKET_BOUND, identifier, optional_name};
-use procedure_spec::ArgFault;
+use crate::arguments::{identifier, optional_name};
+use procedure_spec::{ArgFault, PACKET_BOUND};
 use std::alloc::Global;
 use virt_types::{OrNoMemory, Text, Uuid};
 use wire_spec::XdrFault;
@@ -30,19 +30,19 @@ pub(crate) fn lifted<T: Drop>(
 pub(crate) fn word(reader: &mut Reader<'_>) -> Result<u32, OrNoMemory<ArgFault>>
     ensures { Walks (item first_word) reader.old result reader.new }
 {
-    lifted(reader.take_u32().map_err(OrNoMemory::Fault))
+    Ok(reader.take_u32().map_err(ArgFault::Xdr)?)
 }
 
 pub(crate) fn integer(reader: &mut Reader<'_>) -> Result<i32, OrNoMemory<ArgFault>>
     ensures { Walks (item first_integer) reader.old result reader.new }
 {
-    lifted(reader.take_i32().map_err(OrNoMemory::Fault))
+    Ok(reader.take_i32().map_err(ArgFault::Xdr)?)
 }
 
 pub(crate) fn truth(reader: &mut Reader<'_>) -> Result<bool, OrNoMemory<ArgFault>>
     ensures { Walks (item first_truth) reader.old result reader.new }
 {
-    lifted(reader.take_optional().map_err(OrNoMemory::Fault))
+    Ok(reader.take_optional().map_err(ArgFault::Xdr)?)
 }
 
 pub(crate) fn uuid(alloc: Global, reader: &mut Reader<'_>) -> Result<Uuid, OrNoMemory<ArgFault>>
@@ -52,7 +52,7 @@ pub(crate) fn uuid(alloc: Global, reader: &mut Reader<'_>) -> Result<Uuid, OrNoM
 }
 
 pub(crate) fn text(alloc: Global, reader: &mut Reader<'_>) -> Result<Text, OrNoMemory<ArgFault>>
-    ensures read { Walks (item (first_string packet_bound)) reader.old result reader.new }
+    ensures read { Walks (item (first_string PACKET_BOUND)) reader.old result reader.new }
     ensures taken { IfOk result (λ text. Takes reader.old (opaque text) reader.new) }
 {
     lifted(reader.take_text(alloc, PACKET_BOUND))
@@ -62,7 +62,7 @@ pub(crate) fn optional_text(
     alloc: Global,
     reader: &mut Reader<'_>,
 ) -> Result<Option<Text>, OrNoMemory<ArgFault>>
-    ensures { Walks (item (first_optional (first_string packet_bound))) reader.old result reader.new }
+    ensures { Walks (item (first_optional (first_string PACKET_BOUND))) reader.old result reader.new }
 {
     lifted(optional_name(alloc, reader))
 }

@@ -5,7 +5,6 @@ mod arguments;
 mod call;
 mod error;
 mod error_reader;
-mod frame;
 mod item;
 mod reply;
 mod reply_reader;

@@ -1,9 +1,8 @@
 // Reading replies.
-ghost use Rattle.std.specs.Prelude.{◌≡◌, IfOk, option_map};
+ghost use Rattle.std.specs.Prelude.{Ok, ◌≡◌, IfOk, option_map};
 ghost use Rattle.virt_types.specs.declared.value.Value.{Value as Told};
-ghost use Rattle.wire_spec.specs.XdrAnswer.{Gives};
 ghost use Rattle.procedure_spec.specs.Arguments.{domain_procedure};
-ghost use Rattle.procedure_spec.specs.Calls.{Finds};
+ghost use Rattle.virt_types.specs.Memory.{UnlessNoMemory};
 ghost use Rattle.procedure_spec.specs.Results.{IsAnswer, domain_result};
 ghost use Rattle.procedure_spec.specs.ResultsReading.{reply_of, shape_of};
 
@@ -38,7 +37,7 @@ fn shape(request: &Request) -> Option<ResultShape>
 
 #[tactic(auto, unfolding(procedure_spec::specs::ResultsReading::reply_of))]
 fn answer(alloc: Global, request: &Request, payload: &[u8]) -> Result<Value, OrNoMemory<ArgFault>>
-    ensures { Finds result (reply_of request.now payload.now) }
+    ensures { UnlessNoMemory result (reply_of request.now payload.now) }
 {
     match shape(request) {
         Some(shape) => value(alloc, shape, payload),
@@ -54,8 +53,8 @@ pub fn read_reply(
     payload: &[u8],
 ) -> Result<Value, OrNoMemory<ArgFault>>
     ensures found { IfOk result (IsAnswer request.now payload.now) }
-    ensures only { (told : Told) → IsAnswer request.now payload.now told → Gives result told }
-    ensures fault { Finds result (reply_of request.now payload.now) }
+    ensures only { (told : Told) → IsAnswer request.now payload.now told → UnlessNoMemory result (Ok told) }
+    ensures fault { UnlessNoMemory result (reply_of request.now payload.now) }
 {
     answer(alloc, request, payload)
 }

@@ -4,8 +4,9 @@ ghost use Rattle.std.specs.List.{AllByRecursion, flat_map};
 ghost use Rattle.virt_types.specs.Name.{IsName};
 ghost use Rattle.wire_spec.specs.Xdr.{opaque};
 ghost use Rattle.procedure_spec.specs.declared.procedure.ResultShape.{ResultShape};
-ghost use Rattle.procedure_spec.specs.Results.{HasShape, IsReference, domain_reference, names as spelled_names, names_bound, result as spelled};
+ghost use Rattle.procedure_spec.specs.Results.{HasShape, IsReference, domain_reference, names as spelled_names, result as spelled};
 ghost use Rattle.remote_args.specs.Holding.{Holds};
+ghost use Rattle.procedure_spec.specs.declared.words.TheConstants.{NAMES_BOUND};
 
 use virt_types::{DomainRef, Name, NoMemory, Value};
 use xdr_codec::Writer;
@@ -37,7 +38,7 @@ fn put_each(writer: &mut Writer, list: &[Name]) -> Result<(), NoMemory>
 }
 
 fn put_names(writer: &mut Writer, list: &[Name]) -> Result<(), NoMemory>
-    requires { length list.now ≤ names_bound }
+    requires { length list.now ≤ NAMES_BOUND }
     ensures written { OnOk result (writer.new ≡ writer.old ++ spelled_names list.now) }
     ensures names { OnOk result (AllByRecursion IsName list.now) }
 {

@@ -1,20 +1,17 @@
 // Reading what replies carry.
 ghost use Rattle.std.specs.Prelude.{◌≡◌, ◌≤◌};
-ghost use Rattle.procedure_spec.specs.Calls.{Finds};
+ghost use Rattle.virt_types.specs.Memory.{UnlessNoMemory};
 ghost use Rattle.procedure_spec.specs.Reading.{all};
-ghost use Rattle.procedure_spec.specs.Results.{names_bound};
 ghost use Rattle.procedure_spec.specs.ResultsReading.{first_count, first_domain, first_list, first_name, first_name_list, first_names, first_nothing, first_reference, first_text, value_in};
 ghost use Rattle.remote_args.specs.Steps.{Walks};
+ghost use Rattle.procedure_spec.specs.declared.words.TheConstants.{NAMES_BOUND};
 
 use crate::item::{end, integer, text, uuid, word};
-use procedure_spec::{ArgFault, ResultShape};
+use procedure_spec::{ArgFault, NAMES_BOUND, ResultShape};
 use std::alloc::Global;
 use virt_types::{DomainRef, ListOf, Name, NameList, OrNoMemory, Value};
 use wire_spec::XdrFault;
 use xdr_codec::Reader;
-
-/// The most names of a list.
-const NAMES_BOUND: u32 = 1024;
 
 #[tactic(auto, unfolding(procedure_spec::specs::ResultsReading::first_name))]
 fn name(alloc: Global, reader: &mut Reader<'_>) -> Result<Name, OrNoMemory<ArgFault>>
@@ -82,7 +79,7 @@ fn list(alloc: Global, reader: &mut Reader<'_>) -> Result<NameList, OrNoMemory<A
 
 #[tactic(auto, unfolding(procedure_spec::specs::Reading::all, procedure_spec::specs::ResultsReading::first_nothing))]
 fn all_nothing(payload: &[u8]) -> Result<Value, OrNoMemory<ArgFault>>
-    ensures { Finds result (all first_nothing payload.now) }
+    ensures { UnlessNoMemory result (all first_nothing payload.now) }
 {
     end(&Reader::new(payload))?;
     Ok(Value::Nothing)
@@ -90,7 +87,7 @@ fn all_nothing(payload: &[u8]) -> Result<Value, OrNoMemory<ArgFault>>
 
 #[tactic(auto, unfolding(procedure_spec::specs::Reading::all, procedure_spec::specs::ResultsReading::first_domain))]
 fn all_domain(alloc: Global, payload: &[u8]) -> Result<Value, OrNoMemory<ArgFault>>
-    ensures { Finds result (all first_domain payload.now) }
+    ensures { UnlessNoMemory result (all first_domain payload.now) }
 {
     let mut reader = Reader::new(payload);
     let domain = reference(alloc, &mut reader)?;
@@ -100,7 +97,7 @@ fn all_domain(alloc: Global, payload: &[u8]) -> Result<Value, OrNoMemory<ArgFaul
 
 #[tactic(auto, unfolding(procedure_spec::specs::Reading::all, procedure_spec::specs::ResultsReading::first_text))]
 fn all_text(alloc: Global, payload: &[u8]) -> Result<Value, OrNoMemory<ArgFault>>
-    ensures { Finds result (all first_text payload.now) }
+    ensures { UnlessNoMemory result (all first_text payload.now) }
 {
     let mut reader = Reader::new(payload);
     let text = text(alloc, &mut reader)?;
@@ -110,7 +107,7 @@ fn all_text(alloc: Global, payload: &[u8]) -> Result<Value, OrNoMemory<ArgFault>
 
 #[tactic(auto, unfolding(procedure_spec::specs::Reading::all, procedure_spec::specs::ResultsReading::first_name_list))]
 fn all_names(alloc: Global, payload: &[u8]) -> Result<Value, OrNoMemory<ArgFault>>
-    ensures { Finds result (all first_name_list payload.now) }
+    ensures { UnlessNoMemory result (all first_name_list payload.now) }
 {
     let mut reader = Reader::new(payload);
     let list = list(alloc, &mut reader)?;
@@ -124,7 +121,7 @@ pub(crate) fn value(
     shape: ResultShape,
     payload: &[u8],
 ) -> Result<Value, OrNoMemory<ArgFault>>
-    ensures { Finds result (value_in shape payload.now) }
+    ensures { UnlessNoMemory result (value_in shape payload.now) }
 {
     match shape {
         ResultShape::Nothing => all_nothing(payload),

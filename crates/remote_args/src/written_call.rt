@@ -1,18 +1,17 @@
 // Writing calls: whole packets.
-ghost use Rattle.std.specs.Prelude.{◌≡◌, ◌+◌, ◌++◌, ◌<◌, ◌^◌, length, IfOk, IfErr, IfSome, OnOk};
+ghost use Rattle.std.specs.Prelude.{◌≡◌, ◌+◌, ◌++◌, ◌<◌, ◌^◌, length, IfOk, IfErr, IfSome, OnOk, Some, option_map};
 ghost use Rattle.wire_spec.specs.Packets.{IsPacket, spelling};
 ghost use Rattle.wire_spec.specs.Xdr.{opaque, optional};
-ghost use Rattle.packet.specs.Writing.{packet_with};
+ghost use Rattle.wire_spec.specs.declared.message.TheConstants.{HEADER_LENGTH};
+ghost use Rattle.packet.specs.Writing.{IsTooBig, packet_with};
 ghost use Rattle.procedure_spec.specs.Arguments.{HasArguments, HasDomainArguments, arguments, domain_arguments, target as target_items};
-ghost use Rattle.procedure_spec.specs.Calls.{IsCall, call_header as header_of, call_numbers as numbers_of, call_of, domain_numbers as domain_numbers_of};
-ghost use Rattle.remote_args.specs.Frames.{IsTooBig};
+ghost use Rattle.procedure_spec.specs.Calls.{IsAskedBy, call_header as header_of, call_numbers as numbers_of, call_packet, domain_numbers as domain_numbers_of};
 
-use crate::frame::{begin, finish};
-use packet::WriteFault;
-use procedure_spec::REMOTE;
+use packet::{WriteFault, begin_packet, finish_packet};
+use procedure_spec::{REMOTE, VERSION};
 use std::alloc::Global;
 use virt_types::{Bytes, DomainRequest, DomainTarget, NoMemory, OrNoMemory, Request, Text};
-use wire_spec::Header;
+use wire_spec::{CALL, Header, OK};
 use xdr_codec::Writer;
 
 fn put_text(writer: &mut Writer, text: &Text) -> Result<(), NoMemory>
@@ -81,60 +80,75 @@ fn put_arguments(writer: &mut Writer, request: &Request) -> Result<(), NoMemory>
     }
 }
 
-fn domain_numbers(request: &DomainRequest) -> (u32, u32)
+fn domain_numbers(request: &DomainRequest) -> Option<(u32, u32)>
     ensures { result ≡ domain_numbers_of request.now }
 {
     match request {
-        DomainRequest::GetXmlDesc { .. } => (REMOTE, 14),
-        _ => (0, 0),
+        DomainRequest::GetXmlDesc { .. } => Some((REMOTE, 14)),
+        _ => None,
     }
 }
 
-// The program and the number of the request's procedure.
-fn call_numbers(request: &Request) -> (u32, u32)
+// The program and the number of the request's procedure, if it is built.
+fn call_numbers(request: &Request) -> Option<(u32, u32)>
     ensures { result ≡ numbers_of request.now }
 {
     match request {
-        Request::ConnectOpen { .. } => (REMOTE, 1),
-        Request::ConnectClose => (REMOTE, 2),
-        Request::DomainDefineXml { .. } => (REMOTE, 11),
+        Request::ConnectOpen { .. } => Some((REMOTE, 1)),
+        Request::ConnectClose => Some((REMOTE, 2)),
+        Request::DomainDefineXml { .. } => Some((REMOTE, 11)),
         Request::OnDomain { request, .. } => domain_numbers(request),
-        Request::ListDefinedDomains { .. } => (REMOTE, 21),
-        Request::DomainLookupByName { .. } => (REMOTE, 23),
-        Request::DomainLookupByUuid { .. } => (REMOTE, 24),
-        _ => (0, 0),
+        Request::ListDefinedDomains { .. } => Some((REMOTE, 21)),
+        Request::DomainLookupByName { .. } => Some((REMOTE, 23)),
+        Request::DomainLookupByUuid { .. } => Some((REMOTE, 24)),
+        _ => None,
     }
 }
 
-fn call_header(request: &Request, serial: u32) -> Header
-    ensures { result ≡ header_of request.now serial }
+fn call_header(numbers: (u32, u32), serial: u32) -> Header
+    ensures { result ≡ header_of numbers serial }
 {
-    let (prog, procedure) = call_numbers(request);
     Header {
-        prog,
-        vers: 1,
-        procedure,
-        kind: 0,
+        prog: numbers.0,
+        vers: VERSION,
+        procedure: numbers.1,
+        kind: CALL,
         serial,
-        status: 0,
+        status: OK,
     }
+}
+
+// The call of the procedure with this program and number.
+fn write_numbered(
+    alloc: Global,
+    numbers: (u32, u32),
+    request: &Request,
+    serial: u32,
+) -> Result<Bytes, OrNoMemory<WriteFault>>
+    requires { HasArguments request.now }
+    ensures bytes { IfOk result (λ bytes. bytes ≡ spelling (packet_with (header_of numbers serial) (arguments request.now))) }
+    ensures packet { OnOk result (IsPacket (packet_with (header_of numbers serial) (arguments request.now))) }
+    ensures err { IfErr result (IsTooBig (HEADER_LENGTH + length (arguments request.now))) }
+{
+    let mut writer = begin_packet(alloc, &call_header(numbers, serial))?;
+    put_arguments(&mut writer, request)?;
+    finish_packet(writer)
 }
 
 /// The call that asks this request, with this serial.
-#[tactic(auto, using(procedure_spec::proofs::Written::is_call, procedure_spec::proofs::Written::written_back))]
 pub fn write_call(
     alloc: Global,
     request: &Request,
     serial: u32,
 ) -> Result<Bytes, OrNoMemory<WriteFault>>
     requires { HasArguments request.now }
-    ensures call { IsCall (header_of request.now serial) (arguments request.now) request.now }
-    ensures bytes { IfOk result (λ bytes. bytes ≡ spelling (packet_with (header_of request.now serial) (arguments request.now))) }
-    ensures packet { OnOk result (IsPacket (packet_with (header_of request.now serial) (arguments request.now))) }
-    ensures err { IfErr result (IsTooBig (28 + length (arguments request.now))) }
-    ensures reads_back { call_of (header_of request.now serial) (arguments request.now) ≡ Ok request.now }
+    ensures call { IsAskedBy (call_packet request.now serial) request.now }
+    ensures bytes { IfOk result (λ bytes. option_map spelling (call_packet request.now serial) ≡ Some bytes) }
+    ensures packet { OnOk result (IfSome (call_packet request.now serial) IsPacket) }
+    ensures err { IfErr result (IsTooBig (HEADER_LENGTH + length (arguments request.now))) }
 {
-    let mut writer = begin(alloc, &call_header(request, serial))?;
-    put_arguments(&mut writer, request)?;
-    finish(writer)
+    match call_numbers(request) {
+        Some(numbers) => write_numbered(alloc, numbers, request, serial),
+        None => unreachable!(),
+    }
 }

@@ -8,7 +8,7 @@ use Rattle.std.specs.List.{flat_map, AllByRecursion}
 use Rattle.session.specs.declared.say.Flow.TheVariants as flow
 use Rattle.session.specs.declared.say.Stop.{Stop}
 use Rattle.session.specs.declared.say.Stop.TheVariants as stop
-use Rattle.session.specs.Steps.{Closes, EndsPiece, Going, PieceDone, PieceEnds, SaysOne, Serves, Stopped, StopsAt, StopsOne, end_at}
+use Rattle.session.specs.Steps.{Closes, EndsPiece, Going, PieceDone, PieceEnds, SaysOne, ServesFront, Stopped, StopsAt, StopsOne, end_at}
 use Rattle.session.proofs.Answering.{answered_append, answered_one, open_append, text-append}
 use Rattle.session.proofs.Known.{Appends-none, Appends-then, Consumes-kept, Consumes-none, Consumes-then}
 use Rattle.session_spec.specs.Course.{Course, Ends, HasEnd, IsClosed, IsOver, IsStill, StaysOpen}
@@ -22,7 +22,7 @@ use Rattle.wire_spec.specs.Split.{IsRest, stream}
 use Rattle.wire_spec.specs.declared.message.Packet.{Packet}
 
 -- one more packet was answered, and the session goes on
-pub serves_more : (m now then : Definitions) (ready before left : List Packet) (p : Packet) (held w v : Option (List ℕ)) → Serves m ready before held w now → before ≡ p ∷ left → SaysOne now p w v then flow.On → Serves m ready left held v then
+pub serves_more : (m now then : Definitions) (ready before left : List Packet) (p : Packet) (held w v : Option (List ℕ)) → ServesFront m ready before held w now → before ≡ p ∷ left → SaysOne now p w v then flow.On → ServesFront m ready left held v then
 serves_more m now then ready before left p held w v s is o = record {
   served = s.served ++ p ∷ [];
   messages = s.messages ++ option_to_list o.reply;
@@ -33,7 +33,7 @@ serves_more m now then ready before left p held w v s is o = record {
 }
 
 -- one more packet was answered, and closes the session
-pub serves_close : (m now then : Definitions) (ready before left : List Packet) (p : Packet) (held w v : Option (List ℕ)) → Serves m ready before held w now → before ≡ p ∷ left → SaysOne now p w v then flow.Closed → Closes m ready held v then
+pub serves_close : (m now then : Definitions) (ready before left : List Packet) (p : Packet) (held w v : Option (List ℕ)) → ServesFront m ready before held w now → before ≡ p ∷ left → SaysOne now p w v then flow.Closed → Closes m ready held v then
 serves_close m now then ready before left p held w v s is o = record {
   served = s.served ++ p ∷ [];
   left = left;
@@ -45,7 +45,7 @@ serves_close m now then ready before left p held w v s is o = record {
 }
 
 -- the next packet was not answered, or in part
-pub serves_stopped : (m now then : Definitions) (ready before left : List Packet) (p : Packet) (held w v : Option (List ℕ)) (why : Stop) → Serves m ready before held w now → before ≡ p ∷ left → StopsOne now p w v then why → Stopped m ready held v then why
+pub serves_stopped : (m now then : Definitions) (ready before left : List Packet) (p : Packet) (held w v : Option (List ℕ)) (why : Stop) → ServesFront m ready before held w now → before ≡ p ∷ left → StopsOne now p w v then why → Stopped m ready held v then why
 serves_stopped m now then ready before left p held w v why s is (extra, stops, put) = record {
   served = s.served;
   next = p;
@@ -140,8 +140,8 @@ closed_ends m after ready rest held wrote s each =
       ends = still after;
     }
 
--- all were answered, and behind them stands what no packet begins with
-pub bad_ends : (m after : Definitions) (ready : List Packet) (rest : List ℕ) (held wrote : Option (List ℕ)) (bad : _) → Serves m ready [] held wrote after → AllByRecursion IsPacket ready → fault rest ≡ Some bad → PieceEnds m (stream ready rest) held wrote after (BadPacket bad)
+-- all were answered, and after them stands what no packet begins with
+pub bad_ends : (m after : Definitions) (ready : List Packet) (rest : List ℕ) (held wrote : Option (List ℕ)) (bad : _) → ServesFront m ready [] held wrote after → AllByRecursion IsPacket ready → fault rest ≡ Some bad → PieceEnds m (stream ready rest) held wrote after (BadPacket bad)
 bad_ends m after ready rest held wrote bad s each is =
     let all : AllByRecursion IsPacket (s.served ++ []) = rw (← s.parts) each in
     let same : ready ≡ s.served = s.parts ∙ append-nil s.served in
@@ -159,8 +159,8 @@ bad_ends m after ready rest held wrote bad s each is =
       ends = (is, still after);
     }
 
--- all were answered, and what stands behind them is the front of a packet
-pub piece_done : (m after : Definitions) (ready : List Packet) (rest : List ℕ) (held wrote : Option (List ℕ)) → Serves m ready [] held wrote after → AllByRecursion IsPacket ready → IsRest rest → fault rest ≡ None → PieceDone m (stream ready rest) rest held wrote after
+-- all were answered, and what stands after them is the front of a packet
+pub piece_done : (m after : Definitions) (ready : List Packet) (rest : List ℕ) (held wrote : Option (List ℕ)) → ServesFront m ready [] held wrote after → AllByRecursion IsPacket ready → IsRest rest → fault rest ≡ None → PieceDone m (stream ready rest) rest held wrote after
 piece_done m after ready rest held wrote s each part sound =
     let all : AllByRecursion IsPacket (s.served ++ []) = rw (← s.parts) each in
     let same : ready ≡ s.served = s.parts ∙ append-nil s.served in

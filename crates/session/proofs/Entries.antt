@@ -1,5 +1,5 @@
 -- Entries of a map, as std's ordered map keeps them.
-use Rattle.std.proofs.Common.{◌≡◌, ℕ, List, [], ◌∷◌, refl, ap}
+use Rattle.std.proofs.Common.{◌≡◌, ℕ, List, [], ◌∷◌, Some, refl, sym, ap, ◌∙◌}
 use Rattle.std.specs.BTreeMap.{insert_entry}
 use Rattle.std.specs.Cmp.Lexicographic.{slice_cmp}
 use Rattle.std.specs.Map.{lookup}
@@ -8,7 +8,10 @@ use Rattle.std.specs.Prelude.{map}
 use Rattle.std.specs.declared.cmp.Ordering.{Ordering}
 use Rattle.std.specs.declared.cmp.Ordering.TheVariants.{Equal, Greater, Less}
 use Rattle.std.proofs.lemmas.Map.Text.{is_eq-slice_cmp}
-use Rattle.session_spec.specs.Definitions.{AreKept, Definitions, Entry, IsKept, identified, names_of, with_definition}
+use Rattle.session_spec.specs.Definitions.{AreKept, Definitions, Entry, IsKept, IsOnlyNamed, identified, names_of, with_definition}
+use Rattle.session.proofs.Apart.{put_apart}
+use Rattle.session.proofs.Fits.{EachKept}
+use Rattle.std.proofs.lemmas.Slice.Eq.{bytes_eq-Decides}
 use Rattle.virt_types.specs.declared.domain_def.DomainDef.{DomainDef}
 
 -- an order of lists of bytes that is theirs, however it is written
@@ -28,14 +31,33 @@ pub put_same : (cmp : List ℕ → List ℕ → Ordering) → IsTheirs cmp → (
 put_same cmp same [] uuid def = refl
 put_same cmp same (e ∷ es) uuid def = rw (same uuid e.0, put_same cmp same es uuid def) refl
 
-put_step : (o : Ordering) (e : Entry) (es more : Definitions) (uuid : List ℕ) (def : DomainDef) → IsKept e → AreKept es → AreKept more → IsKept (uuid, def) → AreKept (match_ordering o ((uuid, def) ∷ e ∷ es) ((e.0, def) ∷ es) (e ∷ more))
-put_step Less e es more uuid def h k n new = (new, (h, k))
-put_step Equal e es more uuid def h k n new = (record { identifier = h.identifier; name = new.name; told = new.told }, k)
-put_step Greater e es more uuid def h k n new = (h, n)
+-- an identifier that compares equal to another is that one
+pub equal_key : (cmp : List ℕ → List ℕ → Ordering) → IsTheirs cmp → (a b : List ℕ) → cmp a b ≡ Equal → a ≡ b
+equal_key cmp same a b e = (bytes_eq-Decides a b).0 (sym (is_eq-slice_cmp a b) ∙ (ap is_eq (sym (same a b)) ∙ ap is_eq e))
 
-pub put_kept : (cmp : List ℕ → List ℕ → Ordering) (m : Definitions) (uuid : List ℕ) (def : DomainDef) → AreKept m → IsKept (uuid, def) → AreKept (insert_entry cmp m uuid def)
-put_kept cmp [] uuid def h new = (new, tt)
-put_kept cmp (e ∷ es) uuid def h new = put_step (cmp uuid e.0) e es (insert_entry cmp es uuid def) uuid def h.0 h.1 (put_kept cmp es uuid def h.1 new) new
+kept_as : (e : Entry) (uuid : List ℕ) (def : DomainDef) → IsKept e → IsKept (uuid, def) → uuid ≡ e.0 → IsKept (e.0, def)
+kept_as e uuid def h new at = record {
+  identifier = h.identifier;
+  own = new.own ∙ ap (λ (u : List ℕ). Some u) at;
+  name = new.name;
+  short = new.short;
+  reads_back = new.reads_back;
+}
+
+put_step : (o : Ordering) (e : Entry) (es more : Definitions) (uuid : List ℕ) (def : DomainDef) → (o ≡ Equal → uuid ≡ e.0) → IsKept e → EachKept es → EachKept more → IsKept (uuid, def) → EachKept (match_ordering o ((uuid, def) ∷ e ∷ es) ((e.0, def) ∷ es) (e ∷ more))
+put_step Less e es more uuid def at h k n new = (new, (h, k))
+put_step Equal e es more uuid def at h k n new = (kept_as e uuid def h new (at refl), k)
+put_step Greater e es more uuid def at h k n new = (h, n)
+
+put_each : (cmp : List ℕ → List ℕ → Ordering) → IsTheirs cmp → (m : Definitions) (uuid : List ℕ) (def : DomainDef) → EachKept m → IsKept (uuid, def) → EachKept (insert_entry cmp m uuid def)
+put_each cmp same [] uuid def h new = (new, tt)
+put_each cmp same (e ∷ es) uuid def h new = put_step (cmp uuid e.0) e es (insert_entry cmp es uuid def) uuid def (equal_key cmp same uuid e.0) h.0 h.1 (put_each cmp same es uuid def h.1 new) new
+
+pub put_kept : (cmp : List ℕ → List ℕ → Ordering) → IsTheirs cmp → (m : Definitions) (uuid : List ℕ) (def : DomainDef) → AreKept m → IsKept (uuid, def) → IsOnlyNamed uuid def.name m → AreKept (insert_entry cmp m uuid def)
+put_kept cmp same m uuid def h new only = record {
+  each = put_each cmp same m uuid def h.each new;
+  names = put_apart cmp (equal_key cmp same) m uuid def h.names only;
+}
 
 pub names_are : (m : Definitions) → map (λ (d : DomainDef). d.name) (map (λ (e : Entry). e.1) m) ≡ names_of m
 names_are [] = refl

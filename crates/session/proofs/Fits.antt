@@ -1,7 +1,9 @@
 -- Replies are short.
-use Rattle.std.proofs.Common.{◌≡◌, ◌+◌, ◌*◌, ◌≤◌, ◌<◌, ◌^◌, ℕ, Bool, true, false, List, [], ◌∷◌, ◌++◌, length, take, Option, Some, refl, subst, arith}
-use Rattle.std.specs.List.{All, find, flat_map}
-use Rattle.std.specs.Prelude.{bytes_eq, cond}
+use Rattle.std.proofs.Common.{◌≡◌, ◌+◌, ◌*◌, ◌≤◌, ◌<◌, ◌^◌, ℕ, Bool, true, false, List, [], ◌∷◌, ◌++◌, length, take, Option, None, Some, Ok, refl, sym, ap, ◌∙◌, subst, arith}
+use Rattle.std.specs.List.{All, AllByRecursion, find, flat_map}
+use Rattle.std.specs.Borrow.{Bor}
+use Rattle.std.specs.Option.{option_copied}
+use Rattle.std.specs.Prelude.{IfSome, bytes_eq, cond}
 use Rattle.std.specs.Int.{cast_unsigned, w32}
 use Rattle.std.specs.Str.Lossy.{utf8_valid_len}
 use Rattle.std.proofs.lemmas.List.{length-append, length-replicate, length-take}
@@ -20,7 +22,7 @@ use Rattle.virt_types.specs.declared.value.Reply.{Reply}
 use Rattle.virt_types.specs.declared.value.Reply.TheVariants as reply
 use Rattle.wire_spec.specs.declared.message.Header.{Header}
 use Rattle.session_spec.specs.Defining.{reference}
-use Rattle.session_spec.specs.Definitions.{AreKept, Definitions, Entry, IsKept, identified, named, names_of, text_of}
+use Rattle.session_spec.specs.Definitions.{Definitions, Entry, IsKept, identified, named, names_of}
 use Rattle.virt_types.specs.Name.{IsName}
 use Rattle.virt_types.specs.Refusal.{kept_cut, refusal_message}
 use Rattle.virt_types.specs.declared.refusal.Refusal.{Refusal}
@@ -28,6 +30,11 @@ use Rattle.virt_types.specs.declared.refusal.RefusalCode.{RefusalCode}
 use Rattle.virt_types.specs.declared.refusal.RefusalCode.TheVariants as code
 use Rattle.virt_types.specs.declared.domain_def.DomainDef.{DomainDef}
 use Rattle.wire_spec.specs.Xdr.{fixed, opaque, optional, padding, padding_length, word}
+use Rattle.session_spec.specs.DefinitionText.{definition_in, text_of}
+
+-- each entry is such a one
+abbrev pub EachKept : Definitions → Type 0
+EachKept m = AllByRecursion IsKept m
 
 word_short : (n : ℕ) → length (word n) ≤ 4
 unfolding word
@@ -67,10 +74,10 @@ reference_short e k =
     omega (arith, all)
 
 pub text_short : (e : Entry) → IsKept e → length (opaque (text_of e.1)) ≤ 1000000
-text_short e k = omega (arith, opaque_short (text_of e.1) 65536 k.told)
+text_short e k = omega (arith, opaque_short (text_of e.1) 65536 k.short)
 
 pub text_fits : (e : Entry) → IsKept e → length (text_of e.1) < 2 ^ 32
-text_fits e k = omega (arith, k.told)
+text_fits e k = omega (arith, k.short)
 
 -- names
 each_short : (ns : List (List ℕ)) → All IsName ns → length (flat_map opaque ns) ≤ 135 * length ns
@@ -80,14 +87,14 @@ each_short (n ∷ ns) h = omega (arith, length-append (opaque n) (flat_map opaqu
 names_short : (ns : List (List ℕ)) → All IsName ns → length ns ≤ 1024 → length (names ns) ≤ 1000000
 names_short ns h few = omega (arith, both_short (word (length ns)) (flat_map opaque ns) 4 (135 * 1024) (word_short (length ns)) (omega (arith, each_short ns h, few)))
 
-names_kept : (m : Definitions) → AreKept m → All IsName (names_of m)
+names_kept : (m : Definitions) → EachKept m → All IsName (names_of m)
 names_kept [] h = All-nil IsName
 names_kept (e ∷ es) h = All-cons IsName e.1.name (names_of es) h.0.name (names_kept es h.1)
 
 few_taken : (ns : List (List ℕ)) (most : ℕ) → most ≤ 1024 → length (take most ns) ≤ 1024
 few_taken ns most few = omega (arith, length-take most ns, few)
 
-pub listed_short : (m : Definitions) (risen : List (List ℕ)) (most : ℕ) → AreKept m → IsPermutation (names_of m) risen → most ≤ 1024 → (length (take most risen) ≤ 1024) × (length (names (take most risen)) ≤ 1000000)
+pub listed_short : (m : Definitions) (risen : List (List ℕ)) (most : ℕ) → EachKept m → IsPermutation (names_of m) risen → most ≤ 1024 → (length (take most risen) ≤ 1024) × (length (names (take most risen)) ≤ 1000000)
 listed_short m risen most h same few =
     let all = All-take IsName most risen (All-permutation IsName (names_of m) risen same (names_kept m h)) in
     (few_taken risen most few, names_short (take most risen) all (few_taken risen most few))
@@ -97,11 +104,11 @@ found_step : (here : Bool) (x : Entry) (rest : Option Entry) (e : Entry) → IsK
 found_step true x rest e k more is = let same : x ≡ e = cc in subst IsKept same k
 found_step false x rest e k more is = more is
 
-found_kept : (p : Entry → Bool) (m : Definitions) (e : Entry) → AreKept m → find p m ≡ Some e → IsKept e
+found_kept : (p : Entry → Bool) (m : Definitions) (e : Entry) → EachKept m → find p m ≡ Some e → IsKept e
 found_kept p [] e h is = absurd cc
 found_kept p (x ∷ xs) e h is = found_step (p x) x (find p xs) e h.0 (found_kept p xs e h.1) is
 
-pub named_kept : (name : List ℕ) (m : Definitions) (e : Entry) → AreKept m → named name m ≡ Some e → IsKept e
+pub named_kept : (name : List ℕ) (m : Definitions) (e : Entry) → EachKept m → named name m ≡ Some e → IsKept e
 named_kept name m e h is = found_kept (λ x. bytes_eq x.1.name name) m e h is
 
 same_entry : (here : Bool) (uuid : List ℕ) (x : Entry) (rest : Option DomainDef) (def : DomainDef) → (here ≡ true → uuid ≡ x.0) → IsKept x → (rest ≡ Some def → IsKept (uuid, def)) → cond here (Some x.1) rest ≡ Some def → IsKept (uuid, def)
@@ -109,15 +116,22 @@ same_entry true uuid x rest def at k more is =
     let same : x.1 ≡ def = cc in
     record {
       identifier = rw (at refl) k.identifier;
+      own = rw (← same) (k.own ∙ ap (λ (u : List ℕ). Some u) (sym (at refl)));
       name = rw (← same) k.name;
-      told = rw (← same) k.told;
+      short = rw (← same) k.short;
+      reads_back = rw (← same) k.reads_back;
     }
 same_entry false uuid x rest def at k more is = more is
 
 -- so is the definition with an identifier
-pub identified_kept : (uuid : List ℕ) (m : Definitions) (def : DomainDef) → AreKept m → identified uuid m ≡ Some def → IsKept (uuid, def)
+pub identified_kept : (uuid : List ℕ) (m : Definitions) (def : DomainDef) → EachKept m → identified uuid m ≡ Some def → IsKept (uuid, def)
 identified_kept uuid [] def h is = absurd cc
 identified_kept uuid (x ∷ xs) def h is = same_entry (bytes_eq uuid x.0) uuid x (identified uuid xs) def (bytes_eq-Decides uuid x.0).0 h.0 (identified_kept uuid xs def h.1) is
+
+-- the definition that is found reads back from its text
+pub found_reads_back : (uuid : List ℕ) (m : Definitions) (found : Option (Bor DomainDef)) → EachKept m → option_copied found ≡ identified uuid m → IfSome found (λ d. definition_in (text_of d.now) ≡ Ok d.now)
+found_reads_back uuid m None h is = tt
+found_reads_back uuid m (Some d) h is = (identified_kept uuid m d.now h (sym is)).reads_back
 
 message_hundred : (c : RefusalCode) → length (refusal_message c) ≤ 100
 message_hundred code.NoMemory = omega arith
@@ -141,7 +155,6 @@ message_hundred code.GuestEnded = omega arith
 message_hundred code.MonitorLost = omega arith
 message_hundred code.TooManyWaiting = omega arith
 message_hundred code.ListFull = omega arith
-message_hundred code.HistoryFull = omega arith
 message_hundred code.NotBuilt = omega arith
 message_hundred code.Stalled = omega arith
 message_hundred code.SnapshotExists = omega arith

@@ -1,4 +1,5 @@
 pub mod Answering
+pub mod Apart
 pub mod Complete
 pub mod Courses
 pub mod Entries

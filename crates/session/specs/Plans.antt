@@ -3,11 +3,11 @@ use Rattle.std.specs.Prelude.{◌≡◌, ◌≤◌, ℕ, length, Option, option_
 use Rattle.procedure_spec.specs.Results.{HasResult, HasShape, result}
 use Rattle.procedure_spec.specs.declared.fault.ArgFault.{ArgFault}
 use Rattle.procedure_spec.specs.declared.procedure.ResultShape.{ResultShape}
-use Rattle.session_spec.specs.Definitions.{Definitions, Entry}
-use Rattle.session_spec.specs.Replies.{Gives, asks_to_close}
+use Rattle.session_spec.specs.Definitions.{Definitions, Entry, IsKept, IsOnlyNamed}
+use Rattle.session_spec.specs.Replies.{HasOutcome, asks_to_close}
 use Rattle.session.specs.Left.{left}
-use Rattle.session.specs.Said.{reply_of}
 use Rattle.session.specs.declared.plan.Plan.{Plan}
+use Rattle.virt_types.specs.Limits.{most_kept_bytes}
 use Rattle.virt_types.specs.declared.request.Request.{Request}
 use Rattle.virt_types.specs.declared.value.Reply.{Reply}
 use Rattle.virt_types.specs.declared.value.Reply.TheVariants as reply
@@ -20,19 +20,24 @@ most_result = 1000000
 -- the value has this shape and a short payload; a refusal keeps no more than refusals keep
 abbrev pub IsShort : ResultShape → Reply → Type 0
 IsShort shape (reply.Ok v) = HasShape v shape × (length (result v) ≤ most_result)
-IsShort shape (reply.No why) = length why.kept ≤ 1024
+IsShort shape (reply.No why) = length why.kept ≤ most_kept_bytes
 
 -- the reply can be written as the one to a call of this header
 abbrev pub IsSayable : Header → Reply → Type 0
 IsSayable call (reply.Ok v) = HasResult call v × (length (result v) ≤ most_result)
-IsSayable call (reply.No why) = length why.kept ≤ 1024
+IsSayable call (reply.No why) = length why.kept ≤ most_kept_bytes
 
 -- what a plan puts into the map
 abbrev pub put_of : Plan → Option Entry
 put_of plan = option_map (λ e. e.value) plan.put
 
+-- what is put into a map keeps its names apart
+pub record IsPutInto (m : Definitions) (e : Entry) : Type 0 where
+  pub kept : IsKept e
+  pub only : IsOnlyNamed e.0 e.1.name m
+
 -- the plan for a call over a map, as the call is read
 pub record IsPlan (m : Definitions) (call : Header) (read : Result Request ArgFault) (plan : Plan) : Type 0 where
-  pub gives : Gives m call read (reply_of plan.said) (left m (put_of plan))
+  pub outcome : HasOutcome m call read plan.said (left m (put_of plan))
   pub closes : plan.closes ≡ asks_to_close read
-  pub sayable : IsSayable call (reply_of plan.said)
+  pub sayable : IsSayable call plan.said

@@ -16,13 +16,14 @@ use Rattle.session_spec.specs.declared.end.End.TheVariants as end
 use Rattle.wire_spec.specs.Packets.{IsPacket, fault, spelling}
 use Rattle.wire_spec.specs.Split.{IsRest, stream}
 use Rattle.wire_spec.specs.declared.message.Packet.{Packet}
+use Rattle.wire_spec.specs.declared.message.TheConstants.{CALL}
 
 -- a call was done, the bytes are its reply, and it closes the session or not
 pub record IsDone (m : Definitions) (call : Packet) (after : Definitions) (done : List ℕ × Bool) : Type 0 where
   pub answer : Packet
   pub turn : Turn m call answer after
   pub bytes_are : done.0 ≡ spelling answer
-  pub closes_is : call.header.kind ≡ 0 → done.1 ≡ closes call
+  pub closes_is : call.header.kind ≡ CALL → done.1 ≡ closes call
 
 -- a fault of the sink comes only where its count rose
 pub record HasSinkCause {T : Type 0} (before now : ℕ) (result : Result T Stop) : Type 0 where
@@ -51,7 +52,7 @@ abbrev pub StopsOne : Definitions → Packet → Option (List ℕ) → Option (L
 StopsOne m p held wrote after why = (extra : List ℕ) × StopsAt m p extra why after × Appends held wrote extra
 
 -- a front of the packets was answered, and none of them closes the session
-pub record Serves (m : Definitions) (ready left : List Packet) (held wrote : Option (List ℕ)) (after : Definitions) : Type 0 where
+pub record ServesFront (m : Definitions) (ready left : List Packet) (held wrote : Option (List ℕ)) (after : Definitions) : Type 0 where
   pub served : List Packet
   pub messages : List Packet
   pub parts : ready ≡ served ++ left
@@ -71,7 +72,7 @@ pub record Closes (m : Definitions) (ready : List Packet) (held wrote : Option (
 
 -- all packets were answered, or those up to a close
 abbrev pub Flows : Definitions → List Packet → List Packet → Option (List ℕ) → Option (List ℕ) → Definitions → Flow → Type 0
-Flows m ready left held wrote after flow.On = Serves m ready [] held wrote after × (left ≡ [])
+Flows m ready left held wrote after flow.On = ServesFront m ready [] held wrote after × (left ≡ [])
 Flows m ready left held wrote after flow.Closed = Closes m ready held wrote after
 
 -- a front of the packets was answered, and the next one was not, or in part
@@ -88,7 +89,7 @@ pub record Stopped (m : Definitions) (ready : List Packet) (held wrote : Option 
   pub written : Appends held wrote (text messages ++ extra)
   pub stops : StopsAt then next extra why after
 
--- all whole packets of the bytes were answered, none closes the session, and no fault stands behind them
+-- all whole packets of the bytes were answered, none closes the session, and no fault stands after them
 pub record PieceDone (m : Definitions) (bytes after : List ℕ) (held wrote : Option (List ℕ)) (then : Definitions) : Type 0 where
   pub packets : List Packet
   pub messages : List Packet

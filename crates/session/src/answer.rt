@@ -1,29 +1,28 @@
 // What is said to a call.
-ghost use Rattle.std.specs.Prelude.{◌≡◌, IfOk, IfSome, OnErr, Ok, Err, None, false};
+ghost use Rattle.std.specs.Prelude.{◌≡◌, IfOk, IfSome, OnErr, OnOk, Ok, Err, None, false};
 ghost use Rattle.procedure_spec.specs.Arguments.{HasArguments, HasDomainArguments};
 ghost use Rattle.procedure_spec.specs.Calls.{IsCall, call_of};
 ghost use Rattle.procedure_spec.specs.Results.{domain_result, result_shape};
-ghost use Rattle.session_spec.specs.Definitions.{IsKept};
 ghost use Rattle.session_spec.specs.Replies.{asks_to_close, reply_packet};
 ghost use Rattle.session_spec.specs.Served.{Serves, ServesDomain};
 ghost use Rattle.session.specs.Left.{left};
-ghost use Rattle.session.specs.Plans.{IsPlan, IsSayable, IsShort, put_of};
-ghost use Rattle.session.specs.Said.{reply_of};
+ghost use Rattle.session.specs.Plans.{IsPlan, IsPutInto, IsSayable, IsShort, put_of};
 ghost use Rattle.session.specs.Steps.{IsDone};
 ghost use Rattle.virt_types.specs.declared.value.Reply.TheVariants as reply;
-ghost use Rattle.wire_spec.specs.Packets.{spelling};
+ghost use Rattle.wire_spec.specs.Packets.{IsPacket, spelling};
 
 use crate::define::plan_define;
 use crate::lookup::{by_name, by_uuid, describe, list};
 use crate::map::PlainMap;
 use crate::plan::{Plan, keep};
 use crate::refuse::unread;
-use crate::said::Said;
+use crate::session::Session;
 use packet::{Header, Packet, WriteFault};
 use remote_args::{ArgFault, read_call, write_error, write_reply};
 use std::alloc::Global;
 use virt_types::{
-    Bytes, DomainRequest, DomainTarget, NoMemory, OrNoMemory, Random, Refusal, Request, Value,
+    Bytes, DomainRequest, DomainTarget, NoMemory, OrNoMemory, Random, Refusal, Reply, Request,
+    Value,
 };
 
 /// What is asked of one domain.
@@ -32,10 +31,10 @@ fn serve_domain(
     map: &PlainMap,
     domain: &DomainTarget,
     asked: &DomainRequest,
-) -> Result<Said, NoMemory>
+) -> Result<Reply, NoMemory>
     requires { HasDomainArguments domain.now asked.now }
-    ensures serves { IfOk result (λ said. ServesDomain map.now domain.now.uuid asked.now (reply_of said)) }
-    ensures short { IfOk result (λ said. IsShort (domain_result asked.now) (reply_of said)) }
+    ensures serves { IfOk result (λ said. ServesDomain map.now domain.now.uuid asked.now said) }
+    ensures short { IfOk result (λ said. IsShort (domain_result asked.now) said) }
 {
     match asked {
         DomainRequest::GetXmlDesc { .. } => describe(alloc, map, &domain.uuid),
@@ -44,7 +43,7 @@ fn serve_domain(
 }
 
 /// The plan that leaves the map as it is.
-fn only_said(said: Result<Said, NoMemory>) -> Result<Plan, NoMemory>
+fn only_said(said: Result<Reply, NoMemory>) -> Result<Plan, NoMemory>
     ensures said { IfOk result (λ plan. said ≡ Ok plan.said) }
     ensures put { IfOk result (λ plan. plan.put ≡ None) }
     ensures goes_on { IfOk result (λ plan. plan.closes ≡ false) }
@@ -63,15 +62,15 @@ fn plan_request<R: Random>(
     asked: &Request,
 ) -> Result<Plan, NoMemory>
     requires { HasArguments asked.now }
-    ensures serves { IfOk result (λ plan. Serves map.now asked.now (reply_of plan.said) (left map.now (put_of plan))) }
-    ensures short { IfOk result (λ plan. IsShort (result_shape asked.now) (reply_of plan.said)) }
+    ensures serves { IfOk result (λ plan. Serves map.now asked.now plan.said (left map.now (put_of plan))) }
+    ensures short { IfOk result (λ plan. IsShort (result_shape asked.now) plan.said) }
     ensures closes { IfOk result (λ plan. plan.closes ≡ asks_to_close (Ok asked.now)) }
-    ensures kept { IfOk result (λ plan. IfSome (put_of plan) IsKept) }
+    ensures kept { IfOk result (λ plan. IfSome (put_of plan) (IsPutInto map.now)) }
 {
     match asked {
-        Request::ConnectOpen { .. } => Ok(Plan::of(Said::Done)),
+        Request::ConnectOpen { .. } => Ok(Plan::of(Reply::Ok(Value::Nothing))),
         Request::ConnectClose => Ok(Plan {
-            said: Said::Done,
+            said: Reply::Ok(Value::Nothing),
             put: None,
             closes: true,
         }),
@@ -96,7 +95,7 @@ fn plan_refusal(
     ensures plan { IfOk result (IsPlan map.now call.now (Err fault)) }
     ensures put { IfOk result (λ plan. plan.put ≡ None) }
 {
-    Ok(Plan::of(Said::No(unread(alloc, call, fault)?)))
+    Ok(Plan::of(Reply::No(unread(alloc, call, fault)?)))
 }
 
 /// The plan for a call that asks for this.
@@ -110,7 +109,7 @@ fn plan_asked<R: Random>(
     requires found { IsCall call.now.header call.now.payload asked.now }
     requires read { call_of call.now.header call.now.payload ≡ Ok asked.now }
     ensures plan { IfOk result (IsPlan map.now call.now.header (call_of call.now.header call.now.payload)) }
-    ensures kept { IfOk result (λ plan. IfSome (put_of plan) IsKept) }
+    ensures kept { IfOk result (λ plan. IfSome (put_of plan) (IsPutInto map.now)) }
 {
     let plan = plan_request(alloc, map, random, asked)?;
     Ok(plan)
@@ -124,7 +123,7 @@ fn plan_call<R: Random>(
     call: &Packet,
 ) -> Result<Plan, NoMemory>
     ensures plan { IfOk result (IsPlan map.now call.now.header (call_of call.now.header call.now.payload)) }
-    ensures kept { IfOk result (λ plan. IfSome (put_of plan) IsKept) }
+    ensures kept { IfOk result (λ plan. IfSome (put_of plan) (IsPutInto map.now)) }
 {
     match read_call(alloc, &call.header, call.payload.as_slice()) {
         Ok(asked) => plan_asked(alloc, map, random, call, &asked),
@@ -136,7 +135,8 @@ fn plan_call<R: Random>(
 /// The reply with this value: far from the longest packet.
 fn write_value(alloc: Global, call: &Header, value: &Value) -> Result<Bytes, NoMemory>
     requires { IsSayable call.now (reply.Ok value.now) }
-    ensures { IfOk result (λ bytes. bytes ≡ spelling (reply_packet call.now (reply.Ok value.now))) }
+    ensures bytes { IfOk result (λ bytes. bytes ≡ spelling (reply_packet call.now (reply.Ok value.now))) }
+    ensures whole { OnOk result (IsPacket (reply_packet call.now (reply.Ok value.now))) }
 {
     match write_reply(alloc, call, value) {
         Ok(bytes) => Ok(bytes),
@@ -145,11 +145,12 @@ fn write_value(alloc: Global, call: &Header, value: &Value) -> Result<Bytes, NoM
     }
 }
 
-/// The reply that tells this refusal.
+/// The reply with this refusal.
 #[tactic(auto, using(crate::proofs::Fits::refusal_short))]
 fn write_refusal(alloc: Global, call: &Header, why: &Refusal) -> Result<Bytes, NoMemory>
     requires { IsSayable call.now (reply.No why.now) }
-    ensures { IfOk result (λ bytes. bytes ≡ spelling (reply_packet call.now (reply.No why.now))) }
+    ensures bytes { IfOk result (λ bytes. bytes ≡ spelling (reply_packet call.now (reply.No why.now))) }
+    ensures whole { OnOk result (IsPacket (reply_packet call.now (reply.No why.now))) }
 {
     match write_error(alloc, call, why) {
         Ok(bytes) => Ok(bytes),
@@ -159,31 +160,27 @@ fn write_refusal(alloc: Global, call: &Header, why: &Refusal) -> Result<Bytes, N
 }
 
 /// The reply as bytes.
-fn write(alloc: Global, call: &Header, said: Said) -> Result<Bytes, NoMemory>
-    requires { IsSayable call.now (reply_of said) }
-    ensures { IfOk result (λ bytes. bytes ≡ spelling (reply_packet call.now (reply_of said))) }
+fn write(alloc: Global, call: &Header, said: &Reply) -> Result<Bytes, NoMemory>
+    requires { IsSayable call.now said.now }
+    ensures bytes { IfOk result (λ bytes. bytes ≡ spelling (reply_packet call.now said.now)) }
+    ensures whole { OnOk result (IsPacket (reply_packet call.now said.now)) }
 {
     match said {
-        Said::Done => write_value(alloc, call, &Value::Nothing),
-        Said::Domain(domain) => write_value(alloc, call, &Value::Domain(domain)),
-        Said::Text(text) => write_value(alloc, call, &Value::Text(text)),
-        Said::Names(names) => write_value(alloc, call, &Value::Names(names)),
-        Said::No(why) => write_refusal(alloc, call, &why),
+        Reply::Ok(value) => write_value(alloc, call, value),
+        Reply::No(why) => write_refusal(alloc, call, why),
     }
 }
 
-/// Does a call, once the bytes of its reply are there, and says whether it closes the session.
-pub(crate) fn answer<R: Random>(
-    alloc: Global,
-    map: &mut PlainMap,
-    random: &mut R,
-    call: &Packet,
-) -> Result<(Bytes, bool), NoMemory>
-    ensures done { IfOk result (IsDone map.old call.now map.new) }
-    ensures err { OnErr result (map.new ≡ map.old) }
-{
-    let Plan { said, put, closes } = plan_call(alloc, map, random, call)?;
-    let bytes = write(alloc, &call.header, said)?;
-    keep(map, put)?;
-    Ok((bytes, closes))
+impl<K, R: Random> Session<K, R> {
+    /// Does a call, once the bytes of its reply are there, and says whether it closes the session.
+    pub(crate) fn answer(&mut self, call: &Packet) -> Result<(Bytes, bool), NoMemory>
+        ensures done { IfOk result (IsDone self.old.map call.now self.new.map) }
+        ensures err { OnErr result (self.new.map ≡ self.old.map) }
+        ensures sink { self.new.sink ≡ self.old.sink }
+    {
+        let Plan { said, put, closes } = plan_call(self.alloc, &self.map, &mut self.random, call)?;
+        let bytes = write(self.alloc, &call.header, &said)?;
+        keep(&mut self.map, put)?;
+        Ok((bytes, closes))
+    }
 }

@@ -1,34 +1,33 @@
 // DOMAIN_DEFINE_XML.
 ghost use Rattle.std.specs.Prelude.{◌≡◌, ◌≤◌, ℕ, IfOk, IfSome, List, Ok, length, false};
-ghost use Rattle.procedure_spec.specs.Calls.{Finds};
-ghost use Rattle.session_spec.specs.Defining.{Defines, Puts, clash as clash_of, definition_in, full as full_of, other_identifier, other_name as other_name_of, refused_put};
-ghost use Rattle.session_spec.specs.Definitions.{IsKept, identified, named, text_of};
+ghost use Rattle.virt_types.specs.Memory.{UnlessNoMemory};
+ghost use Rattle.session_spec.specs.Defining.{Defines, Puts, clash as clash_of, full as full_of, other_identifier, other_name as other_name_of, refused_put};
+ghost use Rattle.session_spec.specs.Definitions.{IsKept, identified, named};
 ghost use Rattle.text_spec.specs.Fill.{IsFilled};
 ghost use Rattle.text_spec.specs.Text.{most_bytes};
 ghost use Rattle.session_spec.specs.Refused.{at_place};
 ghost use Rattle.procedure_spec.specs.declared.procedure.ResultShape.TheVariants as shape;
 ghost use Rattle.session.specs.Left.{left};
+ghost use Rattle.virt_types.specs.Limits.{most_kept_bytes};
 ghost use Rattle.virt_types.specs.Name.{IsName};
 ghost use Rattle.virt_types.specs.declared.domain_def.DomainDef.{DomainDef as Definition};
-ghost use Rattle.session.specs.Plans.{IsShort, put_of};
-ghost use Rattle.session.specs.Said.{reply_of};
+ghost use Rattle.session.specs.Plans.{IsPutInto, IsShort, put_of};
+ghost use Rattle.session_spec.specs.DefinitionText.{definition_in, text_of};
 
 use crate::lookup::reference;
 use crate::map::PlainMap;
 use crate::plan::Plan;
 use crate::refuse::refuse;
-use crate::said::Said;
 use definition_fill::fill_domain;
 use domain_xml::{read, what_is_read_fits};
 use markup::read_tree;
+use session_spec::MOST_DEFINITIONS;
 use std::alloc::Global;
-use text_laws::filled_domain_fits;
+use text_laws::{filled_domain_fits, read_domain_reads_back};
 use virt_types::{
-    DomainDef, NoMemory, OrNoMemory, Random, Refusal, RefusalCode, Text, TryCopy, Uuid,
+    DomainDef, NoMemory, OrNoMemory, Random, Refusal, RefusalCode, Reply, Text, TryCopy, Uuid,
+    Value,
 };
-
-/// The most domains.
-const MOST_DOMAINS: usize = 64;
 
 fn at_text(alloc: Global, at: u64) -> Result<Text, NoMemory>
     ensures { IfOk result (λ kept. kept ≡ at_place at) }
@@ -38,7 +37,7 @@ fn at_text(alloc: Global, at: u64) -> Result<Text, NoMemory>
 
 /// The definition that a text is, or what the refusal keeps.
 fn read_definition(alloc: Global, text: &[u8]) -> Result<DomainDef, OrNoMemory<Text>>
-    ensures { Finds result (definition_in text.now) }
+    ensures { UnlessNoMemory result (definition_in text.now) }
 {
     match read_tree(alloc, text) {
         Ok(tree) => match read(alloc, &tree) {
@@ -107,9 +106,9 @@ fn clash(
 /// Why there is no room for one more.
 fn full(alloc: Global, map: &PlainMap, uuid: &Uuid) -> Result<Option<Refusal>, NoMemory>
     ensures why { IfOk result (λ why. why ≡ full_of (length map.now) (identified uuid.now map.now)) }
-    ensures short { IfOk result (λ why. IfSome why (λ why. length why.kept ≤ 1024)) }
+    ensures short { IfOk result (λ why. IfSome why (λ why. length why.kept ≤ most_kept_bytes)) }
 {
-    if map.identified(uuid).is_some() || map.len() < MOST_DOMAINS {
+    if map.identified(uuid).is_some() || map.len() < MOST_DEFINITIONS {
         return Ok(None);
     }
     Ok(Some(refuse(alloc, RefusalCode::ListFull, "64")?))
@@ -124,7 +123,7 @@ fn refuse_put(
     def: &DomainDef,
 ) -> Result<Option<Refusal>, NoMemory>
     ensures why { IfOk result (λ why. why ≡ refused_put map.now (uuid.now, def.now)) }
-    ensures short { IfOk result (λ why. IfSome why (λ why. length why.kept ≤ 1024)) }
+    ensures short { IfOk result (λ why. IfSome why (λ why. length why.kept ≤ most_kept_bytes)) }
 {
     match clash(alloc, map, uuid, def)? {
         Some(kept) => Ok(Some(refuse(alloc, RefusalCode::DomainExists, kept.as_str())?)),
@@ -135,15 +134,16 @@ fn refuse_put(
 /// What a define of this filled definition is to leave.
 fn plan_put(alloc: Global, map: &PlainMap, uuid: Uuid, def: DomainDef) -> Result<Plan, NoMemory>
     requires { IsKept (uuid, def) }
-    ensures puts { IfOk result (λ plan. Puts map.now (uuid, def) (refused_put map.now (uuid, def)) (reply_of plan.said) (left map.now (put_of plan))) }
-    ensures kept { IfOk result (λ plan. IfSome (put_of plan) IsKept) }
-    ensures short { IfOk result (λ plan. IsShort shape.Domain (reply_of plan.said)) }
+    ensures puts { IfOk result (λ plan. Puts map.now (uuid, def) (refused_put map.now (uuid, def)) plan.said (left map.now (put_of plan))) }
+    ensures put { IfOk result (λ plan. IfSome (put_of plan) (IsPutInto map.now)) }
+    ensures short { IfOk result (λ plan. IsShort shape.Domain plan.said) }
     ensures goes_on { IfOk result (λ plan. plan.closes ≡ false) }
 {
+    map.is_kept();
     match refuse_put(alloc, map, &uuid, &def)? {
-        Some(why) => Ok(Plan::of(Said::No(why))),
+        Some(why) => Ok(Plan::of(Reply::No(why))),
         None => Ok(Plan {
-            said: Said::Domain(reference(uuid, &def)?),
+            said: Reply::Ok(Value::Domain(reference(uuid, &def)?)),
             put: Some(Box::new(alloc, (uuid, def))?),
             closes: false,
         }),
@@ -166,13 +166,24 @@ fn is_entry(uuid: &Uuid, def: &DomainDef)
     let _name = def.name.as_bytes();
 }
 
-/// What a text is read as is told, once it is filled in, by a text that is not too long to be read.
-fn filled_is_told()
-    ensures { (text : List ℕ) → (read filled : Definition) → definition_in text ≡ Ok read → IsFilled read filled
+/// The definition with all that it lacked, of whichever words are drawn.
+fn filled<R: Random>(alloc: Global, read: DomainDef, random: &mut R) -> DomainDef
+    ensures { IsFilled read result }
+{
+    fill_domain(alloc, read, random)
+}
+
+/// What a text is read as has, once it is filled in, a text that is not too long to be read, and that
+/// reads back.
+fn filled_reads_back()
+    ensures short { (text : List ℕ) → (read filled : Definition) → definition_in text ≡ Ok read → IsFilled read filled
         → length (text_of filled) ≤ most_bytes }
+    ensures back { (text : List ℕ) → (read filled : Definition) → definition_in text ≡ Ok read → IsFilled read filled
+        → definition_in (text_of filled) ≡ Ok filled }
 {
     what_is_read_fits();
     filled_domain_fits();
+    read_domain_reads_back();
 }
 
 /// DOMAIN_DEFINE_XML of this text.
@@ -182,15 +193,15 @@ pub(crate) fn plan_define<R: Random>(
     random: &mut R,
     text: &[u8],
 ) -> Result<Plan, NoMemory>
-    ensures defines { IfOk result (λ plan. Defines map.now (definition_in text.now) (reply_of plan.said) (left map.now (put_of plan))) }
-    ensures kept { IfOk result (λ plan. IfSome (put_of plan) IsKept) }
-    ensures short { IfOk result (λ plan. IsShort shape.Domain (reply_of plan.said)) }
+    ensures defines { IfOk result (λ plan. Defines map.now (definition_in text.now) plan.said (left map.now (put_of plan))) }
+    ensures put { IfOk result (λ plan. IfSome (put_of plan) (IsPutInto map.now)) }
+    ensures short { IfOk result (λ plan. IsShort shape.Domain plan.said) }
     ensures goes_on { IfOk result (λ plan. plan.closes ≡ false) }
 {
     match read_definition(alloc, text) {
         Ok(read) => {
-            let def = fill_domain(alloc, read, random);
-            filled_is_told();
+            let def = filled(alloc, read, random);
+            filled_reads_back();
             match def.uuid {
                 Some(uuid) => {
                     is_entry(&uuid, &def);
@@ -199,7 +210,7 @@ pub(crate) fn plan_define<R: Random>(
                 None => unreachable!(),
             }
         }
-        Err(OrNoMemory::Fault(kept)) => Ok(Plan::of(Said::No(refuse(
+        Err(OrNoMemory::Fault(kept)) => Ok(Plan::of(Reply::No(refuse(
             alloc,
             RefusalCode::BadDefinition,
             kept.as_str(),

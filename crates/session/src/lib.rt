@@ -9,10 +9,10 @@ mod plan;
 mod put;
 mod refuse;
 mod rising;
-mod said;
 mod say;
 mod serve;
+mod session;
 
 pub use map::PlainMap;
-pub use serve::serve_plain;
+pub use session::Session;
 pub use session_spec::End;

@@ -1,21 +1,23 @@
 // The map of definitions that a session serves.
-ghost use Rattle.std.specs.Prelude.{◌≡◌, [], IfOk, IfSome, OnOk, OnErr, length};
+ghost use Rattle.std.specs.Prelude.{◌≡◌, [], IfOk, IfSome, Ok, OnOk, OnErr, length};
 ghost use Rattle.std.specs.Option.{option_copied, option_map};
-ghost use Rattle.session_spec.specs.Definitions.{AreKept, IsKept, identified, named, names_of, with_definition};
+ghost use Rattle.session_spec.specs.DefinitionText.{definition_in, text_of};
+ghost use Rattle.session_spec.specs.Definitions.{AreKept, IsKept, IsOnlyNamed, identified, named, names_of, with_definition};
 
 use std::alloc::Global;
 use std::collections::BTreeMap;
 use std::marker::Model;
 use virt_types::{DomainDef, Name, NoMemory, TryCopy, Uuid};
 
-/// Definitions of domains under their identifiers, which contracts see as the list of both by rising
-/// identifier. Each of the definitions is told by a text of at most 65,536 bytes.
+/// Definitions of domains under their own identifiers, which contracts see as the list of both by
+/// rising identifier. Names differ, and the text of each definition reads back as that definition.
 #[derive(Drop)]
 pub struct PlainMap {
     defs: BTreeMap<[u8; 16], DomainDef>,
 }
 
 impl Model for PlainMap {
+    ghost use Rattle.session_spec.specs.DefinitionText.{definition_in, text_of};
     ghost use Rattle.session_spec.specs.Definitions.{AreKept, Definitions};
 
     ghost Value = { Definitions };
@@ -35,6 +37,13 @@ impl PlainMap {
         }
     }
 
+    /// Each is kept as definitions are.
+    pub(crate) fn is_kept(&self)
+        ensures { AreKept self.now }
+    {
+        let _defs = &self.defs;
+    }
+
     /// How many there are.
     pub fn len(&self) -> usize
         ensures count { result ≡ length self.now }
@@ -46,6 +55,7 @@ impl PlainMap {
     /// The definition with this identifier.
     pub fn identified(&self, uuid: &Uuid) -> Option<&DomainDef>
         ensures value { option_copied result ≡ identified uuid.now self.now }
+        ensures reads_back { IfSome result (λ def. definition_in (text_of def.now) ≡ Ok def.now) }
         ensures kept { AreKept self.now }
     {
         self.defs.get(uuid.as_bytes())
@@ -78,7 +88,8 @@ impl PlainMap {
 
     /// Puts a definition under this identifier, in place of the one that was there.
     pub fn put(&mut self, uuid: Uuid, def: DomainDef) -> Result<(), NoMemory>
-        requires { IsKept (uuid, def) }
+        requires kept { IsKept (uuid, def) }
+        requires only { IsOnlyNamed uuid def.name self.old }
         ensures ok { OnOk result (self.new ≡ with_definition self.old (uuid, def)) }
         ensures err { OnErr result (self.new ≡ self.old) }
     {

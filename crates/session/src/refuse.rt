@@ -2,6 +2,7 @@
 ghost use Rattle.std.specs.Prelude.{◌≡◌, ◌≤◌, IfOk, length};
 ghost use Rattle.session_spec.specs.Refused.{at_place, not_served as why_not_served, place, refusal, unread as refusal_of};
 ghost use Rattle.procedure_spec.specs.Procedures.{row_of};
+ghost use Rattle.virt_types.specs.Limits.{most_kept_bytes};
 
 use packet::Header;
 use procedure_spec::find;
@@ -14,7 +15,7 @@ use wire_spec::XdrFault;
 #[tactic(auto, using(crate::proofs::Fits::cut_short))]
 pub(crate) fn refuse(alloc: Global, code: RefusalCode, kept: &str) -> Result<Refusal, NoMemory>
     ensures why { IfOk result (λ why. why ≡ refusal code kept.now) }
-    ensures short { IfOk result (λ why. length why.kept ≤ 1024) }
+    ensures short { IfOk result (λ why. length why.kept ≤ most_kept_bytes) }
 {
     Refusal::new(alloc, code, kept)
 }
@@ -36,7 +37,7 @@ fn place_of(fault: XdrFault) -> u64
 /// The refusal of this code that keeps a place.
 pub(crate) fn refuse_at(alloc: Global, code: RefusalCode, at: u64) -> Result<Refusal, NoMemory>
     ensures why { IfOk result (λ why. why ≡ refusal code (at_place at)) }
-    ensures short { IfOk result (λ why. length why.kept ≤ 1024) }
+    ensures short { IfOk result (λ why. length why.kept ≤ most_kept_bytes) }
 {
     let kept = format!(in alloc; "at {at}")?;
     refuse(alloc, code, kept.as_str())
@@ -54,7 +55,7 @@ fn not_served(call: &Header) -> RefusalCode
 
 fn refuse_procedure(alloc: Global, call: &Header) -> Result<Refusal, NoMemory>
     ensures why { IfOk result (λ why. why ≡ refusal_of call.now ArgFault.Procedure) }
-    ensures short { IfOk result (λ why. length why.kept ≤ 1024) }
+    ensures short { IfOk result (λ why. length why.kept ≤ most_kept_bytes) }
 {
     let number = call.procedure.to_string(alloc)?;
     refuse(alloc, not_served(call), number.as_str())
@@ -63,7 +64,7 @@ fn refuse_procedure(alloc: Global, call: &Header) -> Result<Refusal, NoMemory>
 /// The refusal of a call that no request could be read from.
 pub(crate) fn unread(alloc: Global, call: &Header, fault: ArgFault) -> Result<Refusal, NoMemory>
     ensures why { IfOk result (λ why. why ≡ refusal_of call.now fault) }
-    ensures short { IfOk result (λ why. length why.kept ≤ 1024) }
+    ensures short { IfOk result (λ why. length why.kept ≤ most_kept_bytes) }
 {
     match fault {
         ArgFault::Program => refuse(alloc, RefusalCode::MalformedCall, "program"),

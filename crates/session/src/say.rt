@@ -1,13 +1,11 @@
 // One packet, and what is said to it.
-ghost use Rattle.std.specs.Prelude.{◌≡◌, ◌<◌, ℕ, take, length, OnOk, IfOk, IfErr};
-ghost use Rattle.outside_spec.specs.Faults.{HasCause};
+ghost use Rattle.std.specs.Prelude.{◌≡◌, IfOk, IfErr};
 ghost use Rattle.session.specs.Steps.{HasSinkCause, SaysOne, StopsOne};
+ghost use Rattle.wire_spec.specs.declared.message.TheConstants.{CALL};
 
-use crate::answer::answer;
-use crate::map::PlainMap;
 use crate::put::put_all;
-use packet::{Packet, Sink};
-use std::alloc::Global;
+use crate::session::Session;
+use packet::{CALL, Packet, Sink};
 use virt_types::{Failed, NoMemory, Random};
 
 /// Whether the session goes on.
@@ -24,47 +22,34 @@ pub(crate) enum Stop {
     NoMemory,
 }
 
-/// The kind of a call.
-const CALL: u32 = 0;
-
-/// Answers a call.
-fn say_to_call<K: Sink, R: Random>(
-    alloc: Global,
-    map: &mut PlainMap,
-    random: &mut R,
-    call: &Packet,
-    sink: &mut K,
-) -> Result<Flow, Stop>
-    requires { call.now.header.kind ≡ 0 }
-    ensures ok { IfOk result (SaysOne map.old call.now (K.held sink.old) (K.held sink.new) map.new) }
-    ensures err { IfErr result (StopsOne map.old call.now (K.held sink.old) (K.held sink.new) map.new) }
-    ensures cause { HasSinkCause (K.faults sink.old) (K.faults sink.new) result }
-{
-    match answer(alloc, map, random, call) {
-        Ok((bytes, closes)) => match put_all(sink, bytes.as_slice()) {
-            Ok(()) if closes => Ok(Flow::Closed),
-            Ok(()) => Ok(Flow::On),
-            Err(Failed) => Err(Stop::SinkFault),
-        },
-        Err(NoMemory) => Err(Stop::NoMemory),
+impl<K: Sink, R: Random> Session<K, R> {
+    /// Answers a call.
+    fn say_to_call(&mut self, call: &Packet) -> Result<Flow, Stop>
+        requires { call.now.header.kind ≡ CALL }
+        ensures ok { IfOk result (SaysOne self.old.map call.now (K.held self.old.sink) (K.held self.new.sink) self.new.map) }
+        ensures err { IfErr result (StopsOne self.old.map call.now (K.held self.old.sink) (K.held self.new.sink) self.new.map) }
+        ensures cause { HasSinkCause (K.faults self.old.sink) (K.faults self.new.sink) result }
+    {
+        match self.answer(call) {
+            Ok((bytes, closes)) => match put_all(&mut self.sink, bytes.as_slice()) {
+                Ok(()) if closes => Ok(Flow::Closed),
+                Ok(()) => Ok(Flow::On),
+                Err(Failed) => Err(Stop::SinkFault),
+            },
+            Err(NoMemory) => Err(Stop::NoMemory),
+        }
     }
-}
 
-/// Says to a packet what is to be said to it: a reply to a call, and nothing to any other.
-pub(crate) fn say<K: Sink, R: Random>(
-    alloc: Global,
-    map: &mut PlainMap,
-    random: &mut R,
-    packet: &Packet,
-    sink: &mut K,
-) -> Result<Flow, Stop>
-    ensures ok { IfOk result (SaysOne map.old packet.now (K.held sink.old) (K.held sink.new) map.new) }
-    ensures err { IfErr result (StopsOne map.old packet.now (K.held sink.old) (K.held sink.new) map.new) }
-    ensures cause { HasSinkCause (K.faults sink.old) (K.faults sink.new) result }
-{
-    if packet.header.kind == CALL {
-        say_to_call(alloc, map, random, packet, sink)
-    } else {
-        Ok(Flow::On)
+    /// Says to a packet what is to be said to it: a reply to a call, and nothing to any other.
+    pub(crate) fn say(&mut self, packet: &Packet) -> Result<Flow, Stop>
+        ensures ok { IfOk result (SaysOne self.old.map packet.now (K.held self.old.sink) (K.held self.new.sink) self.new.map) }
+        ensures err { IfErr result (StopsOne self.old.map packet.now (K.held self.old.sink) (K.held self.new.sink) self.new.map) }
+        ensures cause { HasSinkCause (K.faults self.old.sink) (K.faults self.new.sink) result }
+    {
+        if packet.header.kind == CALL {
+            self.say_to_call(packet)
+        } else {
+            Ok(Flow::On)
+        }
     }
 }

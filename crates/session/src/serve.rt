@@ -8,11 +8,10 @@ ghost use Rattle.wire_spec.specs.Packets.{fault};
 ghost use Rattle.session_spec.specs.Course.{Course, IsServedWhole, IsWhole};
 ghost use Rattle.session.specs.Steps.{Flows, HasSinkCause, PieceDone, PieceEnds, Stopped, end_at};
 
-use crate::map::PlainMap;
-use crate::say::{Flow, Stop, say};
+use crate::say::{Flow, Stop};
+use crate::session::Session;
 use packet::{BadPacket, Feed, Sink, Source};
 use session_spec::End;
-use std::alloc::Global;
 use virt_types::{Failed, NoMemory, OrNoMemory, Random};
 
 /// The most bytes that are taken of one source.
@@ -20,31 +19,6 @@ const MOST: u64 = 1 << 62;
 
 /// The most bytes that are taken of it at once.
 const PIECE: usize = 8192;
-
-/// Answers the packets that are ready, in order, and none behind one that closes the session.
-fn serve_ready<K: Sink, R: Random>(
-    alloc: Global,
-    map: &mut PlainMap,
-    random: &mut R,
-    feed: &mut Feed,
-    sink: &mut K,
-) -> Result<Flow, Stop>
-    ensures ok { IfOk result (Flows map.old feed.old.ready feed.new.ready
-        (K.held sink.old) (K.held sink.new) map.new) }
-    ensures rest { feed.new.rest ≡ feed.old.rest }
-    ensures err { IfErr result (Stopped map.old feed.old.ready
-        (K.held sink.old) (K.held sink.new) map.new) }
-    ensures cause { HasSinkCause (K.faults sink.old) (K.faults sink.new) result }
-{
-    while let Some(packet) = feed.next() {
-        match say(alloc, map, random, &packet, sink) {
-            Ok(Flow::On) => {}
-            Ok(Flow::Closed) => return Ok(Flow::Closed),
-            Err(stop) => return Err(stop),
-        }
-    }
-    Ok(Flow::On)
-}
 
 /// Feeds a piece to a feed that has found no fault so far, and says whether it finds one now.
 fn take_in(feed: &mut Feed, piece: &[u8]) -> Result<Option<BadPacket>, NoMemory>
@@ -57,62 +31,6 @@ fn take_in(feed: &mut Feed, piece: &[u8]) -> Result<Option<BadPacket>, NoMemory>
         Ok(()) => Ok(None),
         Err(OrNoMemory::Fault(bad)) => Ok(Some(bad)),
         Err(OrNoMemory::NoMemory) => Err(NoMemory),
-    }
-}
-
-/// Answers the packets that are ready. The bytes behind them have this fault.
-fn serve_taken<K: Sink, R: Random>(
-    alloc: Global,
-    map: &mut PlainMap,
-    random: &mut R,
-    feed: &mut Feed,
-    bad: Option<BadPacket>,
-    sink: &mut K,
-) -> Option<End>
-    requires split { IsSplit feed.old }
-    requires bad { bad ≡ fault feed.old.rest }
-    ensures none { IfNone result (PieceDone map.old (bytes_of feed.old) feed.new.rest
-        (K.held sink.old) (K.held sink.new) map.new) }
-    ensures ready { IfNone result (feed.new.ready ≡ []) }
-    ensures some { IfSome result (PieceEnds map.old (bytes_of feed.old)
-        (K.held sink.old) (K.held sink.new) map.new) }
-    ensures later { K.faults sink.old ≤ K.faults sink.new }
-    ensures cause { result ≡ Some End.SinkFault → Rose (K.faults sink.old) (K.faults sink.new) }
-{
-    match serve_ready(alloc, map, random, feed, sink) {
-        Ok(Flow::On) => match bad {
-            Some(bad) => Some(End::BadPacket(bad)),
-            None => None,
-        },
-        Ok(Flow::Closed) => Some(End::Closed),
-        Err(Stop::SinkFault) => Some(End::SinkFault),
-        Err(Stop::NoMemory) => Some(End::NoMemory),
-    }
-}
-
-/// Takes a piece in, and answers the packets that are whole now. Where it gives an end the session
-/// is over.
-fn serve_piece<K: Sink, R: Random>(
-    alloc: Global,
-    map: &mut PlainMap,
-    random: &mut R,
-    feed: &mut Feed,
-    piece: &[u8],
-    sink: &mut K,
-) -> Option<End>
-    requires ready { feed.old.ready ≡ [] }
-    requires sound { fault feed.old.rest ≡ None }
-    ensures none { IfNone result (PieceDone map.old (feed.old.rest ++ piece.now) feed.new.rest
-        (K.held sink.old) (K.held sink.new) map.new) }
-    ensures ready { IfNone result (feed.new.ready ≡ []) }
-    ensures some { IfSome result (PieceEnds map.old (feed.old.rest ++ piece.now)
-        (K.held sink.old) (K.held sink.new) map.new) }
-    ensures later { K.faults sink.old ≤ K.faults sink.new }
-    ensures cause { result ≡ Some End.SinkFault → Rose (K.faults sink.old) (K.faults sink.new) }
-{
-    match take_in(feed, piece) {
-        Ok(bad) => serve_taken(alloc, map, random, feed, bad, sink),
-        Err(NoMemory) => Some(End::NoMemory),
     }
 }
 
@@ -143,90 +61,134 @@ fn end_of(feed: &Feed) -> End
     }
 }
 
-/// Serves piece by piece until the input is over, or the session.
-fn serve_pieces<S: Source, K: Sink, R: Random>(
-    alloc: Global,
-    map: &mut PlainMap,
-    random: &mut R,
-    feed: &mut Feed,
-    source: &mut S,
-    sink: &mut K,
-) -> End
-    requires ready { feed.old.ready ≡ [] }
-    requires rest { feed.old.rest ≡ [] }
-    ensures course { Course map.old (S.left source.old) (S.left source.new)
-        (K.held sink.old) (K.held sink.new) result map.new }
-    ensures source_count { S.faults source.old ≤ S.faults source.new }
-    ensures sink_count { K.faults sink.old ≤ K.faults sink.new }
-    ensures source_fault { result ≡ End.SourceFault
-        → Rose (S.faults source.old) (S.faults source.new) }
-    ensures sink_fault { result ≡ End.SinkFault
-        → Rose (K.faults sink.old) (K.faults sink.new) }
-{
-    let mut chunk = [0u8; PIECE];
-    let mut taken = 0;
-    while taken < MOST {
-        let count = match take_within(source, &mut chunk, MOST - taken) {
-            Ok(0) => return end_of(feed),
-            Ok(count) => count,
-            Err(Failed) => return End::SourceFault,
-        };
-        match serve_piece(alloc, map, random, feed, chunk.split_at(count).0, sink) {
-            Some(end) => return end,
-            None => taken += count as u64,
+impl<K: Sink, R: Random> Session<K, R> {
+    /// Answers the packets that are ready, in order, and none after one that closes the session.
+    fn serve_ready(&mut self, feed: &mut Feed) -> Result<Flow, Stop>
+        ensures ok { IfOk result (Flows self.old.map feed.old.ready feed.new.ready
+            (K.held self.old.sink) (K.held self.new.sink) self.new.map) }
+        ensures rest { feed.new.rest ≡ feed.old.rest }
+        ensures err { IfErr result (Stopped self.old.map feed.old.ready
+            (K.held self.old.sink) (K.held self.new.sink) self.new.map) }
+        ensures cause { HasSinkCause (K.faults self.old.sink) (K.faults self.new.sink) result }
+    {
+        while let Some(packet) = feed.next() {
+            match self.say(&packet) {
+                Ok(Flow::On) => {}
+                Ok(Flow::Closed) => return Ok(Flow::Closed),
+                Err(stop) => return Err(stop),
+            }
+        }
+        Ok(Flow::On)
+    }
+
+    /// Answers the packets that are ready. The bytes after them have this fault.
+    fn serve_taken(&mut self, feed: &mut Feed, bad: Option<BadPacket>) -> Option<End>
+        requires split { IsSplit feed.old }
+        requires bad { bad ≡ fault feed.old.rest }
+        ensures none { IfNone result (PieceDone self.old.map (bytes_of feed.old) feed.new.rest
+            (K.held self.old.sink) (K.held self.new.sink) self.new.map) }
+        ensures ready { IfNone result (feed.new.ready ≡ []) }
+        ensures some { IfSome result (PieceEnds self.old.map (bytes_of feed.old)
+            (K.held self.old.sink) (K.held self.new.sink) self.new.map) }
+        ensures later { K.faults self.old.sink ≤ K.faults self.new.sink }
+        ensures cause { result ≡ Some End.SinkFault → Rose (K.faults self.old.sink) (K.faults self.new.sink) }
+    {
+        match self.serve_ready(feed) {
+            Ok(Flow::On) => match bad {
+                Some(bad) => Some(End::BadPacket(bad)),
+                None => None,
+            },
+            Ok(Flow::Closed) => Some(End::Closed),
+            Err(Stop::SinkFault) => Some(End::SinkFault),
+            Err(Stop::NoMemory) => Some(End::NoMemory),
         }
     }
-    end_of(feed)
-}
 
-/// Serves from the first byte on.
-fn serve_all<S: Source, K: Sink, R: Random>(
-    alloc: Global,
-    map: &mut PlainMap,
-    random: &mut R,
-    source: &mut S,
-    sink: &mut K,
-) -> End
-    ensures course { Course map.old (S.left source.old) (S.left source.new)
-        (K.held sink.old) (K.held sink.new) result map.new }
-    ensures source_count { S.faults source.old ≤ S.faults source.new }
-    ensures sink_count { K.faults sink.old ≤ K.faults sink.new }
-    ensures source_fault { result ≡ End.SourceFault
-        → Rose (S.faults source.old) (S.faults source.new) }
-    ensures sink_fault { result ≡ End.SinkFault
-        → Rose (K.faults sink.old) (K.faults sink.new) }
-{
-    match Feed::new(alloc) {
-        Ok(mut feed) => serve_pieces(alloc, map, random, &mut feed, source, sink),
-        Err(NoMemory) => End::NoMemory,
+    /// Takes a piece in, and answers the packets that are whole now. Where it gives an end the session
+    /// is over.
+    fn serve_piece(&mut self, feed: &mut Feed, piece: &[u8]) -> Option<End>
+        requires ready { feed.old.ready ≡ [] }
+        requires sound { fault feed.old.rest ≡ None }
+        ensures none { IfNone result (PieceDone self.old.map (feed.old.rest ++ piece.now) feed.new.rest
+            (K.held self.old.sink) (K.held self.new.sink) self.new.map) }
+        ensures ready { IfNone result (feed.new.ready ≡ []) }
+        ensures some { IfSome result (PieceEnds self.old.map (feed.old.rest ++ piece.now)
+            (K.held self.old.sink) (K.held self.new.sink) self.new.map) }
+        ensures later { K.faults self.old.sink ≤ K.faults self.new.sink }
+        ensures cause { result ≡ Some End.SinkFault → Rose (K.faults self.old.sink) (K.faults self.new.sink) }
+    {
+        match take_in(feed, piece) {
+            Ok(bad) => self.serve_taken(feed, bad),
+            Err(NoMemory) => Some(End::NoMemory),
+        }
     }
-}
 
-/// Serves the definitions of a map to whoever sends packets by the source: each call has one reply,
-/// put into the sink in the order of the calls, and changes the map as the procedures say. Every other
-/// packet is passed over. A call of CONNECT_CLOSE that was answered is the last, and after 2^62 bytes the
-/// input counts as over. Missing identifiers and addresses are drawn from `random`. It gives the sink
-/// back, and how the session ended.
-pub fn serve_plain<S: Source, K: Sink, R: Random>(
-    alloc: Global,
-    map: &mut PlainMap,
-    source: &mut S,
-    mut sink: K,
-    random: &mut R,
-) -> (K, End)
-    ensures course { Course map.old (S.left source.old) (S.left source.new)
-        (K.held sink) (K.held result.0) result.1 map.new }
-    ensures source_count { S.faults source.old ≤ S.faults source.new }
-    ensures sink_count { K.faults sink ≤ K.faults result.0 }
-    ensures source_fault { result.1 ≡ End.SourceFault
-        → Rose (S.faults source.old) (S.faults source.new) }
-    ensures sink_fault { result.1 ≡ End.SinkFault
-        → Rose (K.faults sink) (K.faults result.0) }
-    // Whole packets are served whole where nothing of the outside failed.
-    ensures complete { IsWhole (S.left source.old)
-        → ¬ Rose (S.faults source.old) (S.faults source.new)
-        → ¬ Rose (K.faults sink) (K.faults result.0) → IsServedWhole result.1 }
-{
-    let end = serve_all(alloc, map, random, source, &mut sink);
-    (sink, end)
+    /// Serves piece by piece until the input is over, or the session.
+    fn serve_pieces<S: Source>(&mut self, feed: &mut Feed, source: &mut S) -> End
+        requires ready { feed.old.ready ≡ [] }
+        requires rest { feed.old.rest ≡ [] }
+        ensures course { Course self.old.map (S.left source.old) (S.left source.new)
+            (K.held self.old.sink) (K.held self.new.sink) result self.new.map }
+        ensures source_count { S.faults source.old ≤ S.faults source.new }
+        ensures sink_count { K.faults self.old.sink ≤ K.faults self.new.sink }
+        ensures source_fault { result ≡ End.SourceFault
+            → Rose (S.faults source.old) (S.faults source.new) }
+        ensures sink_fault { result ≡ End.SinkFault
+            → Rose (K.faults self.old.sink) (K.faults self.new.sink) }
+    {
+        let mut chunk = [0u8; PIECE];
+        let mut taken = 0;
+        while taken < MOST {
+            let count = match take_within(source, &mut chunk, MOST - taken) {
+                Ok(0) => return end_of(feed),
+                Ok(count) => count,
+                Err(Failed) => return End::SourceFault,
+            };
+            match self.serve_piece(feed, chunk.split_at(count).0) {
+                Some(end) => return end,
+                None => taken += count as u64,
+            }
+        }
+        end_of(feed)
+    }
+
+    /// Serves from the first byte on.
+    fn serve_all<S: Source>(&mut self, source: &mut S) -> End
+        ensures course { Course self.old.map (S.left source.old) (S.left source.new)
+            (K.held self.old.sink) (K.held self.new.sink) result self.new.map }
+        ensures source_count { S.faults source.old ≤ S.faults source.new }
+        ensures sink_count { K.faults self.old.sink ≤ K.faults self.new.sink }
+        ensures source_fault { result ≡ End.SourceFault
+            → Rose (S.faults source.old) (S.faults source.new) }
+        ensures sink_fault { result ≡ End.SinkFault
+            → Rose (K.faults self.old.sink) (K.faults self.new.sink) }
+    {
+        match Feed::new(self.alloc) {
+            Ok(mut feed) => self.serve_pieces(&mut feed, source),
+            Err(NoMemory) => End::NoMemory,
+        }
+    }
+
+    /// Serves the definitions of its map to whoever sends packets by the source: each call has one
+    /// reply, put into the sink in the order of the calls, and changes the map as the procedures say.
+    /// Every other packet is passed over. A call of CONNECT_CLOSE that was answered is the last, and
+    /// after 2^62 bytes the input counts as over. It gives back the session, and says how it ended.
+    pub fn serve_plain<S: Source>(mut self, source: &mut S) -> (Session<K, R>, End)
+        ensures course { Course self.map (S.left source.old) (S.left source.new)
+            (K.held self.sink) (K.held result.0.sink) result.1 result.0.map }
+        ensures source_count { S.faults source.old ≤ S.faults source.new }
+        ensures sink_count { K.faults self.sink ≤ K.faults result.0.sink }
+        ensures source_fault { result.1 ≡ End.SourceFault
+            → Rose (S.faults source.old) (S.faults source.new) }
+        ensures sink_fault { result.1 ≡ End.SinkFault
+            → Rose (K.faults self.sink) (K.faults result.0.sink) }
+        // Whole packets are served whole where nothing of the outside failed, and so is a session that
+        // was closed, whatever follows.
+        ensures complete { IsWhole (S.left source.old)
+            → ¬ Rose (S.faults source.old) (S.faults source.new)
+            → ¬ Rose (K.faults self.sink) (K.faults result.0.sink) → IsServedWhole result.1 }
+    {
+        let end = self.serve_all(source);
+        (self, end)
+    }
 }

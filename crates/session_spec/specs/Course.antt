@@ -1,7 +1,7 @@
 -- The whole course of a session: the bytes it took, the replies it wrote, what its end means, and the
 -- map that it leaves.
 use Rattle.std.specs.Prelude.{◌≡◌, ℕ, ◌^◌, ◌<◌, ◌⊎◌, true, false, List, [], ◌∷◌, ◌++◌, length, take, Option, None, Some}
-use Rattle.std.specs.List.{AllByRecursion}
+use Rattle.std.specs.List.{AllByRecursion, list_any}
 use Rattle.std.specs.Io.KnownBytes.{Appends, Consumes, IsAtEnd}
 use Rattle.session_spec.specs.Definitions.{Definitions}
 use Rattle.session_spec.specs.Replies.{Answered, Answers, closes, text}
@@ -33,7 +33,7 @@ pub record IsCutReply (m : Definitions) (rest extra : List ℕ) (after : Definit
   pub front : extra ≡ take count (spelling reply)
   pub cut : count < length (spelling reply)
 
--- nothing was written behind the whole replies, and the map is as they left it
+-- nothing was written after the whole replies, and the map is as they left it
 pub record IsStill (m : Definitions) (extra : List ℕ) (after : Definitions) : Type 0 where
   pub nothing : extra ≡ []
   pub same : after ≡ m
@@ -55,8 +55,8 @@ abbrev pub HasEnd : End → List Packet → Type 0
 HasEnd Closed packets = IsClosed packets
 HasEnd _ packets = StaysOpen packets
 
--- what an end says of the bytes that are left, of those taken, of their rest behind the answered
--- packets, of what was written behind the whole replies, and of the map: after a close its rest, which
+-- what an end says of the bytes that are left, of those taken, of their rest after the answered
+-- packets, of what was written after the whole replies, and of the map: after a close its rest, which
 -- the session took with it, is not looked at
 abbrev pub Ends : Definitions → Option (List ℕ) → List ℕ → List ℕ → List ℕ → End → Definitions → Type 0
 Ends m left taken rest extra Closed after = IsStill m extra after
@@ -82,11 +82,13 @@ pub record Course (before : Definitions) (left now held wrote : Option (List ℕ
   pub has_end : HasEnd end packets
   pub ends : Ends then now (stream packets rest) rest extra end after
 
--- the bytes are told, and are whole packets, fewer than a session takes
+-- the bytes are told, fewer than a session takes: whole packets and no more, or whole packets of which
+-- one closes the session, and any bytes after them
 abbrev pub IsWhole : Option (List ℕ) → Type 0
 IsWhole None = ⊥
-IsWhole (Some bytes) = (packets : List Packet) × AllByRecursion IsPacket packets × (bytes ≡ stream packets []) × (length bytes < 2 ^ 62)
+IsWhole (Some bytes) = (packets : List Packet) × (rest : List ℕ) × AllByRecursion IsPacket packets × (bytes ≡ stream packets rest)
+    × ((rest ≡ []) ⊎ (list_any closes packets ≡ true)) × (length bytes < 2 ^ 62)
 
--- the input was served to its end, or to a close, unless memory was wanting
+-- the input was served to its end, or to a close, unless memory ran out
 abbrev pub IsServedWhole : End → Type 0
 IsServedWhole end = (end ≡ Eof) ⊎ ((end ≡ Closed) ⊎ (end ≡ NoMemory))

@@ -2,13 +2,8 @@
 use Rattle.std.specs.Prelude.{◌≡◌, ℕ, List, codes, bytes_eq, length, nat_lt, negsuc, Option, Some, None, Result, Ok, Err, if◌then◌else◌}
 use Rattle.std.specs.Option.{option_or}
 use Rattle.session_spec.specs.Definitions.{Definitions, Entry, identified, most_domains, named, with_definition}
-use Rattle.session_spec.specs.Refused.{at_place, refusal}
-use Rattle.text_spec.specs.Definition.{domain_read}
+use Rattle.session_spec.specs.Refused.{refusal}
 use Rattle.text_spec.specs.Fill.{IsFilled}
-use Rattle.text_spec.specs.Text.{read_of}
-use Rattle.text_spec.specs.Tree.{Tree}
-use Rattle.text_spec.specs.declared.definition.DefFault.{DefFault}
-use Rattle.text_spec.specs.declared.fault.TextFault.{TextFault}
 use Rattle.uuid.specs.Text.{hyphenated_text, lower}
 use Rattle.virt_types.specs.declared.domain_def.DomainDef.{DomainDef}
 use Rattle.virt_types.specs.declared.reference.DomainRef.{DomainRef}
@@ -17,19 +12,6 @@ use Rattle.virt_types.specs.declared.refusal.RefusalCode.TheVariants as code
 use Rattle.virt_types.specs.declared.value.Reply.{Reply}
 use Rattle.virt_types.specs.declared.value.Reply.TheVariants as reply
 use Rattle.virt_types.specs.declared.value.Value.TheVariants as value
-
--- the definition that a text is, or what the refusal keeps: the place where it leaves the grammar, or
--- the path of the element at which its tree is no definition
-abbrev pub of_tree : Result DomainDef DefFault → Result DomainDef (List ℕ)
-of_tree (Ok def) = Ok def
-of_tree (Err bad) = Err bad.path
-
-abbrev pub of_text : Result Tree TextFault → Result DomainDef (List ℕ)
-of_text (Ok tree) = of_tree (domain_read tree)
-of_text (Err bad) = Err (at_place bad.at)
-
-abbrev pub definition_in : List ℕ → Result DomainDef (List ℕ)
-definition_in text = of_text (read_of text)
 
 -- the identifier of another domain that has the name
 abbrev pub other_identifier : List ℕ → Option Entry → Option (List ℕ)

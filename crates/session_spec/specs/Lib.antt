@@ -1,5 +1,6 @@
 pub mod Course
 pub mod Defining
+pub mod DefinitionText
 pub mod Definitions
 pub mod Refused
 pub mod Replies

@@ -12,31 +12,33 @@ use Rattle.virt_types.specs.declared.request.Request.{Request}
 use Rattle.virt_types.specs.declared.request.Request.TheVariants as request
 use Rattle.virt_types.specs.declared.value.Reply.{Reply}
 use Rattle.virt_types.specs.declared.value.Reply.TheVariants as reply
-use Rattle.wire_spec.specs.Packets.{spelling}
+use Rattle.wire_spec.specs.Packets.{IsPacket, spelling}
 use Rattle.wire_spec.specs.declared.message.Header.{Header}
 use Rattle.wire_spec.specs.declared.message.Packet.{Packet}
+use Rattle.wire_spec.specs.declared.message.TheConstants.{CALL, ERROR, OK}
 
 -- what a call asks for over a map, as its header and payload are read: the reply, and the map after it
-abbrev pub Gives : Definitions → Header → Result Request ArgFault → Reply → Definitions → Type 0
-Gives m call (Ok asked) said after = Serves m asked said after
-Gives m call (Err bad) said after = (said ≡ reply.No (unread call bad)) × (after ≡ m)
+abbrev pub HasOutcome : Definitions → Header → Result Request ArgFault → Reply → Definitions → Type 0
+HasOutcome m call (Ok asked) said after = Serves m asked said after
+HasOutcome m call (Err bad) said after = (said ≡ reply.No (unread call bad)) × (after ≡ m)
 
--- the packet of a reply: the call's own program, version, procedure and serial; status 1 is an error
+-- the packet of a reply: the call's own program, version, procedure and serial
 abbrev pub reply_packet : Header → Reply → Packet
-reply_packet call (reply.Ok v) = record { header = reply_header call 0; payload = result v }
-reply_packet call (reply.No why) = record { header = reply_header call 1; payload = refusal_payload why }
+reply_packet call (reply.Ok v) = record { header = reply_header call OK; payload = result v }
+reply_packet call (reply.No why) = record { header = reply_header call ERROR; payload = refusal_payload why }
 
--- one call over a map: its reply is the one that the map before it gives, and the map after it is the
--- one that the call leaves
+-- one call over a map: its reply is the one that the map before it gives, and is a whole packet, and
+-- the map after it is the one that the call leaves
 pub record Turn (m : Definitions) (call answer : Packet) (after : Definitions) : Type 0 where
   pub said : Reply
-  pub gives : Gives m call.header (call_of call.header call.payload) said after
+  pub outcome : HasOutcome m call.header (call_of call.header call.payload) said after
   pub answer_is : answer ≡ reply_packet call.header said
+  pub whole : IsPacket answer
 
--- kind 0 is a call: it has one reply, and no other packet has any
+-- a call has one reply, and no other packet has any
 abbrev pub Answers : Definitions → Packet → Option Packet → Definitions → Type 0
-Answers m packet None after = (packet.header.kind ≢ 0) × (after ≡ m)
-Answers m packet (Some answer) after = (packet.header.kind ≡ 0) × Turn m packet answer after
+Answers m packet None after = (packet.header.kind ≢ CALL) × (after ≡ m)
+Answers m packet (Some answer) after = (packet.header.kind ≡ CALL) × Turn m packet answer after
 
 -- the messages are the replies to these packets, in their order, each over the map that the ones before left
 abbrev pub Answered : Definitions → List Packet → List Packet → Definitions → Type 0
@@ -44,7 +46,7 @@ Answered m [] messages after = (messages ≡ []) × (after ≡ m)
 Answered m (packet ∷ packets) messages after = (first : Option Packet) × (then : Definitions) × (others : List Packet)
     × Answers m packet first then × Answered then packets others after × (messages ≡ option_to_list first ++ others)
 
--- messages, one behind the other
+-- messages, one after the other
 abbrev pub text : List Packet → List ℕ
 text messages = flat_map spelling messages
 
@@ -54,4 +56,4 @@ asks_to_close (Ok request.ConnectClose) = true
 asks_to_close _ = false
 
 abbrev pub closes : Packet → Bool
-closes packet = (packet.header.kind == 0) && asks_to_close (call_of packet.header packet.payload)
+closes packet = (packet.header.kind == CALL) && asks_to_close (call_of packet.header packet.payload)

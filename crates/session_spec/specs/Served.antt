@@ -4,9 +4,9 @@ use Rattle.std.specs.Cmp.Lexicographic.{slice_cmp}
 use Rattle.std.specs.Fmt.{decimal, signed_decimal}
 use Rattle.std.specs.List.Sorted.{IsPermutation, IsSorted}
 use Rattle.std.specs.Ordering.{nat_cmp}
-use Rattle.procedure_spec.specs.Results.{names_bound}
-use Rattle.session_spec.specs.Defining.{Defines, definition_in, reference}
-use Rattle.session_spec.specs.Definitions.{Definitions, Entry, identified, named, names_of, text_of}
+use Rattle.session_spec.specs.Defining.{Defines, reference}
+use Rattle.session_spec.specs.DefinitionText.{definition_in, text_of}
+use Rattle.session_spec.specs.Definitions.{Definitions, Entry, identified, named, names_of}
 use Rattle.session_spec.specs.Refused.{refusal}
 use Rattle.uuid.specs.Text.{hyphenated_text, lower}
 use Rattle.virt_types.specs.declared.domain_def.DomainDef.{DomainDef}
@@ -18,6 +18,7 @@ use Rattle.virt_types.specs.declared.request.Request.TheVariants as request
 use Rattle.virt_types.specs.declared.value.Reply.{Reply}
 use Rattle.virt_types.specs.declared.value.Reply.TheVariants as reply
 use Rattle.virt_types.specs.declared.value.Value.TheVariants as value
+use Rattle.procedure_spec.specs.declared.words.TheConstants.{NAMES_BOUND}
 
 -- there is no such domain: what was asked for is kept
 abbrev pub absent : List ℕ → Reply
@@ -44,7 +45,7 @@ Lists m most said = (names : List (List ℕ)) × IsPermutation (names_of m) name
 
 -- the bound of 0 to 1,024 that a number passes
 abbrev pub passed : ℤ → Option ℕ
-passed most = if int_lt most (pos 0) then Some 0 else (if int_lt (pos names_bound) most then Some names_bound else None)
+passed most = if int_lt most (pos 0) then Some 0 else (if int_lt (pos NAMES_BOUND) most then Some NAMES_BOUND else None)
 
 abbrev pub ListsMost : Definitions → ℤ → Option ℕ → Reply → Type 0
 ListsMost m most None said = Lists m (nat_abs most) said
@@ -57,15 +58,15 @@ ServesDomain m uuid (on_domain.GetXmlDesc flags) said = said ≡ described uuid 
 ServesDomain m uuid _ said = ⊥
 
 -- a request that leaves the map as it is
-abbrev pub Reads : Definitions → Request → Reply → Type 0
-Reads m (request.ConnectOpen name flags) said = said ≡ reply.Ok value.Nothing
-Reads m request.ConnectClose said = said ≡ reply.Ok value.Nothing
-Reads m (request.OnDomain domain asked) said = ServesDomain m domain.uuid asked said
-Reads m (request.ListDefinedDomains most) said = ListsMost m most (passed most) said
-Reads m (request.DomainLookupByName name) said = said ≡ by_name name (named name m)
-Reads m (request.DomainLookupByUuid uuid) said = said ≡ by_uuid uuid (identified uuid m)
-Reads m _ said = ⊥
+abbrev pub LooksUp : Definitions → Request → Reply → Type 0
+LooksUp m (request.ConnectOpen name flags) said = said ≡ reply.Ok value.Nothing
+LooksUp m request.ConnectClose said = said ≡ reply.Ok value.Nothing
+LooksUp m (request.OnDomain domain asked) said = ServesDomain m domain.uuid asked said
+LooksUp m (request.ListDefinedDomains most) said = ListsMost m most (passed most) said
+LooksUp m (request.DomainLookupByName name) said = said ≡ by_name name (named name m)
+LooksUp m (request.DomainLookupByUuid uuid) said = said ≡ by_uuid uuid (identified uuid m)
+LooksUp m _ said = ⊥
 
 abbrev pub Serves : Definitions → Request → Reply → Definitions → Type 0
 Serves m (request.DomainDefineXml xml) said after = Defines m (definition_in xml) said after
-Serves m asked said after = Reads m asked said × (after ≡ m)
+Serves m asked said after = LooksUp m asked said × (after ≡ m)

@@ -1,3 +1,5 @@
+// How a session ends.
+use std::fmt;
 use wire_spec::BadPacket;
 
 /// How a session ended.
@@ -5,14 +7,14 @@ use wire_spec::BadPacket;
 pub enum End {
     /// A call of CONNECT_CLOSE was answered.
     Closed,
-    /// The input ended behind a packet.
+    /// The input ended after a packet.
     Eof,
     /// The input ended inside a packet.
     Truncated {
         /// How many bytes of it had come.
         rest: u32,
     },
-    /// No packet begins as the bytes behind the last packet do.
+    /// No packet begins as the bytes after the last packet do.
     BadPacket(BadPacket),
     /// The source failed.
     SourceFault,
@@ -20,4 +22,17 @@ pub enum End {
     SinkFault,
     /// There was no memory.
     NoMemory,
+}
+
+impl fmt::Display for End {
+    fn fmt<W: fmt::Write>(&self, f: &mut fmt::Formatter<W>) -> fmt::Result {
+        match self {
+            End::Closed => write!(f, "closed"),
+            End::Eof => write!(f, "end of input"),
+            End::Truncated { rest } => write!(f, "truncated {rest}"),
+            End::BadPacket(bad) => write!(f, "bad packet {bad}"),
+            End::SourceFault | End::SinkFault => write!(f, "link"),
+            End::NoMemory => write!(f, "out of memory"),
+        }
+    }
 }

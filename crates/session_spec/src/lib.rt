@@ -2,5 +2,7 @@
 #![tactic(auto)]
 
 mod end;
+mod limits;
 
 pub use end::End;
+pub use limits::MOST_DEFINITIONS;

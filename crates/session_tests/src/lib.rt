@@ -1,7 +1,9 @@
-//! Tests of a session over a map of definitions, apart from it: so what stands on the session waits
-//! for no test.
+//! Tests of a session over a map of definitions, apart from it, so that what is built on the session
+//! waits for no test.
 #![tactic(auto)]
 
+#[cfg(test)]
+mod gated;
 #[cfg(test)]
 mod hex;
 #[cfg(test)]

@@ -323,8 +323,8 @@ pub(crate) const CALLS_THAT_ARE_NOT_SERVED_AND_ONE_THAT_IS: (&str, &str) = (
      ffffffff",
 );
 
-/// A close, and nothing behind it.
-pub(crate) const A_CLOSE_AND_NOTHING_BEHIND_IT: (&str, &str) = (
+/// A close, and nothing after it.
+pub(crate) const A_CLOSE_AND_NOTHING_AFTER_IT: (&str, &str) = (
     "000000b0 20008086 00000001 0000000b 00000000 00000000 00000000 00000090 3c646f6d 61696e20
      74797065 3d277165 6d75273e 3c6e616d 653e6465 6d6f3c2f 6e616d65 3e3c7575 69643e30 30303030
      3030302d 30303030 2d343030 302d3830 30302d30 30303030 30303030 3030313c 2f757569 643e3c6d

@@ -1,10 +1,12 @@
 // A session over bytes in memory.
 ghost use Rattle.std.specs.Prelude.{◌<◌};
 
+use crate::gated::gated;
 use packet::memory::{MemorySink, MemorySource};
-use session::{End, PlainMap, serve_plain};
-use std::alloc::{AllocError, Global};
-use virt_types::Random;
+use packet::{Sink, Source};
+use session::{End, PlainMap, Session};
+use std::alloc::Global;
+use virt_types::{NoMemory, Random};
 
 /// Words that count up.
 #[derive(Clone, Copy)]
@@ -13,6 +15,10 @@ struct CountedWords {
 }
 
 impl Random for CountedWords {
+    ghost use Rattle.std.specs.Prelude.{None};
+
+    ghost drawn = { λ _. None };
+
     fn word(&mut self) -> u64 {
         self.last = self.last.wrapping_add(1);
         self.last
@@ -31,23 +37,36 @@ pub(crate) struct Served {
     pub(crate) domains: usize,
 }
 
+// A session over a new map.
+fn session<K>(alloc: Global, sink: K) -> Session<K, CountedWords> {
+    Session {
+        alloc,
+        map: PlainMap::new(alloc),
+        sink,
+        random: CountedWords { last: 0 },
+    }
+}
+
 /// Serves the bytes over a new map; a read gives at most so many of them.
-pub(crate) fn serve(alloc: Global, input: Vec<u8>, most: usize) -> Result<Served, AllocError>
+pub(crate) fn serve(alloc: Global, input: Vec<u8>, most: usize) -> Result<Served, NoMemory>
     requires { 0 < most }
 {
-    let mut map = PlainMap::new(alloc);
     let mut source = MemorySource::new(input).at_most(most);
-    let mut random = CountedWords { last: 0 };
-    let (sink, end) = serve_plain(
-        alloc,
-        &mut map,
-        &mut source,
-        MemorySink::new(alloc),
-        &mut random,
-    );
+    let (session, end) = session(alloc, MemorySink::new(alloc)).serve_plain(&mut source);
     Ok(Served {
-        output: Vec::from_slice(alloc, sink.bytes())?,
+        output: Vec::from_slice(alloc, session.sink.bytes())?,
         end,
-        domains: map.len(),
+        domains: session.map.len(),
+    })
+}
+
+/// Serves a client that makes each call once it has the reply to the one before.
+pub(crate) fn serve_in_turn(alloc: Global, input: &[u8]) -> Result<Served, NoMemory> {
+    let (mut source, sink) = gated(alloc, input)?;
+    let (session, end) = session(alloc, sink).serve_plain(&mut source);
+    Ok(Served {
+        output: Vec::from_slice(alloc, session.sink.bytes())?,
+        end,
+        domains: session.map.len(),
     })
 }

@@ -1,3 +1,5 @@
 pub mod DemoName
+pub mod DemoSound
 pub mod DemoText
+pub mod Ending
 pub mod Words

@@ -1,11 +1,12 @@
 -- What the program does for the words `demo`, and what its status means.
-use Rattle.std.specs.Prelude.{◌≡◌, ◌⊎◌, ℕ, List, Option, None, Some}
+use Rattle.std.specs.Prelude.{◌≡◌, ◌⊎◌, ℕ, List, Option}
 use Rattle.outside_spec.specs.Faults.{Rose}
 use Rattle.session_spec.specs.Course.{Course, IsWhole}
 use Rattle.session_spec.specs.Definitions.{Definitions}
 use Rattle.session_spec.specs.declared.end.End.{End}
 use Rattle.session_spec.specs.declared.end.End.TheVariants.{BadPacket, Closed, Eof, NoMemory, SinkFault, SourceFault, Truncated}
 use Rattle.virtd.specs.Demo.{demo_map}
+use Rattle.virtd.specs.Handed.{Handed, one_more}
 
 -- the status of a session's end
 abbrev pub status : End → ℕ
@@ -34,12 +35,14 @@ module _ {S K : Type 0} (left : S → Option (List ℕ)) (source_faults : S → 
     pub complete : IsWhole (left source) → ¬ Rose (source_faults source) (source_faults source')
         → ¬ Rose (sink_faults sink) (sink_faults sink') → (code ≡ 0) ⊎ (code ≡ 12)
 
-  -- two ends were made and come back, and a session went over them
-  abbrev pub ServesStdio : Option (S × K) → Option (S × K) → ℕ → Type 0
-  ServesStdio (Some made) (Some back) code = IsServed made.0 made.1 back.0 back.1 code
-  ServesStdio None back code = ⊥
-  ServesStdio made None code = ⊥
+  -- exactly one pair of ends is made, a session goes over it, and it is given back, and no other
+  pub record ServesStdio (made back made' back' : Handed (S × K)) (code : ℕ) : Type 0 where
+    pub ends : S × K
+    pub given : S × K
+    pub made_one : made' ≡ one_more made ends
+    pub back_one : back' ≡ one_more back given
+    pub served : IsServed ends.0 ends.1 given.0 given.1 code
 
-  -- so it is, unless memory was wanting before anything was made
-  abbrev pub ServesDemo : Option (S × K) → Option (S × K) → Option (S × K) → Option (S × K) → ℕ → Type 0
-  ServesDemo made back made' back' code = ServesStdio made' back' code ⊎ ((code ≡ 12) × MakesNothing made back made' back')
+  -- so it is, unless memory ran out before anything was made
+  abbrev pub ServesDemo : Handed (S × K) → Handed (S × K) → Handed (S × K) → Handed (S × K) → ℕ → Type 0
+  ServesDemo made back made' back' code = ServesStdio made back made' back' code ⊎ ((code ≡ 12) × MakesNothing made back made' back')

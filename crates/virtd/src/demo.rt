@@ -4,6 +4,7 @@ ghost use Rattle.virtd.specs.Demo.{demo_def, demo_map, demo_uuid};
 
 use session::PlainMap;
 use std::alloc::Global;
+use text_laws::printed_domain_reads_back;
 use virt_types::{
     CrashAction, DomainDef, DomainType, LifecycleAction, ListOf, Name, NoMemory, OrNoMemory, Os,
     Script, Text, Uuid,
@@ -81,6 +82,7 @@ pub(crate) fn demo_domains(alloc: Global) -> Result<PlainMap, NoMemory>
     let script = Text::copy_of(alloc, "")?;
     let def = define_demo(alloc, name, system, script);
     let _name = def.name.as_bytes();
+    printed_domain_reads_back();
     let mut map = PlainMap::new(alloc);
     map.put(demo_uuid_bytes(), def)?;
     Ok(map)

@@ -2,6 +2,7 @@
 #![tactic(auto)]
 
 mod demo;
+mod handed;
 mod process;
 mod say;
 #[cfg(test)]
@@ -9,19 +10,22 @@ mod tests;
 mod top;
 mod world;
 
-use process::{Process, SystemWords, no_words, words};
+use process::{Process, SystemWords, without_memory, without_seed, words};
 use std::process::ExitCode;
 pub use top::virtd;
-use virt_types::NoMemory;
+use virt_types::{Failed, NoMemory};
 pub use world::World;
 
 fn main(rt: HostRuntime) -> ExitCode {
-    let Ok(random) = SystemWords::new(&rt) else {
-        return ExitCode::from(no_words(&rt));
+    let words = match words(&rt) {
+        Ok(words) => words,
+        Err(NoMemory) => return ExitCode::from(without_memory(&rt)),
     };
-    let mut world = Process::new(&rt, random);
-    match words(&rt) {
-        Ok(words) => ExitCode::from(virtd(rt.alloc(), words.as_slice(), &mut world)),
-        Err(NoMemory) => ExitCode::from(top::out_of_memory(&mut world)),
+    match SystemWords::new(&rt) {
+        Ok(random) => {
+            let mut world = Process::new(&rt, random);
+            ExitCode::from(virtd(rt.alloc(), words.as_slice(), &mut world))
+        }
+        Err(Failed) => ExitCode::from(without_seed(&rt, words.as_slice())),
     }
 }

@@ -1,7 +1,11 @@
 // The process as the world: its words, and its standard input, output and error. These few lines
 // are trusted: no clause says what the system gives or takes.
-ghost use Rattle.std.specs.Prelude.{◌≡◌};
+ghost use Rattle.std.specs.Prelude.{◌≡◌, ◌≢◌, ◌↔◌, map};
+ghost use Rattle.std.specs.String.{string_bytes};
+ghost use Rattle.virtd.specs.Demo.{demo_words};
 
+use crate::handed::HandedOver;
+use crate::top::{LINK, OUT_OF_MEMORY, USAGE, is_demo};
 use crate::world::World;
 use packet::{Sink, Source};
 use rand::make_rng;
@@ -10,7 +14,6 @@ use rand_core::{Rng, SeedableRng};
 use std::env;
 use std::io::{ErrorKind, Read, Write};
 use std::rt::{Stderr, Stdin, Stdout};
-use std::snapshot::Snapshot;
 use virt_types::{Failed, NoMemory, Random};
 
 /// Standard input, with the number of its faults. It tells no bytes.
@@ -81,6 +84,10 @@ impl SystemWords {
 }
 
 impl Random for SystemWords {
+    ghost use Rattle.std.specs.Prelude.{None};
+
+    ghost drawn = { λ _. None };
+
     fn word(&mut self) -> u64 {
         self.generator.next_u64()
     }
@@ -99,8 +106,8 @@ pub(crate) struct Process {
     output: Stdout,
     error: Stderr,
     words: SystemWords,
-    made: Option<Snapshot<(StandardInput, StandardOutput)>>,
-    back: Option<Snapshot<(StandardInput, StandardOutput)>>,
+    made: HandedOver<(StandardInput, StandardOutput)>,
+    back: HandedOver<(StandardInput, StandardOutput)>,
 }
 
 impl Process {
@@ -110,24 +117,22 @@ impl Process {
             output: rt.stdout(),
             error: rt.stderr(),
             words,
-            made: None,
-            back: None,
+            made: HandedOver::none(),
+            back: HandedOver::none(),
         }
     }
 }
 
 impl World for Process {
-    ghost use Rattle.std.specs.Prelude.{option_map};
-
     type S = StandardInput;
 
     type K = StandardOutput;
 
     type R = SystemWords;
 
-    ghost made = { λ p. option_map (λ s. s.value) p.made };
+    ghost made = { λ p. p.made };
 
-    ghost back = { λ p. option_map (λ s. s.value) p.back };
+    ghost back = { λ p. p.back };
 
     fn stdio(&mut self) -> (StandardInput, StandardOutput) {
         let ends = (
@@ -140,13 +145,13 @@ impl World for Process {
                 faults: 0,
             },
         );
-        self.made = Some(Snapshot::of(&ends));
+        self.made.add(&ends);
         ends
     }
 
     fn ended(&mut self, source: StandardInput, sink: StandardOutput) {
         let ends = (source, sink);
-        self.back = Some(Snapshot::of(&ends));
+        self.back.add(&ends);
     }
 
     fn random(&mut self) -> SystemWords {
@@ -159,7 +164,7 @@ impl World for Process {
     }
 }
 
-/// The words behind the program's name. Words that are no text are none, which is usage.
+/// The words after the program's name. Words that are no text are none, which is usage.
 pub(crate) fn words(rt: &HostRuntime) -> Result<Vec<String>, NoMemory> {
     let mut words = Vec::new(rt.alloc());
     match env::args(rt) {
@@ -174,8 +179,30 @@ pub(crate) fn words(rt: &HostRuntime) -> Result<Vec<String>, NoMemory> {
     }
 }
 
-/// The system gave nothing that words could begin with: the status of a link that failed.
-pub(crate) fn no_words(rt: &HostRuntime) -> u8 {
-    let _ = rt.stderr().write_all(b"virtd: link\n");
-    5
+// Writes a line on standard error. Its faults are passed over.
+fn say(rt: &HostRuntime, line: &[u8]) {
+    let mut error = rt.stderr();
+    let _ = error.write_all(line);
+    let _ = error.write_all(b"\n");
+}
+
+/// Answers words where the system gives no seed: wrong words are still usage, and nothing is served.
+pub(crate) fn without_seed(rt: &HostRuntime, words: &[String]) -> u8
+    ensures usage { (result ≡ 2) ↔ (map string_bytes words.now ≢ demo_words) }
+    ensures link { map string_bytes words.now ≡ demo_words → result ≡ 5 }
+{
+    if is_demo(words) {
+        say(rt, b"virtd: link");
+        return LINK;
+    }
+    say(rt, b"virtd: usage");
+    USAGE
+}
+
+/// There was no memory for the words.
+pub(crate) fn without_memory(rt: &HostRuntime) -> u8
+    ensures { result ≡ 12 }
+{
+    say(rt, b"virtd: out of memory");
+    OUT_OF_MEMORY
 }

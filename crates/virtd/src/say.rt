@@ -2,7 +2,6 @@
 ghost use Rattle.std.specs.Prelude.{◌≡◌};
 
 use crate::world::World;
-use packet::BadPacket;
 use session::End;
 use std::alloc::{AllocError, Global};
 
@@ -28,15 +27,6 @@ pub(crate) fn say_out_of_memory<W: World>(world: &mut W)
     world.say(OUT_OF_MEMORY);
 }
 
-fn bad_packet_line(alloc: Global, bad: BadPacket) -> Result<String, AllocError> {
-    match bad {
-        BadPacket::LengthLow { l } => format!(in alloc; "virtd: bad packet LengthLow {l}"),
-        BadPacket::LengthHigh { l } => format!(in alloc; "virtd: bad packet LengthHigh {l}"),
-        BadPacket::Kind { t } => format!(in alloc; "virtd: bad packet Kind {t}"),
-        BadPacket::Status { s } => format!(in alloc; "virtd: bad packet Status {s}"),
-    }
-}
-
 fn say_line<W: World>(world: &mut W, line: Result<String, AllocError>)
     ensures made { W.made world.new ≡ W.made world.old }
     ensures back { W.back world.new ≡ W.back world.old }
@@ -54,10 +44,9 @@ pub(crate) fn say_end<W: World>(alloc: Global, world: &mut W, end: &End)
 {
     match *end {
         End::Closed | End::Eof => {}
-        End::Truncated { rest } => {
-            say_line(world, format!(in alloc; "virtd: truncated {rest}"));
+        End::Truncated { .. } | End::BadPacket(_) => {
+            say_line(world, format!(in alloc; "virtd: {end}"));
         }
-        End::BadPacket(bad) => say_line(world, bad_packet_line(alloc, bad)),
         End::SourceFault | End::SinkFault => world.say(LINK),
         End::NoMemory => say_out_of_memory(world),
     }

@@ -1,11 +1,12 @@
 // What the program is given of the outside.
-ghost use Rattle.std.specs.Prelude.{◌≡◌, Some};
-ghost use Rattle.std.specs.declared.option.Option.{Option};
+ghost use Rattle.std.specs.Prelude.{◌≡◌};
+ghost use Rattle.virtd.specs.Handed.{Handed, one_more};
 
 use packet::{Sink, Source};
 use virt_types::Random;
 
-/// What the program is given of the outside. It knows what it made last, and what it got back last.
+/// What the program is given of the outside. It counts what it made and what it got back, and knows the
+/// last of each.
 pub trait World {
     /// Where calls come from.
     type S: Source;
@@ -16,21 +17,21 @@ pub trait World {
     /// Where new identifiers and addresses come from.
     type R: Random + Drop;
 
-    // The two ends that were made last.
-    ghost made: { Self → Option (Self.S × Self.K) };
+    // The pairs of ends that were made.
+    ghost made: { Self → Handed (Self.S × Self.K) };
 
-    // The two ends that were given back last, as they were then.
-    ghost back: { Self → Option (Self.S × Self.K) };
+    // The pairs of ends that were given back, as they were then.
+    ghost back: { Self → Handed (Self.S × Self.K) };
 
     /// Makes the two ends of standard input and output.
     fn stdio(&mut self) -> (Self::S, Self::K)
-        ensures made { made self.new ≡ Some result }
+        ensures made { made self.new ≡ one_more (made self.old) result }
         ensures back { back self.new ≡ back self.old };
 
     /// Gets the two ends of `stdio` back.
     fn ended(&mut self, source: Self::S, sink: Self::K)
         ensures made { made self.new ≡ made self.old }
-        ensures back { back self.new ≡ Some (source, sink) };
+        ensures back { back self.new ≡ one_more (back self.old) (source, sink) };
 
     /// A source of words without a pattern.
     fn random(&mut self) -> Self::R

@@ -9,10 +9,10 @@ use Rattle.wire_spec.specs.declared.message.Packet.{Packet}
 use Rattle.packet.specs.Front.{header_at}
 use Rattle.packet.proofs.Whole.{a_packet, length_low, passed}
 use Rattle.packet.proofs.Words.{IsBytes}
-use Rattle.wire_reference.specs.First.{Finds}
+use Rattle.wire_reference.specs.First.{FindsFirst}
 
 pub found : (bytes payload : List ℕ) (n : ℕ) (h : Header) → IsBytes bytes → fault bytes ≡ None → 4 ≤ length bytes → n ≡ word_at 0 bytes → n ≤ length bytes → h ≡ header_at bytes → payload ≡ slice_range bytes 28 n
-    → Finds bytes (Some record { header = h; payload = payload })
+    → FindsFirst bytes (Some record { header = h; payload = payload })
 found bytes payload n h fits sound four is le e p =
     let a = a_packet bytes payload n h fits sound four is le e p in
     let low : 28 ≤ word_at 0 bytes = length_low bytes (word_at 0 bytes) (passed _ _ (grind (arith, nat_tests)) sound) in

@@ -4,7 +4,7 @@ use Rattle.wire_spec.specs.Packets.{IsPacket, spelling}
 use Rattle.wire_spec.specs.Split.{IsRest}
 use Rattle.wire_spec.specs.declared.message.Packet.{Packet}
 
--- the packet and what is behind it are the bytes, or they begin with no whole one
-abbrev pub Finds : List ℕ → Option Packet → Type 0
-Finds bytes None = IsRest bytes
-Finds bytes (Some p) = IsPacket p × (28 + length p.payload ≤ length bytes) × (bytes ≡ spelling p ++ drop (28 + length p.payload) bytes)
+-- the packet and what is after it are the bytes, or they begin with no whole one
+abbrev pub FindsFirst : List ℕ → Option Packet → Type 0
+FindsFirst bytes None = IsRest bytes
+FindsFirst bytes (Some p) = IsPacket p × (28 + length p.payload ≤ length bytes) × (bytes ≡ spelling p ++ drop (28 + length p.payload) bytes)

@@ -1,4 +1,4 @@
-// Items of XDR behind what is written.
+// Items of XDR after what is written.
 ghost use Rattle.std.specs.Prelude.{◌≡◌, ◌++◌, ◌^◌, ◌<◌, Some, length, OnOk};
 ghost use Rattle.procedure_spec.specs.Errors.{kept_string};
 ghost use Rattle.wire_spec.specs.Xdr.{fixed, integer, opaque, optional, padding_length, word};

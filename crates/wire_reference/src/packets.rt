@@ -3,7 +3,7 @@ ghost use Rattle.std.specs.Prelude.{◌≡◌, ◌+◌, ◌^◌, ◌<◌, ◌≤
 ghost use Rattle.packet.specs.Front.{header_at};
 ghost use Rattle.wire_spec.specs.Packets.{fault, spelling, word_at};
 ghost use Rattle.wire_spec.specs.Split.{Splits};
-ghost use Rattle.wire_reference.specs.First.{Finds};
+ghost use Rattle.wire_reference.specs.First.{FindsFirst};
 
 use crate::items::add_word;
 use std::alloc::Global;
@@ -15,7 +15,7 @@ use wire_spec::{BadPacket, Header, Packet};
 pub struct Parts {
     /// The packets, in order.
     pub packets: Vec<Packet>,
-    /// The bytes behind them.
+    /// The bytes after them.
     pub rest: Vec<u8>,
     /// Why no packet begins with the rest, if that shows.
     pub bad: Option<BadPacket>,
@@ -96,7 +96,7 @@ fn read_first(alloc: Global, bytes: &[u8], size: usize) -> Result<Packet, NoMemo
     requires word_there { 4 ≤ length bytes.now }
     requires size { size ≡ word_at 0 bytes.now }
     requires all_there { size ≤ length bytes.now }
-    ensures { IfOk result (λ packet. Finds bytes.now (Some packet)) }
+    ensures { IfOk result (λ packet. FindsFirst bytes.now (Some packet)) }
 {
     let header = header(bytes);
     let payload = Bytes::copy_of(alloc, &bytes[28..size])?;
@@ -105,7 +105,7 @@ fn read_first(alloc: Global, bytes: &[u8], size: usize) -> Result<Packet, NoMemo
 
 // The packet that the bytes begin with, if it is whole.
 fn first(alloc: Global, bytes: &[u8]) -> Result<Option<Packet>, NoMemory>
-    ensures { IfOk result (Finds bytes.now) }
+    ensures { IfOk result (FindsFirst bytes.now) }
 {
     match fault_of(bytes) {
         Some(_) => Ok(None),
@@ -120,7 +120,7 @@ fn first(alloc: Global, bytes: &[u8]) -> Result<Option<Packet>, NoMemory>
     }
 }
 
-/// The bytes as packets and a rest. It takes the first packet, splits what is behind it, and puts
+/// The bytes as packets and a rest. It takes the first packet, splits what is after it, and puts
 /// the two together.
 pub fn split(alloc: Global, bytes: &[u8]) -> Result<Parts, NoMemory>
     ensures parts { IfOk result (λ parts. Splits bytes.now parts.packets.items parts.rest.items) }

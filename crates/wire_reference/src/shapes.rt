@@ -22,7 +22,7 @@ pub enum Kind {
     OptionalText,
     /// Fixed opaque data of 16 bytes.
     Identifier,
-    /// How many entries follow, of which the kinds behind it are one.
+    /// How many entries follow, of which the kinds after it are one.
     Count,
 }
 
@@ -73,7 +73,7 @@ impl<'a> Item<'a> {
     }
 }
 
-/// What a call of this shape holds, one behind the other.
+/// What a call of this shape holds, one after the other.
 pub fn argument_kinds(shape: ArgumentShape) -> &'static [Kind]
     ensures { result.now ≡ kinds_of_call shape }
 {
@@ -130,7 +130,7 @@ pub fn argument_kinds(shape: ArgumentShape) -> &'static [Kind]
     }
 }
 
-/// What a reply of this shape holds, one behind the other.
+/// What a reply of this shape holds, one after the other.
 pub fn result_kinds(shape: ResultShape) -> &'static [Kind]
     ensures { result.now ≡ kinds_of_reply shape }
 {
@@ -171,7 +171,7 @@ fn add_long_word(out: &mut Vec<u8>, number: u64) -> Result<(), NoMemory>
     Ok(())
 }
 
-/// Puts the bytes of an item behind what is written.
+/// Puts the bytes of an item after what is written.
 pub fn spell_item(out: &mut Vec<u8>, item: Item<'_>) -> Result<(), NoMemory>
     requires { IsShort item }
     ensures { OnOk result (out.new.items ≡ out.old.items ++ spelled item.entry) }

@@ -96,8 +96,8 @@ no_value r f x e g = cc (e, g)
 pub answers_or_no_memory : {A : Type 0} (IsValue : A → Type 0) (spelled : A → List ℕ) (first : Left → Result (A × Left) XdrFault) → IsItem IsValue spelled first → (old new : Left) (result : Result A (OrNoMemory XdrFault)) → IsBytes old.bytes → ReadsOrNoMemory first old result new → AnswersOrNoMemory IsValue spelled old result new
 answers_or_no_memory IsValue spelled first item old new (Ok x) fits reads =
     let f = item.found old (x, new) fits reads in
-    record { found = (f.0, f.1); only = λ v rest value e. same_value (first old) (x, new) _ reads (item.again old v rest value e) }
+    record { found = (f.0, f.1); only = λ v rest value e. sym (ap (λ (y : _). Ok y) (same_value (first old) (x, new) _ reads (item.again old v rest value e))) }
 answers_or_no_memory IsValue spelled first item old new (Err (Fault f)) fits reads =
     record { found = tt; only = λ v rest value e. let again = item.again old v rest value e in absurd (no_value (first old) f _ reads.0 again) }
 answers_or_no_memory IsValue spelled first item old new (Err NoMemory) fits reads =
-    record { found = tt; only = λ v rest value e. refl }
+    record { found = tt; only = λ v rest value e. tt }

@@ -5,21 +5,22 @@ use Rattle.wire_spec.specs.Xdr.{word}
 use Rattle.wire_spec.specs.declared.fault.BadPacket.{BadPacket}
 use Rattle.wire_spec.specs.declared.fault.BadPacket.TheVariants.{LengthLow, LengthHigh, Kind, Status}
 use Rattle.wire_spec.specs.declared.message.Header.{Header}
+use Rattle.wire_spec.specs.declared.message.TheConstants.{CALL, CONTINUE, HEADER_LENGTH, MESSAGE, MOST_BYTES, OK}
 use Rattle.wire_spec.specs.declared.message.Packet.{Packet}
 
--- the six words behind the length
+-- the six words after the length
 abbrev pub header : Header → List ℕ
 header h = word h.prog ++ word h.vers ++ word h.procedure ++ word h.kind ++ word h.serial ++ word h.status
 
 -- the one spelling of a packet; its length counts the length word too
 abbrev pub spelling : Packet → List ℕ
-spelling p = word (28 + length p.payload) ++ header p.header ++ p.payload
+spelling p = word (HEADER_LENGTH + length p.payload) ++ header p.header ++ p.payload
 
 -- a kind and a status that a packet may have: a call has no status
 pub record HasKind (h : Header) : Type 0 where
-  pub kind : h.kind ≤ 2
-  pub status : h.status ≤ 2
-  pub call : h.kind ≡ 0 → h.status ≡ 0
+  pub kind : h.kind ≤ MESSAGE
+  pub status : h.status ≤ CONTINUE
+  pub call : h.kind ≡ CALL → h.status ≡ OK
 
 -- six words that a packet may have
 pub record IsHeader (h : Header) : Type 0 where
@@ -29,10 +30,10 @@ pub record IsHeader (h : Header) : Type 0 where
   pub serial : h.serial < 2 ^ 32
   pub allowed : HasKind h
 
--- a packet of at most 4,194,304 bytes
+-- a packet that is not too long
 pub record IsPacket (p : Packet) : Type 0 where
   pub header : IsHeader p.header
-  pub length : 28 + length p.payload ≤ 4194304
+  pub length : HEADER_LENGTH + length p.payload ≤ MOST_BYTES
 
 -- the word at a place
 abbrev pub word_at : ℕ → List ℕ → ℕ
@@ -40,13 +41,13 @@ word_at i bytes = from_be_bytes w32 (take 4 (drop i bytes))
 
 -- no packet begins with these bytes, whatever follows: the first word that shows it, as soon as it is there
 abbrev pub status_fault : ℕ → ℕ → Option BadPacket
-status_fault kind status = if nat_lt 2 status || ((kind == 0) && nat_lt 0 status) then Some (Status status) else None
+status_fault kind status = if nat_lt CONTINUE status || ((kind == CALL) && nat_lt OK status) then Some (Status status) else None
 
 abbrev pub kind_fault : List ℕ → ℕ → Option BadPacket
-kind_fault bytes kind = if nat_lt 2 kind then Some (Kind kind) else (if nat_lt (length bytes) 28 then None else status_fault kind (word_at 24 bytes))
+kind_fault bytes kind = if nat_lt MESSAGE kind then Some (Kind kind) else (if nat_lt (length bytes) HEADER_LENGTH then None else status_fault kind (word_at 24 bytes))
 
 abbrev pub length_fault : List ℕ → ℕ → Option BadPacket
-length_fault bytes l = if nat_lt l 28 then Some (LengthLow l) else (if nat_lt 4194304 l then Some (LengthHigh l) else (if nat_lt (length bytes) 20 then None else kind_fault bytes (word_at 16 bytes)))
+length_fault bytes l = if nat_lt l HEADER_LENGTH then Some (LengthLow l) else (if nat_lt MOST_BYTES l then Some (LengthHigh l) else (if nat_lt (length bytes) 20 then None else kind_fault bytes (word_at 16 bytes)))
 
 abbrev pub fault : List ℕ → Option BadPacket
 fault bytes = if nat_lt (length bytes) 4 then None else length_fault bytes (word_at 0 bytes)

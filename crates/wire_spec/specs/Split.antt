@@ -8,7 +8,7 @@ use Rattle.wire_spec.specs.declared.message.Packet.{Packet}
 abbrev pub IsRest : List ℕ → Type 0
 IsRest bytes = (length bytes < 4) ⊎ ((length bytes < word_at 0 bytes) ⊎ IsSome (fault bytes))
 
--- the packets, one behind the other, and then the rest
+-- the packets, one after the other, and then the rest
 abbrev pub stream : List Packet → List ℕ → List ℕ
 stream packets rest = flat_map spelling packets ++ rest
 

@@ -1,5 +1,6 @@
 -- What readers of XDR answer: a value exactly where one stands at the front, and otherwise the first fault.
 use Rattle.std.specs.Prelude.{◌≡◌, ℕ, ◌+◌, List, ◌++◌, length, Result, Ok, Err, IfOk, IsOk}
+use Rattle.virt_types.specs.Memory.{UnlessNoMemory}
 use Rattle.virt_types.specs.declared.memory.OrNoMemory.{OrNoMemory}
 use Rattle.virt_types.specs.declared.memory.OrNoMemory.TheVariants.{Fault, NoMemory}
 use Rattle.wire_spec.specs.XdrReading.{Left}
@@ -20,15 +21,10 @@ abbrev pub Reads : {A : Type 0} → (Left → Result (A × Left) XdrFault) → L
 Reads first old (Ok v) new = first old ≡ Ok (v, new)
 Reads first old (Err f) new = (first old ≡ Err f) × (new ≡ old)
 
--- the answer is this value, or there was no memory for it
-abbrev pub Gives : {A F : Type 0} → Result A (OrNoMemory F) → A → Type 0
-Gives (Ok x) v = x ≡ v
-Gives (Err e) v = e ≡ NoMemory
-
 -- as `Answers`, of a value that takes memory
 pub record AnswersOrNoMemory {A : Type 0} (IsValue : A → Type 0) (spelled : A → List ℕ) (old : Left) (result : Result A (OrNoMemory XdrFault)) (new : Left) : Type 0 where
   pub found : IfOk result (λ v. IsValue v × Takes old (spelled v) new)
-  pub only : (v : A) (rest : List ℕ) → IsValue v → old.bytes ≡ spelled v ++ rest → Gives result v
+  pub only : (v : A) (rest : List ℕ) → IsValue v → old.bytes ≡ spelled v ++ rest → UnlessNoMemory result (Ok v)
 
 -- as `Reads`, of a value that takes memory: there is no memory only where there is a value
 abbrev pub ReadsOrNoMemory : {A : Type 0} → (Left → Result (A × Left) XdrFault) → Left → Result A (OrNoMemory XdrFault) → Left → Type 0

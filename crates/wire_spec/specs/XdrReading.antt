@@ -20,7 +20,7 @@ pub record Left : Type 0 where
 abbrev pub all_of : List ℕ → Left
 all_of payload = record { place = 0; bytes = payload }
 
--- what is left behind n bytes
+-- what is left after n bytes
 abbrev pub behind : ℕ → Left → Left
 behind n l = record { place = l.place + n; bytes = drop n l.bytes }
 
@@ -71,7 +71,7 @@ is_set byte = not (byte == 0)
 abbrev pub pad_fault : ℕ → List ℕ → Option XdrFault
 pad_fault place bytes = option_map (λ i. Pad (place + i)) (position is_set bytes)
 
--- 3 block size: what is left behind the padding of n bytes
+-- 3 block size: what is left after the padding of n bytes
 abbrev pub behind_padding : ℕ → Left → Result Left XdrFault
 behind_padding n l = unless (pad_fault l.place (take (padding_length n) l.bytes)) (behind (padding_length n) l)
 
@@ -115,7 +115,7 @@ first_optional first l = do
   there ← first_truth l
   if there.0 then (first there.1 >>= λ x. Ok (Some x.0, x.1)) else Ok (None, there.1)
 
--- all of a payload, with nothing behind it
+-- all of a payload, with nothing after it
 unfoldable pub whole : {A : Type 0} → (Left → Result (A × Left) XdrFault) → List ℕ → Result A XdrFault
 whole first payload = do
   x ← first (all_of payload)

@@ -1,3 +1,8 @@
+// Why bytes are no packet, and why a payload is none of the items wanted.
+use std::error::Error;
+use std::fmt;
+use virt_types::OrNoMemory;
+
 /// Why no packet begins with some bytes: the first word that shows it, in the order of the words.
 #[derive(Clone, Copy, Debug, PartialEq, Eq)]
 pub enum BadPacket {
@@ -6,7 +11,7 @@ pub enum BadPacket {
         /// The word.
         l: u32,
     },
-    /// The length word is above 4,194,304.
+    /// The length word is above `MOST_BYTES`.
     LengthHigh {
         /// The word.
         l: u32,
@@ -22,6 +27,20 @@ pub enum BadPacket {
         s: u32,
     },
 }
+
+// As `virtd` names them on standard error.
+impl fmt::Display for BadPacket {
+    fn fmt<W: fmt::Write>(&self, f: &mut fmt::Formatter<W>) -> fmt::Result {
+        match self {
+            BadPacket::LengthLow { l } => write!(f, "LengthLow {l}"),
+            BadPacket::LengthHigh { l } => write!(f, "LengthHigh {l}"),
+            BadPacket::Kind { t } => write!(f, "Kind {t}"),
+            BadPacket::Status { s } => write!(f, "Status {s}"),
+        }
+    }
+}
+
+impl Error for BadPacket {}
 
 /// Why no item of XDR stands at a place. Places count from the payload's first byte.
 #[derive(Clone, Copy, Debug, PartialEq, Eq)]
@@ -48,7 +67,7 @@ pub enum XdrFault {
         /// The length word.
         length: u64,
     },
-    /// Bytes are left behind the last item.
+    /// Bytes are left after the last item.
     Extra {
         /// The first of them.
         at: u64,
@@ -58,4 +77,30 @@ pub enum XdrFault {
         /// The first byte of the first ill-formed sequence.
         at: u64,
     },
+}
+
+impl fmt::Display for XdrFault {
+    fn fmt<W: fmt::Write>(&self, f: &mut fmt::Formatter<W>) -> fmt::Result {
+        match self {
+            XdrFault::Short { at } => write!(f, "the item at {at} passes the end"),
+            XdrFault::Pad { at } => write!(f, "the padding at {at} is not 0"),
+            XdrFault::Flag { at } => write!(f, "the truth value at {at} is neither 0 nor 1"),
+            XdrFault::TooLong { at, length } => write!(f, "the length {length} at {at} is too great"),
+            XdrFault::Extra { at } => write!(f, "there are more bytes at {at}"),
+            XdrFault::Text { at } => write!(f, "the text is not UTF-8 at {at}"),
+        }
+    }
+}
+
+impl Error for XdrFault {}
+
+impl From<XdrFault> for OrNoMemory<XdrFault> {
+    ghost use Rattle.std.specs.Prelude.{◌≡◌};
+    ghost use Rattle.virt_types.specs.declared.memory.OrNoMemory.TheVariants as or;
+
+    ghost from_gives = { λ fault e. e ≡ or.Fault fault };
+
+    fn from(fault: XdrFault) -> OrNoMemory<XdrFault> {
+        OrNoMemory::Fault(fault)
+    }
 }

@@ -5,4 +5,6 @@ mod fault;
 mod message;
 
 pub use fault::{BadPacket, XdrFault};
-pub use message::{Header, Packet};
+pub use message::{
+    CALL, CONTINUE, ERROR, HEADER_LENGTH, Header, MESSAGE, MOST_BYTES, OK, Packet, REPLY,
+};

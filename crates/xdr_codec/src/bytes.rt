@@ -8,7 +8,7 @@ use crate::number::word;
 use crate::rest::Rest;
 use wire_spec::XdrFault;
 
-/// How many bytes of padding stand behind so many bytes.
+/// How many bytes of padding stand after so many bytes.
 pub(crate) fn padding_length(size: usize) -> usize
     ensures { result ≡ padding_bytes size }
 {
@@ -42,7 +42,7 @@ fn set_position(bytes: &[u8]) -> Option<usize>
     bytes.iter().position(|byte| *byte != 0)
 }
 
-// What is left behind the padding of so many bytes.
+// What is left after the padding of so many bytes.
 fn behind_padding(size: u32, rest: Rest<'_>) -> Result<Rest<'_>, XdrFault>
     requires { padding_bytes size ≤ length rest.bytes.now }
     ensures { Passes (behind_the_padding size (seen rest.entry)) result }

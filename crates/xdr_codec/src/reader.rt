@@ -29,7 +29,7 @@ impl<'a> Model for Reader<'a> {
     ghost view = { λ r. record { place = r.rest.place; bytes = r.rest.bytes.now } };
 }
 
-// Stands behind what a step read; after an error, where it stood.
+// Stands after what a step read; after an error, where it stood.
 fn keep<'a, T, E>(rest: &mut Rest<'a>, step: Result<(T, Rest<'a>), E>) -> Result<T, E>
     ensures { Keeps rest.old step.entry result rest.new }
 {
@@ -128,7 +128,7 @@ impl<'a> Reader<'a> {
         keep(&mut self.rest, step)
     }
 
-    /// Takes opaque data behind a length word (4.10).
+    /// Takes opaque data after a length word (4.10).
     pub fn take_opaque(&mut self, alloc: Global) -> Result<Bytes, OrNoMemory<XdrFault>>
         ensures value { AnswersOrNoMemory (λ v. length v ≤ u32.MAX) opaque self.old result self.new }
         ensures fault { ReadsOrNoMemory (first_opaque u32.MAX) self.old result self.new }

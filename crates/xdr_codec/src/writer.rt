@@ -1,4 +1,4 @@
-// Writing items one behind the other.
+// Writing items one after the other.
 ghost use Rattle.std.specs.Prelude.{◌≡◌, ◌^◌, ◌<◌, [], ◌++◌, length, vec_len, IfOk, IsUtf8, OnOk, OnErr};
 ghost use Rattle.wire_spec.specs.Xdr.{double_word, fixed, integer, opaque, padding, truth, word};
 
@@ -7,7 +7,7 @@ use std::alloc::Global;
 use std::marker::Model;
 use virt_types::{Bytes, NoMemory};
 
-/// Writes items one behind the other. Contracts see the bytes that were written. A call that finds
+/// Writes items one after the other. Contracts see the bytes that were written. A call that finds
 /// no memory writes nothing.
 #[derive(Drop)]
 pub struct Writer {
@@ -98,7 +98,7 @@ impl Writer {
         put_padded(&mut self.bytes, &[], v)
     }
 
-    /// Appends opaque data behind their length (4.10).
+    /// Appends opaque data after their length (4.10).
     #[tactic(auto, unfolding(wire_spec::specs::Xdr::word))]
     pub fn put_opaque(&mut self, v: &[u8]) -> Result<(), NoMemory>
         requires { length v.now < 2 ^ 32 }

@@ -27,7 +27,7 @@ fn check(rt: &impl Abort, shown: &Shown, status: u8, line: &str, output: &[u8]) 
     assert!(rt; shown.has_put(output));
 }
 
-// The input alone, and behind a call, which has its reply.
+// The input alone, and after a call, which has its reply.
 fn check_input(
     rt: &impl Abort,
     alloc: Global,

@@ -1,11 +1,11 @@
 // A world in memory, whose two ends are cut and fail as a test says.
 ghost use Rattle.std.specs.Prelude.{◌<◌};
 
+use crate::handed::HandedOver;
 use crate::top::virtd;
 use crate::world::World;
 use packet::memory::{Failing, MemorySink, MemorySource};
 use std::alloc::{AllocError, Global};
-use std::snapshot::Snapshot;
 use virt_types::Random;
 
 /// How the two ends behave.
@@ -67,6 +67,10 @@ struct CountedWords {
 }
 
 impl Random for CountedWords {
+    ghost use Rattle.std.specs.Prelude.{None};
+
+    ghost drawn = { λ _. None };
+
     fn word(&mut self) -> u64 {
         self.last = self.last.wrapping_add(1);
         self.last
@@ -84,22 +88,20 @@ struct MemoryWorld {
     ends: Ends,
     output: Option<Vec<u8>>,
     said: Vec<u8>,
-    made: Option<Snapshot<(MemorySource, MemorySink)>>,
-    back: Option<Snapshot<(MemorySource, MemorySink)>>,
+    made: HandedOver<(MemorySource, MemorySink)>,
+    back: HandedOver<(MemorySource, MemorySink)>,
 }
 
 impl World for MemoryWorld {
-    ghost use Rattle.std.specs.Prelude.{option_map};
-
     type S = MemorySource;
 
     type K = MemorySink;
 
     type R = CountedWords;
 
-    ghost made = { λ w. option_map (λ s. s.value) w.made };
+    ghost made = { λ w. w.made };
 
-    ghost back = { λ w. option_map (λ s. s.value) w.back };
+    ghost back = { λ w. w.back };
 
     fn stdio(&mut self) -> (MemorySource, MemorySink) {
         let input = std::mem::replace(&mut self.input, Vec::new(self.alloc));
@@ -111,13 +113,13 @@ impl World for MemoryWorld {
                 .at_most(self.ends.write_most)
                 .failing(self.ends.writes),
         );
-        self.made = Some(Snapshot::of(&ends));
+        self.made.add(&ends);
         ends
     }
 
     fn ended(&mut self, source: MemorySource, sink: MemorySink) {
         let ends = (source, sink);
-        self.back = Some(Snapshot::of(&ends));
+        self.back.add(&ends);
         self.output = Vec::from_slice(self.alloc, ends.1.bytes()).ok();
     }
 
@@ -175,8 +177,8 @@ pub(super) fn run(
         ends,
         output: None,
         said: Vec::new(alloc),
-        made: None,
-        back: None,
+        made: HandedOver::none(),
+        back: HandedOver::none(),
     };
     let status = virtd(alloc, given.as_slice(), &mut world);
     Ok(Shown {

@@ -1,29 +1,17 @@
-use Rattle.std.proofs.Common.{◌≡◌, ◌++◌, List, ℕ, ap, subst, ◌∙◌}
-use Rattle.wire_spec.specs.Packets.{header}
-use Rattle.wire_spec.specs.Xdr.{word}
-use Rattle.procedure_spec.specs.Arguments.{arguments}
-use Rattle.procedure_spec.specs.Calls.{call_header}
-use Rattle.procedure_spec.proofs.Written.{is_call, written_back}
-use Rattle.remote_args.specs.Frames.{HasWords}
-use Rattle.remote_args.proofs.Written.{call_kind, is_packet, long_enough, packet_bytes, too_big}
+use Rattle.std.proofs.Common.{sym, ◌∙◌}
+use Rattle.procedure_spec.proofs.Written.{is_asked, is_there}
+use Rattle.remote_args.proofs.Written.{bytes_of, none_asked, packet_is}
 use Rattle.remote_args.proofs.written_call.write_call.Goals as goal
-use Rattle.remote_args.proofs.written_call.write_call.Goals.{In_ok-put_arguments}
 
-written : (c : In_ok-put_arguments) → c.put_arguments.new.writer ≡ (word 0 ++ header (call_header c.args.request.now c.args.serial)) ++ arguments c.args.request.now
-written c = c.in_ok-put_arguments.ensures ∙ ap (λ (t : List ℕ). t ++ arguments c.args.request.now) (c.in_ok-writer.ensures.written ∙ ap (λ h. word 0 ++ header h) c.call_header.ensures)
-
-pub finish-requires : goal.finish-requires
-finish-requires c = long_enough (call_header c.args.request.now c.args.serial) (arguments c.args.request.now) _ (written (goal.at.finish-requires c).In_ok-put_arguments)
+pub unreachable-requires : goal.unreachable-requires
+unreachable-requires c = none_asked _ (is_there c.args.request.now c.requires) (sym c.call_numbers.ensures ∙ c.in-None.is)
 
 pub returns : goal.returns
 returns c =
-    let h = call_header c.args.request.now c.args.serial in
-    let e = written (goal.at.returns c).In_ok-put_arguments in
-    let words = subst HasWords c.call_header.ensures c.in_ok-writer.ensures.words in
+    let is = sym c.call_numbers.ensures ∙ c.in-Some.is in
     record {
-      call = is_call c.args.request.now c.args.serial c.requires;
-      bytes = packet_bytes h (arguments c.args.request.now) _ c.finish.result e c.finish.ensures;
-      packet = is_packet h (arguments c.args.request.now) _ c.finish.result words (call_kind c.args.request.now c.args.serial) e c.finish.ensures;
-      err = too_big h (arguments c.args.request.now) _ c.finish.result e c.finish.ensures;
-      reads_back = written_back c.args.request.now c.args.serial c.requires;
+      call = is_asked c.args.request.now c.args.serial c.requires;
+      bytes = bytes_of _ _ c.args.request.now c.args.serial c.write_numbered.result is c.write_numbered.ensures.bytes;
+      packet = packet_is _ _ c.args.request.now c.args.serial c.write_numbered.result is c.write_numbered.ensures.packet;
+      err = c.write_numbered.ensures.err;
     }

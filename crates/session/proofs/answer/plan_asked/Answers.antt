@@ -3,7 +3,7 @@ use Rattle.session.proofs.answer.plan_asked.Goals as goal
 
 pub returns-clause-plan : goal.returns-clause-plan
 returns-clause-plan g c = rw c.requires.read (record {
-  gives = c.in_ok-plan.ensures.serves;
+  outcome = c.in_ok-plan.ensures.serves;
   closes = c.in_ok-plan.ensures.closes;
   sayable = sayable_of _ _ _ _ c.requires.found c.in_ok-plan.ensures.short;
 })

@@ -3,6 +3,8 @@ use Rattle.session.proofs.define.plan_define.Goals as goal
 pub plan_put-requires : goal.plan_put-requires
 plan_put-requires g c = record {
   identifier = c.is_entry.ensures.identifier;
+  own = c.in-Some.is;
   name = c.is_entry.ensures.name;
-  told = c.filled_is_told.ensures _ _ _ c.in-Ok.ensures c.fill_domain-def.ensures;
+  short = c.filled_reads_back.ensures.short _ _ _ c.in-Ok.ensures c.filled-def.ensures;
+  reads_back = c.filled_reads_back.ensures.back _ _ _ c.in-Ok.ensures c.filled-def.ensures;
 }

@@ -4,5 +4,5 @@ use Rattle.session.proofs.lookup.describe.Goals as goal
 
 pub returns-in_ok-print_domain-in-Some-clause-short : goal.returns-in_ok-print_domain-in-Some-clause-short
 returns-in_ok-print_domain-in-Some-clause-short c =
-    let kept = identified_kept c.args.uuid.now c.args.map.now _ c.identified.ensures.kept (search rules) in
+    let kept = identified_kept c.args.uuid.now c.args.map.now _ c.identified.ensures.kept.each (search rules) in
     rw c.in_ok-print_domain-in-Some.ensures.spelling ((refl, text_fits _ kept), text_short _ kept)

@@ -4,7 +4,7 @@ use Rattle.session_spec.specs.Definitions.{with_definition}
 use Rattle.session.proofs.map.PlainMap.put.Goals as goal
 
 pub invariant_of-self-2 : goal.invariant_of-self-2
-invariant_of-self-2 c = rw (c.in_ok-insert.ensures.entries, c.as_bytes.ensures) (put_kept _ _ _ _ c.self.invariant c.requires)
+invariant_of-self-2 c = rw (c.in_ok-insert.ensures.entries, c.as_bytes.ensures) (put_kept _ (λ a b. refl) _ _ _ c.self.invariant c.requires.kept (search rules))
 
 pub returns-clause-ok : goal.returns-clause-ok
 returns-clause-ok c =
