@@ -4,6 +4,7 @@
 
 mod cell;
 mod kept;
+mod laws;
 mod plays;
 mod steps;
 mod turn;
@@ -11,5 +12,6 @@ mod view;
 
 pub use cell::{NoMemory, Spent, TurnCell};
 pub use kept::Kept;
+pub use laws::{a_turn_tells, turns_add_up};
 pub use turn::{Pass, PassOf, Turn, TurnOf};
 pub use view::{Knows, Stage, View};
