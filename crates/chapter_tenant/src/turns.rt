@@ -49,7 +49,7 @@ pub fn write_once<R: Wait>(
 ) -> Result<ReadingsPass, (ReadingsPass, NotWritten)>
     requires { pass.cell ≡ cell.now }
     ensures ok { IfOk result (λ after. HasWritten value pass after) }
-    ensures err { IfErr result (λ e. KeptBack pass e.0) }
+    ensures err { IfErr result (λ e. KeptBack e.1 pass e.0) }
 {
     let mut turn = match cell.enter(rt, pass) {
         Ok(turn) => turn,

@@ -52,10 +52,10 @@ added_total number amount (x ∷ xs) h =
 pub both_totals : (times : ℕ) (value : List Amount) (first rest cut one other pass : Passed (Unit {0}) Amount (Unit {0})) → IsFirst meaning [] first → rest.mine ≡ first.mine → rest.ended ≡ first.ended → IsCutOff meaning first cut
     → HasAddedMany 1 times rest one → HasAddedMany 1 times cut other → pass ≡ joined one other → Closes meaning pass value → total_of value ≡ times + times
 both_totals times value first rest cut one other pass is same_mine same_ended off a b both end =
-    let mine : one.mine ≡ a.more = a.mine ∙ (ap (λ (l : List (ℕ × Amount)). l ++ a.more) (same_mine ∙ ap (λ (p : Passed (Unit {0}) Amount (Unit {0})). p.mine) is)) in
-    let theirs : other.mine ≡ b.more = b.mine ∙ (ap (λ (l : List (ℕ × Amount)). l ++ b.more) (ap (λ (p : Passed (Unit {0}) Amount (Unit {0})). p.mine) off.rest)) in
-    let none : one.ended ≡ [] = a.ended ∙ (same_ended ∙ ap (λ (p : Passed (Unit {0}) Amount (Unit {0})). p.ended) is) in
-    let none' : other.ended ≡ [] = b.ended ∙ ap (λ (p : Passed (Unit {0}) Amount (Unit {0})). p.ended) off.rest in
+    let mine : one.mine ≡ a.more = a.went.mine ∙ (ap (λ (l : List (ℕ × Amount)). l ++ a.more) (same_mine ∙ ap (λ (p : Passed (Unit {0}) Amount (Unit {0})). p.mine) is)) in
+    let theirs : other.mine ≡ b.more = b.went.mine ∙ (ap (λ (l : List (ℕ × Amount)). l ++ b.more) (ap (λ (p : Passed (Unit {0}) Amount (Unit {0})). p.mine) off.rest)) in
+    let none : one.ended ≡ [] = a.went.same.ended ∙ (same_ended ∙ ap (λ (p : Passed (Unit {0}) Amount (Unit {0})). p.ended) is) in
+    let none' : other.ended ≡ [] = b.went.same.ended ∙ ap (λ (p : Passed (Unit {0}) Amount (Unit {0})). p.ended) off.rest in
     let last : Ended Amount = record { number = other.number; mine = other.mine } in
     let ended : pass.ended ≡ last ∷ [] = ap (λ (p : Passed (Unit {0}) Amount (Unit {0})). p.ended) both ∙ (λ i. none i ++ last ∷ none' i) in
     let number : pass.number ≡ one.number = ap (λ (p : Passed (Unit {0}) Amount (Unit {0})). p.number) both in

@@ -46,7 +46,7 @@ pub fn add_once<R: Wait>(
 ) -> Result<CounterPass, (CounterPass, NotAdded)>
     requires { pass.cell ≡ cell.now }
     ensures ok { IfOk result (λ after. HasAdded amount pass after) }
-    ensures err { IfErr result (λ e. KeptBack pass e.0) }
+    ensures err { IfErr result (λ e. KeptBack e.1 pass e.0) }
 {
     let mut turn = match cell.enter(rt, pass) {
         Ok(turn) => turn,

@@ -7,7 +7,7 @@ use Rattle.history_spec.proofs.Beginnings.{begins_itself, begins_through}
 use Rattle.turn_cell.specs.Meaning.{Meaning, NoMarkLowers, NewBaseKeeps}
 use Rattle.turn_cell.specs.Known.{IsBegun}
 use Rattle.turn_cell.specs.Passes.{Passed, Turned, Enters, SameShare, left_by}
-use Rattle.turn_cell.specs.Turning.{SamePass, AreBy, Changes, HasTurned, Holds, Went, TurnTells, TurnsAddUp}
+use Rattle.turn_cell.specs.Turning.{AreBy, Changes, HasTurned, Holds, Went, TurnTells, TurnsAddUp}
 use Rattle.turn_cell.proofs.Knowledge.{goes_on_begins}
 
 module _ {T B M S : Type 0} (K : Meaning T B M S) where

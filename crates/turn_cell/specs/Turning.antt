@@ -1,5 +1,5 @@
 -- What turns tell the caller of a cell, whatever the value.
-use Rattle.std.specs.Prelude.{◌≡◌, ℕ, ◌+◌, ◌++◌, Bool, false, List, [], ◌∷◌, Option, Some}
+use Rattle.std.specs.Prelude.{◌≡◌, ℕ, ◌+◌, ◌++◌, false, List, [], ◌∷◌, Some}
 use Rattle.history_spec.specs.Chapter.{GoesOn, added, tagged}
 use Rattle.history_spec.specs.Pass.{own, AreOf, mine_after, held_after}
 use Rattle.turn_cell.specs.Meaning.{Meaning}
