@@ -6,7 +6,7 @@ use Rattle.history_spec.specs.Pass.{AreOf, held_if}
 use Rattle.history_spec.proofs.Marks.{added-more, added-next}
 use Rattle.turn_cell.specs.Passes.{Passed, Turned, Enters, left_by}
 use Rattle.turn_cell.specs.Turning.{Changes, Went}
-use Rattle.turn_cell.proofs.Turning.{changes_by, turn_tells}
+use Rattle.turn_cell.proofs.Turning.{changes_by, nothing_changes, turn_tells}
 use Rattle.chapter_tenant.specs.declared.readings.Reading.{Reading}
 use Rattle.chapter_tenant.specs.Reading.{latest, Writes}
 use Rattle.chapter_tenant.specs.Keeping.{meaning, no_mark_lowers, new_base_keeps, HasWritten}
@@ -34,10 +34,6 @@ wrote false number old m is =
 pub writes_changes : (number value : ℕ) (old new : Held) (w : Writes number value old new) → Changes meaning number (record { by = w.0; value = value } ∷ []) old new
 writes_changes number value old new w = let m : Reading = record { by = w.0; value = value } in subst (Changes meaning number (m ∷ []) old) (sym w.2) (wrote (ltb (length old.marks) 8) number old m w.1)
 
-pub nothing_changes : (number : ℕ) (old new : Held) → new ≡ old → Changes meaning number [] old new
-nothing_changes number old new e = subst (Changes meaning number [] old) (sym e)
-    (changes_by meaning number [] old old (inl (record { chapter = refl; base = refl; marks = ([], append-nil old.marks) })) (added-more old old [] refl (append-nil old.marks)) tt (λ j other. refl))
-
 pub writes_goes_on : (number value : ℕ) (old new : Held) → Writes number value old new → GoesOn (meaning.next_base old) old new
 writes_goes_on number value old new w = (writes_changes number value old new w).goes_on
 
@@ -45,7 +41,7 @@ pub writes_are_of : (number value : ℕ) (old new : Held) → Writes number valu
 writes_are_of number value old new w = (writes_changes number value old new w).marks
 
 pub nothing_goes_on : (old new : Held) → new ≡ old → GoesOn (meaning.next_base old) old new
-nothing_goes_on old new e = (nothing_changes 0 old new e).goes_on
+nothing_goes_on old new e = (nothing_changes meaning 0 old new e).goes_on
 
 -- the pass after the turn
 pub written : (value : ℕ) (before : Pass) (turn now : Turn) (after : Pass) → Enters meaning before turn → Writes turn.pass.number value turn.value now.value → now ≡ record turn { value = now.value } → after ≡ left_by meaning now → HasWritten value before after
@@ -62,4 +58,4 @@ written value before turn now after enters writes same left =
     }
 
 pub wrote_nothing : (before : Pass) (turn now : Turn) (after : Pass) → Enters meaning before turn → now.value ≡ turn.value → now ≡ record turn { value = now.value } → after ≡ left_by meaning now → Went meaning 1 [] before after
-wrote_nothing before turn now after enters value same left = (turn_tells meaning no_mark_lowers new_base_keeps [] before after turn now enters same (nothing_changes turn.pass.number turn.value now.value value) left).1
+wrote_nothing before turn now after enters value same left = (turn_tells meaning no_mark_lowers new_base_keeps [] before after turn now enters same (nothing_changes meaning turn.pass.number turn.value now.value value) left).1

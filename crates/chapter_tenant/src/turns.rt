@@ -5,11 +5,11 @@ ghost use Rattle.chapter_tenant.specs.Keeping.{HasWritten, KeptBack};
 use crate::readings::Readings;
 use std::alloc::AllocError;
 use std::sync::Wait;
-use turn_cell::{PassOf, TurnCell, TurnOf};
+use turn_cell::{Pass, Turn, TurnCell};
 
-pub type ReadingsPass = PassOf<Readings>;
+pub type ReadingsPass = Pass<Readings>;
 
-pub type ReadingsTurn = TurnOf<Readings>;
+pub type ReadingsTurn = Turn<Readings>;
 
 /// Why a pass wrote nothing.
 #[derive(Clone, Copy, Debug, PartialEq, Eq, Drop)]

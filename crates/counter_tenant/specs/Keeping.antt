@@ -6,6 +6,7 @@ use Rattle.turn_cell.specs.Meaning.{Meaning, NoMarkLowers, NewBaseKeeps}
 use Rattle.turn_cell.specs.Passes.{Passed}
 use Rattle.turn_cell.specs.Turning.{Went}
 use Rattle.counter_tenant.specs.declared.counter.Amount.{Amount}
+use Rattle.counter_tenant.specs.Counting.{total_of}
 use Rattle.counter_tenant.specs.declared.turns.NotAdded.{NotAdded}
 use Rattle.counter_tenant.specs.declared.turns.NotAdded.TheVariants.{Spent, Fault}
 
@@ -31,6 +32,11 @@ pub record HasAdded (amount : ℕ) (before after : Passed (Unit {0}) Amount (Uni
   pub by : Stamp
   pub number : by.number ≡ before.number
   pub went : Went meaning 1 ((0, record { by = by; amount = amount }) ∷ []) before after
+
+-- a pass, after a turn without a mark in which it read this total
+pub record HasLooked (total : ℕ) (before after : Passed (Unit {0}) Amount (Unit {0})) : Type 0 where
+  pub went : Went meaning 1 [] before after
+  pub total_is : total ≡ total_of after.seen.marks
 
 -- a pass that added nothing: it is spent, or had a turn without a mark
 abbrev pub KeptBack : NotAdded → Passed (Unit {0}) Amount (Unit {0}) → Passed (Unit {0}) Amount (Unit {0}) → Type 0

@@ -1,9 +1,10 @@
 -- One turn of a pass, and several, whatever the value.
-use Rattle.std.proofs.Common.{◌≡◌, ℕ, ◌+◌, Bool, true, cond, eq-eqb, List, [], ◌∷◌, ◌++◌, Option, refl, sym, ap, ◌∙◌, subst, append_assoc, append-nil, arith}
+use Rattle.std.proofs.Common.{◌≡◌, ℕ, ◌+◌, Bool, true, cond, eq-eqb, List, [], ◌∷◌, ◌++◌, Option, inl, refl, sym, ap, ◌∙◌, subst, append_assoc, append-nil, arith}
 use Rattle.history_spec.specs.declared.history.History.{History}
 use Rattle.history_spec.specs.Chapter.{GoesOn, added, tagged}
 use Rattle.history_spec.specs.Pass.{bears, IsOf, AreOf, own, held_if}
 use Rattle.history_spec.proofs.Beginnings.{begins_itself, begins_through}
+use Rattle.history_spec.proofs.Marks.{added-more}
 use Rattle.turn_cell.specs.Meaning.{Meaning, NoMarkLowers, NewBaseKeeps}
 use Rattle.turn_cell.specs.Known.{IsBegun}
 use Rattle.turn_cell.specs.Passes.{Passed, Turned, Enters, SameShare, left_by}
@@ -29,6 +30,11 @@ module _ {T B M S : Type 0} (K : Meaning T B M S) where
     others = others;
     own_marks = ap (own K.whose number) is ∙ own_is number more by;
   }
+
+  pub nothing_changes : (number : ℕ) (entry left : T) → left ≡ entry → Changes K number [] entry left
+  nothing_changes number entry left e =
+      let h = K.history entry in
+      subst (Changes K number [] entry) (sym e) (changes_by number [] entry entry (inl (record { chapter = refl; base = refl; marks = ([], append-nil h.marks) })) (added-more h h [] refl (append-nil h.marks)) tt (λ j other. refl))
 
   pub has_turned : (before after : Passed B M S) (turn now : Turned T B M S) → Enters K before turn → now ≡ record turn { value = now.value } → after ≡ left_by K now → HasTurned K before after turn.entry now.value
   has_turned before after turn now enters same left =

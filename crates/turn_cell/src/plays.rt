@@ -1,4 +1,5 @@
 //! The rule of the table, and what each step tells.
+use crate::home::Home;
 use crate::kept::Kept;
 use crate::view::View;
 use atomic_table::{Join, Play, Split, TableRule};
@@ -11,7 +12,7 @@ pub struct InTurns<T> {
     of: PhantomData<T>,
 }
 
-impl<T: Kept> TableRule<Option<T>, ViewOf<T>, Snapshot<T>> for InTurns<T> {
+impl<T: Kept> TableRule<Option<Home<T>>, ViewOf<T>, Snapshot<T>> for InTurns<T> {
     ghost use Rattle.turn_cell.specs.Rule.{IsRuled, newcomer};
 
     ghost holds = { λ _. IsRuled T.meaning };
@@ -22,7 +23,7 @@ impl<T: Kept> TableRule<Option<T>, ViewOf<T>, Snapshot<T>> for InTurns<T> {
 /// Drawing a ticket.
 pub(crate) struct Draw;
 
-impl<T, B, M, S> Play<Option<T>, View<T, B, M, S>> for Draw {
+impl<T, B, M, S> Play<Option<Home<T>>, View<T, B, M, S>> for Draw {
     ghost use Rattle.turn_cell.specs.Steps.{draws};
 
     ghost then = { draws };
@@ -33,7 +34,7 @@ pub(crate) struct Look<T> {
     of: PhantomData<T>,
 }
 
-impl<T: Kept> Play<Option<T>, ViewOf<T>> for Look<T> {
+impl<T: Kept> Play<Option<Home<T>>, ViewOf<T>> for Look<T> {
     ghost use Rattle.turn_cell.specs.Steps.{looks};
 
     ghost then = { looks T.meaning };
@@ -44,7 +45,7 @@ pub(crate) struct Publish<T> {
     of: PhantomData<T>,
 }
 
-impl<T: Kept> Play<Option<T>, ViewOf<T>> for Publish<T> {
+impl<T: Kept> Play<Option<Home<T>>, ViewOf<T>> for Publish<T> {
     ghost use Rattle.turn_cell.specs.Steps.{publishes};
 
     ghost then = { publishes T.meaning };
@@ -53,7 +54,7 @@ impl<T: Kept> Play<Option<T>, ViewOf<T>> for Publish<T> {
 /// Passing the turn on.
 pub(crate) struct PassOn;
 
-impl<T, B, M, S> Play<Option<T>, View<T, B, M, S>> for PassOn {
+impl<T, B, M, S> Play<Option<Home<T>>, View<T, B, M, S>> for PassOn {
     ghost use Rattle.turn_cell.specs.Steps.{passes_on};
 
     ghost then = { passes_on };
@@ -75,7 +76,7 @@ impl<T: Kept> Split<ViewOf<T>> for Cut<T> {
 /// Taking a number, of a pass that was cut off.
 pub(crate) struct Name;
 
-impl<T, B, M, S> Play<Option<T>, View<T, B, M, S>> for Name {
+impl<T, B, M, S> Play<Option<Home<T>>, View<T, B, M, S>> for Name {
     ghost use Rattle.turn_cell.specs.Steps.{is_named};
 
     ghost then = { is_named };
@@ -99,7 +100,7 @@ pub(crate) struct Meet<T> {
     of: PhantomData<T>,
 }
 
-impl<T: Kept> Play<Option<T>, ViewOf<T>> for Meet<T> {
+impl<T: Kept> Play<Option<Home<T>>, ViewOf<T>> for Meet<T> {
     ghost use Rattle.turn_cell.specs.Steps.{meets};
 
     ghost then = { meets T.meaning };
