@@ -43,7 +43,7 @@ module _ {T B M S : Type 0} (K : Meaning T B M S) where
       let whole : record turn { value = now.value } ≡ at = λ i. record { pass = enters.pass i; ticket = turn.ticket; entry = turn.entry; value = now.value } in
       let is : after ≡ left_by K at = left ∙ ap (left_by K) (same ∙ whole) in
       record {
-        same = record { cell = ap (λ (p : P). p.cell) is; number = ap (λ (p : P). p.number) is; parts = ap (λ (p : P). p.parts) is; ended = ap (λ (p : P). p.ended) is };
+        same = record { cell = ap (λ (p : P). p.cell) is; first = ap (λ (p : P). p.first) is; number = ap (λ (p : P). p.number) is; parts = ap (λ (p : P). p.parts) is; ended = ap (λ (p : P). p.ended) is };
         fresh = enters.fresh;
         spent = ap (λ (p : P). p.spent) is ∙ enters.fresh;
         turns = ap (λ (p : P). p.turns) is;
@@ -66,7 +66,7 @@ module _ {T B M S : Type 0} (K : Meaning T B M S) where
 
   pub went_nowhere : (pass : Passed B M S) → Went K 0 [] pass pass
   went_nowhere pass = record {
-    same = record { cell = refl; number = refl; parts = refl; ended = refl };
+    same = record { cell = refl; first = refl; number = refl; parts = refl; ended = refl };
     spent = refl;
     turns_rose = omega arith;
     seen = begins_itself K.rising pass.seen;
@@ -99,7 +99,7 @@ module _ {T B M S : Type 0} (K : Meaning T B M S) where
 
   pub went_on : NoMarkLowers K → TurnsAddUp K
   went_on lowers m n xs ys a b c p q = record {
-    same = record { cell = q.same.cell ∙ p.same.cell; number = q.same.number ∙ p.same.number; parts = q.same.parts ∙ p.same.parts; ended = q.same.ended ∙ p.same.ended };
+    same = record { cell = q.same.cell ∙ p.same.cell; first = q.same.first ∙ p.same.first; number = q.same.number ∙ p.same.number; parts = q.same.parts ∙ p.same.parts; ended = q.same.ended ∙ p.same.ended };
     spent = q.spent ∙ p.spent;
     turns_rose = omega (arith, p.turns_rose, q.turns_rose);
     seen = begins_through K.rising lowers a.seen b.seen c.seen p.seen q.seen;

@@ -9,6 +9,7 @@ use Rattle.turn_cell.specs.Passes.{Passed, Turned, Enters, SameShare, left_by}
 -- it is the same pass, with the same right to close
 pub record SamePass {B M S : Type 0} (before after : Passed B M S) : Type 0 where
   pub cell : after.cell ≡ before.cell
+  pub first : after.first ≡ before.first
   pub number : after.number ≡ before.number
   pub parts : after.parts ≡ before.parts
   pub ended : after.ended ≡ before.ended

@@ -2,11 +2,11 @@ ghost use Rattle.std.specs.Prelude.{◌≡◌, ◌≢◌, ℕ, ◌≤◌, ◌<�
 ghost use Rattle.history_spec.specs.Chapter.{GoesOn, added};
 ghost use Rattle.history_spec.specs.Pass.{AreOf};
 ghost use Rattle.turn_cell.specs.Known.{IsBegun, AreApart};
-ghost use Rattle.turn_cell.specs.Passes.{IsFirst, Enters, left_by, SameShare, Closes, KeepsNothing, IsCutOff, joined};
+ghost use Rattle.turn_cell.specs.Passes.{IsFirst, Enters, left_by, SameShare, Closes, KeepsNothing, IsCutOff, joined, turns_of_all};
 
 use crate::home::Home;
 use crate::kept::Kept;
-use crate::plays::{InTurns, ViewOf};
+use crate::plays::{InTurns, Opening, ViewOf};
 use crate::sleepers::{Sleepers, low_bits};
 use crate::steps::{come_in, cut, draw, glue, pass_on, rest, wait_for, wake};
 use crate::turn::{Pass, Turn};
@@ -22,7 +22,7 @@ const LAST: u64 = 1 << 62;
 /// A value that is changed in turns. Contracts see which cell it is.
 #[derive(Drop)]
 pub struct TurnCell<T: Kept> {
-    table: Table<Option<Home<T>>, ViewOf<T>, Snapshot<T>, InTurns<T>, Global>,
+    table: Table<Option<Home<T>>, ViewOf<T>, Opening<T>, InTurns<T>, Global>,
     sleepers: Sleepers,
 }
 
@@ -62,10 +62,10 @@ impl<T: Kept + Drop> TurnCell<T> {
         requires marks { AreOf T.meaning.whose 0 (T.meaning.history value).marks }
         requires share { KeepsNothing T.meaning value }
         ensures cell { IfOk result (λ made. made.1.cell ≡ made.0) }
-        ensures pass { IfOk result (λ made. IsFirst T.meaning value made.1) }
+        ensures pass { IfOk result (λ made. IsFirst T.meaning value first_ticket made.1) }
         ensures err { IfErr result (λ e. e.0 ≡ value) }
     {
-        let about = Snapshot::of(&value);
+        let about = (Snapshot::of(&value), first_ticket);
         let marks = value.marks();
         let home = match Home::new(alloc, value) {
             Ok(home) => home,
@@ -96,12 +96,15 @@ impl<T: Kept + Drop> TurnCell<T> {
     }
 
     /// Waits for the pass's turn, and takes the value. A pass is `Spent` where no ticket is left,
-    /// and stays so. The ticket word has then reached the number in it.
+    /// and stays so. The ticket word has then reached the number in it. Where no other pass is left,
+    /// all tickets from the first one on were drawn for this one's turns and those of the passes that
+    /// were joined into it.
     pub fn enter<R: Wait>(&self, rt: &R, pass: Pass<T>) -> Result<Turn<T>, (Pass<T>, Spent)>
         requires own { pass.cell ≡ self.now }
         ensures turn { IfOk result (λ turn. Enters T.meaning pass turn) }
         ensures spent { IfErr result (λ e. e.0 ≡ record pass { spent = true }) }
         ensures ticket { IfErr result (λ e. e.1.ticket ≡ 2 ^ 62) }
+        ensures used_up { IfErr result (λ _. pass.spent ≡ false → pass.parts ≡ 2 ^ 62 → 2 ^ 62 ≤ pass.first + turns_of_all pass) }
     {
         let Pass {
             mut seat,

@@ -8,16 +8,19 @@ use std::snapshot::Snapshot;
 
 pub(crate) type ViewOf<T> = View<T, <T as Kept>::Base, <T as Kept>::Mark, <T as Kept>::Share>;
 
+/// What the cell was made with: the value, and the ticket of the first turn.
+pub(crate) type Opening<T> = (Snapshot<T>, u64);
+
 pub struct InTurns<T> {
     of: PhantomData<T>,
 }
 
-impl<T: Kept> TableRule<Option<Home<T>>, ViewOf<T>, Snapshot<T>> for InTurns<T> {
+impl<T: Kept> TableRule<Option<Home<T>>, ViewOf<T>, Opening<T>> for InTurns<T> {
     ghost use Rattle.turn_cell.specs.Rule.{IsRuled, newcomer};
 
     ghost holds = { λ _. IsRuled T.meaning };
 
-    ghost first = { λ key. newcomer T.meaning key.value };
+    ghost first = { λ key. newcomer T.meaning key.0.value key.1 };
 }
 
 /// Drawing a ticket.
@@ -52,12 +55,14 @@ impl<T: Kept> Play<Option<Home<T>>, ViewOf<T>> for Publish<T> {
 }
 
 /// Passing the turn on.
-pub(crate) struct PassOn;
+pub(crate) struct PassOn<T> {
+    of: PhantomData<T>,
+}
 
-impl<T, B, M, S> Play<Option<Home<T>>, View<T, B, M, S>> for PassOn {
+impl<T: Kept> Play<Option<Home<T>>, ViewOf<T>> for PassOn<T> {
     ghost use Rattle.turn_cell.specs.Steps.{passes_on};
 
-    ghost then = { passes_on };
+    ghost then = { passes_on T.meaning };
 }
 
 /// Cutting one part off a pass.
@@ -74,12 +79,14 @@ impl<T: Kept> Split<ViewOf<T>> for Cut<T> {
 }
 
 /// Taking a number, of a pass that was cut off.
-pub(crate) struct Name;
+pub(crate) struct Name<T> {
+    of: PhantomData<T>,
+}
 
-impl<T, B, M, S> Play<Option<Home<T>>, View<T, B, M, S>> for Name {
+impl<T: Kept> Play<Option<Home<T>>, ViewOf<T>> for Name<T> {
     ghost use Rattle.turn_cell.specs.Steps.{is_named};
 
-    ghost then = { is_named };
+    ghost then = { is_named T.meaning };
 }
 
 /// Putting two passes together.

@@ -1,16 +1,15 @@
 //! The steps of a turn, each on a table's shared part.
-ghost use Rattle.std.specs.Prelude.{◌≡◌, ◌<◌, true, false, [], ◌∷◌, MatchBool, None};
+ghost use Rattle.std.specs.Prelude.{◌≡◌, ◌<◌, ◌≤◌, ◌^◌, true, false, [], ◌∷◌, MatchBool, None};
 ghost use Rattle.turn_cell.specs.declared.view.Stage.TheVariants.{Idle, Waiting, Holding};
-ghost use Rattle.turn_cell.specs.Steps.{drawn, Takes, left_at, with_stage, one_fewer, one_part, is_named, together, Meets};
+ghost use Rattle.turn_cell.specs.Steps.{drawn, IsUsedUp, Takes, left_at, with_stage, one_fewer, one_part, together, RestsIn, Meets};
 ghost use Rattle.turn_cell.specs.Passes.{HasTurn, Leaves, CanPart, CanJoin, IsNewPart};
 
 use crate::home::Home;
 use crate::kept::Kept;
-use crate::plays::{Cut, Draw, Glue, InTurns, Look, Meet, Name, PassOn, Publish, ViewOf};
+use crate::plays::{Cut, Draw, Glue, InTurns, Look, Meet, Name, Opening, PassOn, Publish, ViewOf};
 use crate::sleepers::{Sleepers, low_bits};
 use atomic_table::{Seat, Shared};
 use std::hint::spin_loop;
-use std::snapshot::Snapshot;
 use std::sync::Wait;
 use std::time::Duration;
 
@@ -23,7 +22,7 @@ const SERVING: usize = 1;
 /// The word with the number of marks of the chapter.
 const FRONT: usize = 2;
 
-pub(crate) type Board<T> = Shared<Option<Home<T>>, ViewOf<T>, Snapshot<T>, InTurns<T>>;
+pub(crate) type Board<T> = Shared<Option<Home<T>>, ViewOf<T>, Opening<T>, InTurns<T>>;
 
 pub(crate) type Place<T> = Seat<Option<Home<T>>, ViewOf<T>>;
 
@@ -77,6 +76,7 @@ pub(crate) fn draw<T: Kept>(board: &Board<T>, seat: &mut Place<T>) -> u64
     requires parts { 0 < seat.old.me.0.knows.parts }
     ensures seat { (seat.new.table_id ≡ seat.old.table_id) × (seat.new.id ≡ seat.old.id) }
     ensures drawn { seat.new.me ≡ (drawn seat.old.me.0 result, seat.old.me.1) }
+    ensures used_up { 2 ^ 62 ≤ result → IsUsedUp seat.old.me.0 }
 {
     board.fetch_add::<Draw>(seat, NEXT, 1)
 }
@@ -134,12 +134,13 @@ pub(crate) fn pass_on<T: Kept + Drop>(board: &Board<T>, seat: &mut Place<T>, hom
     requires turn { Leaves T.meaning seat.old.me home }
     ensures seat { (seat.new.table_id ≡ seat.old.table_id) × (seat.new.id ≡ seat.old.id) }
     ensures left { seat.new.me ≡ (with_stage (left_at T.meaning seat.old.me.0.stage seat.old.me.0 home) Idle, []) }
+    ensures rests { RestsIn T.meaning seat.new.me.0 }
 {
     let marks = home.get().marks();
     drop(board.exchange(seat, 0, Some(home)));
     let is_moved = board.peek(FRONT) != marks;
     board.store::<Publish<T>>(seat, FRONT, marks);
-    let ticket = board.fetch_add::<PassOn>(seat, SERVING, 1);
+    let ticket = board.fetch_add::<PassOn<T>>(seat, SERVING, 1);
     Left {
         front: low_bits(marks),
         is_moved,
@@ -182,7 +183,7 @@ pub(crate) fn cut<T: Kept>(board: &Board<T>, seat: &mut Place<T>) -> Place<T>
     ensures new { IsNewPart T.meaning seat.old.me.0 result.me }
 {
     let mut part = board.split_seat::<Cut<T>>(seat);
-    board.load::<Name>(&mut part, NEXT);
+    board.load::<Name<T>>(&mut part, NEXT);
     part
 }
 
@@ -193,7 +194,7 @@ pub(crate) fn glue<T: Kept>(board: &Board<T>, seat: &mut Place<T>, other: Place<
     requires passes { CanJoin T.meaning seat.old.me other.me }
     ensures seat { (seat.new.table_id ≡ seat.old.table_id) × (seat.new.id ≡ seat.old.id) }
     ensures both { seat.new.me ≡ (together seat.old.me.0 other.me.0, seat.old.me.1) }
-    ensures meets { Meets T.meaning seat.new.me.0.knows }
+    ensures meets { Meets T.meaning seat.new.me.0 }
 {
     board.join_seat::<Glue<T>>(seat, other);
     board.load::<Meet<T>>(seat, NEXT);

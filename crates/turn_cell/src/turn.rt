@@ -2,6 +2,7 @@ ghost use Rattle.std.specs.Prelude.{◌≡◌};
 ghost use Rattle.std.specs.Borrow.{Lends, sem};
 ghost use Rattle.turn_cell.specs.contracts.turn.Turn.{the_row};
 ghost use Rattle.turn_cell.specs.Lending.{turn_with};
+ghost use Rattle.turn_cell.specs.Passes.{IsSettled};
 
 use crate::home::Home;
 use crate::kept::Kept;
@@ -20,12 +21,22 @@ pub struct Pass<T: Kept> {
 
 impl<T: Kept> Model for Pass<T> {
     ghost use Rattle.turn_cell.specs.Passes.{Passed, passed, IsIdle};
+    ghost use Rattle.turn_cell.specs.Steps.{RestsIn};
 
     ghost Value = { Passed T.Base T.Mark T.Share };
 
     ghost view = { λ p. passed p.seat.table_id p.seat.me.0 };
 
-    ghost invariant = { λ p. IsIdle p.seat.me p.spent };
+    ghost invariant = { λ p. IsIdle p.seat.me p.spent × RestsIn T.meaning p.seat.me.0 };
+}
+
+impl<T: Kept> Pass<T> {
+    /// What a pass knows between turns. It does nothing.
+    pub fn knows(&self)
+        ensures { IsSettled T.meaning self.now }
+    {
+        let _seat = &self.seat;
+    }
 }
 
 /// The value, while a pass has its turn. It has to end in `leave`.
