@@ -18,9 +18,14 @@ pub fn rest<R: Threads + Wait + Sync>(
         return None;
     };
     let (_, others) = cut_off(alloc, &cell, pass, passes.min(1000))?;
-    thread::map_vec(rt, others, &|other: CounterPass| -> ()
-        requires { other.cell ≡ cell }
-    { rest_often(rt, &cell, other, times) }).ok()?;
+    thread::map_vec(
+        rt,
+        others,
+        &|other: CounterPass| -> ()
+            requires { other.cell ≡ cell }
+        { rest_often(rt, &cell, other, times) },
+    )
+    .ok()?;
     Some(())
 }
 
