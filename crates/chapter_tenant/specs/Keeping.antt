@@ -1,12 +1,14 @@
 -- What a turn cell sees in readings: chapters whose base is the reading before.
-use Rattle.std.specs.Prelude.{◌≡◌, ℕ, ◌+◌, ◌++◌, [], ◌∷◌, Some}
+use Rattle.std.specs.Prelude.{◌≡◌, ℕ, true, [], ◌∷◌, Some}
 use Rattle.std.proofs.Common.{le_refl}
 use Rattle.history_spec.specs.declared.history.History.{History}
 use Rattle.history_spec.specs.declared.stamp.Stamp.{Stamp}
 use Rattle.turn_cell.specs.Meaning.{Meaning, NoMarkLowers, NewBaseKeeps}
-use Rattle.turn_cell.specs.Known.{IsBegun}
 use Rattle.turn_cell.specs.Passes.{Passed}
+use Rattle.turn_cell.specs.Turning.{Went}
 use Rattle.chapter_tenant.specs.declared.readings.Reading.{Reading}
+use Rattle.chapter_tenant.specs.declared.turns.NotWritten.{NotWritten}
+use Rattle.chapter_tenant.specs.declared.turns.NotWritten.TheVariants.{Spent, NoMemory}
 use Rattle.chapter_tenant.specs.Reading.{latest}
 
 abbrev pub meaning : Meaning (History ℕ Reading) ℕ Reading (Unit {0})
@@ -28,19 +30,12 @@ new_base_keeps t = le_refl 0
 
 -- a pass, after a turn in which it wrote a reading, in the chapter that it then sees
 pub record HasWritten (value : ℕ) (before after : Passed ℕ Reading (Unit {0})) : Type 0 where
-  pub cell : after.cell ≡ before.cell
-  pub number : after.number ≡ before.number
-  pub parts : after.parts ≡ before.parts
-  pub ended : after.ended ≡ before.ended
-  pub turns : after.turns ≡ before.turns + 1
-  pub seen : IsBegun meaning before.seen after.seen
-  pub mine : (by : Stamp) × (by.number ≡ before.number) × (after.mine ≡ before.mine ++ (after.seen.chapter, record { by = by; value = value }) ∷ [])
+  pub by : Stamp
+  pub number : by.number ≡ before.number
+  pub went : Went meaning 1 ((after.seen.chapter, record { by = by; value = value }) ∷ []) before after
   pub held : after.held ≡ after.seen
 
--- a pass that comes back without having written anything
-pub record KeptBack (before after : Passed ℕ Reading (Unit {0})) : Type 0 where
-  pub cell : after.cell ≡ before.cell
-  pub number : after.number ≡ before.number
-  pub parts : after.parts ≡ before.parts
-  pub ended : after.ended ≡ before.ended
-  pub mine : after.mine ≡ before.mine
+-- a pass that wrote nothing: it is spent, or had a turn without a mark
+abbrev pub KeptBack : NotWritten → Passed ℕ Reading (Unit {0}) → Passed ℕ Reading (Unit {0}) → Type 0
+KeptBack Spent before after = after ≡ record before { spent = true }
+KeptBack NoMemory before after = Went meaning 1 [] before after

@@ -5,11 +5,11 @@ ghost use Rattle.chapter_tenant.specs.Keeping.{HasWritten, KeptBack};
 use crate::readings::Readings;
 use std::alloc::AllocError;
 use std::sync::Wait;
-use turn_cell::{PassOf, TurnCell, TurnOf};
+use turn_cell::{Pass, Turn, TurnCell};
 
-pub type ReadingsPass = PassOf<Readings>;
+pub type ReadingsPass = Pass<Readings>;
 
-pub type ReadingsTurn = TurnOf<Readings>;
+pub type ReadingsTurn = Turn<Readings>;
 
 /// Why a pass wrote nothing.
 #[derive(Clone, Copy, Debug, PartialEq, Eq, Drop)]
@@ -49,7 +49,7 @@ pub fn write_once<R: Wait>(
 ) -> Result<ReadingsPass, (ReadingsPass, NotWritten)>
     requires { pass.cell ≡ cell.now }
     ensures ok { IfOk result (λ after. HasWritten value pass after) }
-    ensures err { IfErr result (λ e. KeptBack pass e.0) }
+    ensures err { IfErr result (λ e. KeptBack e.1 pass e.0) }
 {
     let mut turn = match cell.enter(rt, pass) {
         Ok(turn) => turn,

@@ -1,11 +1,14 @@
 -- What a turn cell sees in a counter: one chapter, whose marks are the amounts.
-use Rattle.std.specs.Prelude.{◌≡◌, ℕ, ◌+◌, ◌++◌, List, [], ◌∷◌, Some}
+use Rattle.std.specs.Prelude.{◌≡◌, ℕ, true, List, [], ◌∷◌, Some}
 use Rattle.std.proofs.Common.{le_refl}
 use Rattle.history_spec.specs.declared.stamp.Stamp.{Stamp}
 use Rattle.turn_cell.specs.Meaning.{Meaning, NoMarkLowers, NewBaseKeeps}
-use Rattle.turn_cell.specs.Known.{IsBegun}
 use Rattle.turn_cell.specs.Passes.{Passed}
+use Rattle.turn_cell.specs.Turning.{Went}
 use Rattle.counter_tenant.specs.declared.counter.Amount.{Amount}
+use Rattle.counter_tenant.specs.Counting.{total_of}
+use Rattle.counter_tenant.specs.declared.turns.NotAdded.{NotAdded}
+use Rattle.counter_tenant.specs.declared.turns.NotAdded.TheVariants.{Spent, Fault}
 
 abbrev pub meaning : Meaning (List Amount) (Unit {0}) Amount (Unit {0})
 meaning = record {
@@ -26,18 +29,16 @@ new_base_keeps t = le_refl 0
 
 -- a pass, after a turn in which it added an amount
 pub record HasAdded (amount : ℕ) (before after : Passed (Unit {0}) Amount (Unit {0})) : Type 0 where
-  pub cell : after.cell ≡ before.cell
-  pub number : after.number ≡ before.number
-  pub parts : after.parts ≡ before.parts
-  pub ended : after.ended ≡ before.ended
-  pub turns : after.turns ≡ before.turns + 1
-  pub seen : IsBegun meaning before.seen after.seen
-  pub mine : (by : Stamp) × (by.number ≡ before.number) × (after.mine ≡ before.mine ++ (0, record { by = by; amount = amount }) ∷ [])
+  pub by : Stamp
+  pub number : by.number ≡ before.number
+  pub went : Went meaning 1 ((0, record { by = by; amount = amount }) ∷ []) before after
 
--- a pass that comes back without having added anything
-pub record KeptBack (before after : Passed (Unit {0}) Amount (Unit {0})) : Type 0 where
-  pub cell : after.cell ≡ before.cell
-  pub number : after.number ≡ before.number
-  pub parts : after.parts ≡ before.parts
-  pub ended : after.ended ≡ before.ended
-  pub mine : after.mine ≡ before.mine
+-- a pass, after a turn without a mark in which it read this total
+pub record HasLooked (total : ℕ) (before after : Passed (Unit {0}) Amount (Unit {0})) : Type 0 where
+  pub went : Went meaning 1 [] before after
+  pub total_is : total ≡ total_of after.seen.marks
+
+-- a pass that added nothing: it is spent, or had a turn without a mark
+abbrev pub KeptBack : NotAdded → Passed (Unit {0}) Amount (Unit {0}) → Passed (Unit {0}) Amount (Unit {0}) → Type 0
+KeptBack Spent before after = after ≡ record before { spent = true }
+KeptBack (Fault fault) before after = Went meaning 1 [] before after

@@ -1,7 +1,7 @@
 -- Many turns of one pass.
-use Rattle.std.specs.Prelude.{◌≡◌, ℕ, ◌++◌, List, [], ◌∷◌, length}
-use Rattle.turn_cell.specs.Known.{IsBegun}
+use Rattle.std.specs.Prelude.{◌≡◌, ℕ, List, [], ◌∷◌, length}
 use Rattle.turn_cell.specs.Passes.{Passed}
+use Rattle.turn_cell.specs.Turning.{Went}
 use Rattle.counter_tenant.specs.declared.counter.Amount.{Amount}
 use Rattle.counter_tenant.specs.Keeping.{meaning}
 
@@ -13,11 +13,6 @@ AreAdded number amount (x ∷ xs) = (x.0 ≡ 0) × (x.1.by.number ≡ number) ×
 -- a pass, after as many turns, in each of which it added this amount
 pub record HasAddedMany (amount times : ℕ) (before after : Passed (Unit {0}) Amount (Unit {0})) : Type 0 where
   pub more : List (ℕ × Amount)
-  pub cell : after.cell ≡ before.cell
-  pub number : after.number ≡ before.number
-  pub parts : after.parts ≡ before.parts
-  pub ended : after.ended ≡ before.ended
-  pub seen : IsBegun meaning before.seen after.seen
-  pub mine : after.mine ≡ before.mine ++ more
+  pub went : Went meaning times more before after
   pub many : length more ≡ times
   pub added : AreAdded before.number amount more

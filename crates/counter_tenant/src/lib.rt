@@ -2,12 +2,16 @@
 #![tactic(auto)]
 
 mod counter;
+mod crowd;
 mod kept;
+#[cfg(test)]
+mod resting_tests;
 #[cfg(test)]
 mod tests;
 mod turns;
 mod two;
 
 pub use counter::{AddFault, Amount, Counter};
-pub use turns::{CounterPass, CounterTurn, NotAdded, add_in, add_once};
+pub use crowd::{add_by_many, cut_off};
+pub use turns::{CounterPass, CounterTurn, NotAdded, add_in, add_once, look_once};
 pub use two::{add_by_two, add_many, count_by_two};

@@ -1,6 +1,7 @@
 ghost use Rattle.std.specs.Prelude.{◌≡◌, IfSome, true};
 
 use super::*;
+use history_spec::{Stamp, Tally};
 use std::mem::size_of;
 use std::sync::Wait;
 use std::test::Fail;
@@ -46,8 +47,10 @@ fn two_threads_count_to_two_thousand(rt: HostRuntime) -> Result<(), Fail> {
 }
 
 #[test]
-fn a_pass_is_small(rt: HostRuntime) {
+fn a_pass_is_small_and_stamps_take_no_bytes(rt: HostRuntime) {
     assert!(rt; size_of::<CounterPass>() <= 16);
+    assert!(rt; size_of::<Stamp>() == 0);
+    assert!(rt; size_of::<Tally>() == 0);
 }
 
 #[test]
@@ -63,5 +66,18 @@ fn a_total_that_would_not_fit_is_refused(rt: HostRuntime) -> Result<(), Fail> {
     };
     assert!(rt; fault == NotAdded::Fault(AddFault::TooMuch));
     assert!(rt; cell.close(pass).len() == 1);
+    Ok(())
+}
+
+#[test]
+fn sixty_four_threads_take_a_thousand_turns_each(rt: HostRuntime) -> Result<(), Fail> {
+    let Ok((cell, pass)) = TurnCell::new_at(rt.alloc(), Counter::new(rt.alloc()), 0) else {
+        return Err("memory".into());
+    };
+    let pass = add_by_many(&rt, rt.alloc(), &cell, pass, 64, 1000).ok_or("no thread's turns")?;
+    let Ok((_, total)) = look_once(&rt, &cell, pass) else {
+        return Err("spent".into());
+    };
+    assert!(rt; total == 64_000);
     Ok(())
 }

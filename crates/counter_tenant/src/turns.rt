@@ -1,14 +1,14 @@
-ghost use Rattle.std.specs.Prelude.{◌≡◌, ℕ, ◌+◌, IfOk, IfErr, OnOk, OnErr};
-ghost use Rattle.counter_tenant.specs.Counting.{Adds};
-ghost use Rattle.counter_tenant.specs.Keeping.{HasAdded, KeptBack};
+ghost use Rattle.std.specs.Prelude.{◌≡◌, ℕ, true, IfOk, IfErr, OnOk, OnErr};
+ghost use Rattle.counter_tenant.specs.Counting.{Adds, total_of};
+ghost use Rattle.counter_tenant.specs.Keeping.{HasAdded, HasLooked, KeptBack};
 
 use crate::counter::{AddFault, Counter};
 use std::sync::Wait;
-use turn_cell::{PassOf, TurnCell, TurnOf};
+use turn_cell::{Pass, Turn, TurnCell};
 
-pub type CounterPass = PassOf<Counter>;
+pub type CounterPass = Pass<Counter>;
 
-pub type CounterTurn = TurnOf<Counter>;
+pub type CounterTurn = Turn<Counter>;
 
 /// Why a pass added nothing.
 #[derive(Clone, Copy, Debug, PartialEq, Eq, Drop)]
@@ -46,7 +46,7 @@ pub fn add_once<R: Wait>(
 ) -> Result<CounterPass, (CounterPass, NotAdded)>
     requires { pass.cell ≡ cell.now }
     ensures ok { IfOk result (λ after. HasAdded amount pass after) }
-    ensures err { IfErr result (λ e. KeptBack pass e.0) }
+    ensures err { IfErr result (λ e. KeptBack e.1 pass e.0) }
 {
     let mut turn = match cell.enter(rt, pass) {
         Ok(turn) => turn,
@@ -58,4 +58,29 @@ pub fn add_once<R: Wait>(
         Ok(()) => Ok(pass),
         Err(fault) => Err((pass, NotAdded::Fault(fault))),
     }
+}
+
+/// Takes a turn and reads the total.
+pub fn look_once<R: Wait>(
+    rt: &R,
+    cell: &TurnCell<Counter>,
+    pass: CounterPass,
+) -> Result<(CounterPass, u64), CounterPass>
+    requires { pass.cell ≡ cell.now }
+    ensures ok { IfOk result (λ r. HasLooked r.1 pass r.0) }
+    ensures spent { IfErr result (λ after. after ≡ record pass { spent = true }) }
+{
+    let mut turn = match cell.enter(rt, pass) {
+        Ok(turn) => turn,
+        Err((pass, _)) => return Err(pass),
+    };
+    let total = total_in(&mut turn);
+    Ok((cell.leave(turn), total))
+}
+
+fn total_in(turn: &mut CounterTurn) -> u64
+    ensures total { result ≡ total_of turn.old.value }
+    ensures same { turn.new ≡ turn.old }
+{
+    turn.value().total()
 }

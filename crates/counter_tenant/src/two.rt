@@ -57,7 +57,7 @@ pub fn add_by_two<R: Threads + Wait + Sync>(
 }
 
 /// Two threads count to this number each, on a new counter. Then their passes are joined, and the
-/// cell is closed. Nothing where a turn or memory was wanting.
+/// cell is closed. `None` where tickets or memory ran out.
 pub fn count_by_two<R: Threads + Wait + Sync>(rt: &R, alloc: Global, times: u64) -> Option<u64>
     ensures { IfSome result (λ total. total ≡ times + times) }
 {

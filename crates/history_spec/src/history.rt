@@ -9,9 +9,10 @@ pub struct History<B, M> {
     pub marks: LinkedList<M>,
 }
 
-/// The number of a pass that was joined into another, and its own marks, each with the number of
-/// its chapter. No value of it is made.
+/// The number of a pass that was joined into another, how many turns it had, and its own marks, each
+/// with the number of its chapter. No value of it is made.
 pub struct Ended<M> {
     pub number: u64,
+    pub turns: u64,
     pub mine: LinkedList<(u64, M)>,
 }

@@ -1,9 +1,10 @@
 use counter_tenant::Counter;
 use std::alloc::Global;
 use std::sync::{Mutex, Wait};
-use std::thread::{Threads, join};
+use std::thread;
+use std::thread::Threads;
 
-/// Counts under a lock, in one, two or four threads.
+/// Counts under a lock, in so many threads.
 pub fn count<R: Threads + Wait + Sync>(
     rt: &R,
     alloc: Global,
@@ -11,26 +12,9 @@ pub fn count<R: Threads + Wait + Sync>(
     each: u64,
 ) -> Option<()> {
     let shared = Mutex::new(Counter::new(alloc));
-    match threads {
-        2 => by_two(rt, &shared, each),
-        4 => {
-            join(
-                rt,
-                || by_two(rt, &shared, each),
-                || by_two(rt, &shared, each),
-            );
-        }
-        _ => add_many(rt, &shared, each),
-    }
+    let threads = usize::try_from(threads).ok()?;
+    thread::map_indices(rt, alloc, threads, &|_: usize| add_many(rt, &shared, each)).ok()?;
     Some(())
-}
-
-fn by_two<R: Threads + Wait + Sync>(rt: &R, shared: &Mutex<Counter>, each: u64) {
-    join(
-        rt,
-        || add_many(rt, shared, each),
-        || add_many(rt, shared, each),
-    );
 }
 
 fn add_many<R: Wait>(rt: &R, shared: &Mutex<Counter>, each: u64) {

@@ -7,14 +7,16 @@ use mathlib.Core.Option.{some, none}
 use lib.ListN.{get_elem?}
 use Rattle.atomic_table.specs.Table.{State, opening}
 use Rattle.atomic_table.proofs.Lists.{at_set, set_else, set_here}
+use Rattle.history_spec.specs.declared.history.Ended.{Ended}
 use Rattle.turn_cell.specs.Meaning.{Meaning}
+use Rattle.turn_cell.specs.Known.{turns_of_ended}
 use Rattle.turn_cell.specs.declared.view.Stage.{Stage}
 use Rattle.turn_cell.specs.declared.view.Stage.TheVariants.{Idle, Waiting, Holding, Published}
 use Rattle.turn_cell.specs.declared.view.Knows.{Knows}
 use Rattle.turn_cell.specs.declared.view.View.{View}
-use Rattle.turn_cell.specs.Rule.{IsDrawn, ticket, has_turn, parts_of, spent_parts, FitsStage, Fits, Placed, Door, newcomer}
-use Rattle.turn_cell.specs.Steps.{with_stage, drawn, drawn_if}
-use Rattle.turn_cell.proofs.Views.{each_set, at_length, one_at, sum_set, same_sum, only, two_le}
+use Rattle.turn_cell.specs.Rule.{IsDrawn, ticket, has_turn, parts_of, spent_parts, turns_in, Counts, FitsStage, Fits, Placed, Door, newcomer}
+use Rattle.turn_cell.specs.Steps.{with_stage, drawn, drawn_if, IsUsedUp}
+use Rattle.turn_cell.proofs.Views.{each_set, at_length, one_at, sum_set, same_sum, sum_alone, only, two_le}
 
 no_turn : {T : Type 0} (st : Stage T) → (has_turn st ≡ true → ⊥) → has_turn st ≡ false
 no_turn Idle h = refl
@@ -50,6 +52,19 @@ module _ {T B M S : Type 0} where
   pub drawn_knows : (b : Bool) (v : View T B M S) (n : ℕ) → (drawn_if b v n).knows ≡ v.knows
   drawn_knows true v n = refl
   drawn_knows false v n = refl
+
+  drawn_first : (b : Bool) (v : View T B M S) (n : ℕ) → (drawn_if b v n).first ≡ v.first
+  drawn_first true v n = refl
+  drawn_first false v n = refl
+
+  drawn_on : (b : Bool) (v : View T B M S) (n first sum after : ℕ) → ltb n 4611686018427387904 ≡ b → after + turns_in v ≡ sum + turns_in (drawn_if b v n)
+      → ((t : ℕ) → t ≤ n → t ≤ 4611686018427387904 → t ≤ first + sum) → (t : ℕ) → t ≤ n + 1 → t ≤ 4611686018427387904 → t ≤ first + after
+  drawn_on true v n first sum after is e so_far t le most = let l = ltb-true _ _ is in let k = so_far n (le_refl n) (omega arith) in omega arith
+  drawn_on false v n first sum after is e so_far t le most = let l = ltb-false _ _ is in let k = so_far t (omega arith) most in omega arith
+
+  -- a view that counts the same turns counts as before
+  pub counts_same : (first : ℕ) (v w : View T B M S) → w.first ≡ v.first → w.knows.parts ≡ v.knows.parts → turns_in w ≡ turns_in v → Counts first v → Counts first w
+  counts_same first v w is parts turns c = record { first = λ p. is ∙ c.first (omega (arith, p, parts)); gone = λ e. turns ∙ c.gone (sym parts ∙ e) }
 
   drawn_out : (b : Bool) (v : View T B M S) (n : ℕ) → v.stage ≡ Idle → has_turn (drawn_if b v n).stage ≡ false
   drawn_out true v n idle = refl
@@ -135,6 +150,11 @@ module _ {T B M S : Type 0} (K : Meaning T B M S) where
             (λ j u _ e. let f = d.each j u e in record { stage = later_next (get_or s.words 1 0) n (n + 1) x u.stage (omega arith) f.stage; used_up = f.used_up; spent = λ e. let k = f.spent e in omega arith }));
         apart = each_pair s.views id w d.apart (λ j u t _ e a k. omega (arith, drawn_ticket b v n t idle a, ticket_below (get_or s.words 1 0) n x u.stage t (d.each j u e).stage k));
         placed = placed_away s words id v w x serving (ap has_turn idle) (drawn_out b v n idle) at d.placed;
+        first = d.first;
+        drawn = rw next (drawn_on b v n d.first (sum_by turns_in s.views) (sum_by turns_in (set s.views id w)) refl (sum_set turns_in s.views id v w at) d.drawn);
+        counts = each_set (λ _ u. Counts d.first u) s.views id w
+            (record { first = λ p. drawn_first b v n ∙ (d.counts id v at).first some_parts; gone = λ e. absurd (let p = drawn_parts b v n in omega arith) })
+            (λ j u _ e. d.counts j u e);
       }
 
   -- where a view waits with the ticket that is served, none has the turn
@@ -170,6 +190,9 @@ module _ {T B M S : Type 0} (K : Meaning T B M S) where
             (λ j u _ e. d.each j u e);
         apart = each_pair s.views id w d.apart (λ j u k ne e a b. let same : t ≡ k = cc in ne (d.apart j id u v t e at (b ∙ ap Some (sym same)) (ap ticket is)));
         placed = inr (id, w, set_here s.views id w (at_length s.views id v at), refl);
+        first = d.first;
+        drawn = λ k a b. omega (arith, d.drawn k a b, same_sum turns_in s.views id v w at refl);
+        counts = each_set (λ _ u. Counts d.first u) s.views id w (counts_same d.first v w refl refl refl (d.counts id v at)) (λ j u _ e. d.counts j u e);
       }
 
   pub waiting_parts : (v : View T B M S) (t : ℕ) → v.stage ≡ Waiting t → (v.knows.parts ≡ 0 → v.stage ≡ Idle) → 0 < v.knows.parts
@@ -180,11 +203,12 @@ module _ {T B M S : Type 0} (K : Meaning T B M S) where
   others_wait s x d id v at mine j u ne e a = ne (d.apart j id u v (get_or s.words 1 0) e at a mine)
 
   pub door_publishes : (s : St) (x left : T) (d : Door K s x) (id : ℕ) (v : View T B M S) (t : ℕ) (k : Knows B M S) (words : List ℕ) → get_elem? s.views id ≡ some v → v.stage ≡ Holding t x
-      → k.parts ≡ v.knows.parts → 0 < v.knows.parts → (K.history left).chapter ≤ (K.history x).chapter + 1
+      → k.parts ≡ v.knows.parts → k.ended ≡ v.knows.ended → 0 < v.knows.parts → (K.history left).chapter ≤ (K.history x).chapter + 1
       → length words ≡ length s.words → get_or words 0 0 ≡ get_or s.words 0 0 → get_or words 1 0 ≡ get_or s.words 1 0 → get_or words 2 0 ≡ length (K.history left).marks
       → Door K record { words = words; homes = s.homes; views = set s.views id (record v { stage = Published t left; knows = k }) } left
-  door_publishes s x left d id v t k words at is parts some_parts risen long next serving front =
+  door_publishes s x left d id v t k words at is parts ended some_parts risen long next serving front =
       let w : View T B M S = record v { stage = Published t left; knows = k } in
+      let turns : turns_in w ≡ turns_in v = ap (λ (es : List (Ended M)). v.turns + turns_of_ended es) ended in
       let f : FitsStage K (get_or s.words 1 0) (get_or s.words 0 0) x (Holding t x) = subst (FitsStage K (get_or s.words 1 0) (get_or s.words 0 0) x) is (d.each id v at).stage in
       let mine : ticket v.stage ≡ Some (get_or s.words 1 0) = ap ticket is ∙ ap Some f.0 in
       record {
@@ -200,6 +224,9 @@ module _ {T B M S : Type 0} (K : Meaning T B M S) where
             (λ j u ne e. record { stage = of_any_value _ _ x left u.stage (others_wait s x d id v at mine j u ne e) (d.each j u e).stage; used_up = (d.each j u e).used_up; spent = (d.each j u e).spent }));
         apart = each_pair s.views id w d.apart (λ j u n ne e a b. others_wait s x d id v at mine j u ne e (let same : t ≡ n = cc in b ∙ ap Some (sym same ∙ f.0)));
         placed = inr (id, w, set_here s.views id w (at_length s.views id v at), refl);
+        first = d.first;
+        drawn = λ n a b. omega (arith, d.drawn n (omega (arith, a, next)) b, same_sum turns_in s.views id v w at turns);
+        counts = each_set (λ _ u. Counts d.first u) s.views id w (counts_same d.first v w refl parts turns (d.counts id v at)) (λ j u _ e. d.counts j u e);
       }
 
   pub door_passes : (s : St) (x : T) (d : Door K s x) (id : ℕ) (v : View T B M S) (t : ℕ) (words : List ℕ) → get_elem? s.views id ≡ some v → v.stage ≡ Published t x
@@ -228,9 +255,12 @@ module _ {T B M S : Type 0} (K : Meaning T B M S) where
           each_set (λ _ u. has_turn u.stage ≡ false) s.views id w refl
               (λ j u ne e. no_turn u.stage (λ holds. others_wait s x d id v at mine j u ne e (turn_serves _ _ _ u.stage holds (d.each j u e).stage))),
         );
+        first = d.first;
+        drawn = λ k a b. omega (arith, d.drawn k (omega (arith, a, next)) b, same_sum turns_in s.views id v w at refl);
+        counts = each_set (λ _ u. Counts d.first u) s.views id w (counts_same d.first v w refl refl refl (d.counts id v at)) (λ j u _ e. d.counts j u e);
       }
 
-  pub door_opens : (first : ℕ) (x : T) → first ≤ 4611686018427387904 → (K.history x).chapter ≤ first → Door K (opening (first ∷ first ∷ length (K.history x).marks ∷ []) (Some x ∷ []) (newcomer K x)) x
+  pub door_opens : (first : ℕ) (x : T) → first ≤ 4611686018427387904 → (K.history x).chapter ≤ first → Door K (opening (first ∷ first ∷ length (K.history x).marks ∷ []) (Some x ∷ []) (newcomer K x first)) x
   door_opens first x le chapter = record {
     words = refl;
     homes = refl;
@@ -239,11 +269,22 @@ module _ {T B M S : Type 0} (K : Meaning T B M S) where
     front = refl;
     all_parts = refl;
     bounded = omega (arith, le);
-    each = λ i v e. subst (Fits K first first x) (only (newcomer K x) i v e).1 (record { stage = tt; used_up = λ e. refl; spent = λ e. absurd cc });
-    apart = λ i j v w t a b e k. let none : ticket v.stage ≡ None = ap (λ (z : View T B M S). ticket z.stage) (sym (only (newcomer K x) i v a).1) in absurd cc;
-    placed = inl (refl, chapter, λ i v e. ap (λ (z : View T B M S). has_turn z.stage) (sym (only (newcomer K x) i v e).1));
+    each = λ i v e. subst (Fits K first first x) (only (newcomer K x first) i v e).1 (record { stage = tt; used_up = λ e. refl; spent = λ e. absurd cc });
+    apart = λ i j v w t a b e k. let none : ticket v.stage ≡ None = ap (λ (z : View T B M S). ticket z.stage) (sym (only (newcomer K x first) i v a).1) in absurd cc;
+    placed = inl (refl, chapter, λ i v e. ap (λ (z : View T B M S). has_turn z.stage) (sym (only (newcomer K x first) i v e).1));
+    first = first;
+    drawn = λ t a b. omega (arith, a);
+    counts = λ i v e. subst (Counts first) (only (newcomer K x first) i v e).1 (record { first = λ p. refl; gone = λ e. refl });
   }
 
   -- a pass with all parts stands alone
   pub stands_alone : (s : St) (x : T) (d : Door K s x) (id : ℕ) (v : View T B M S) → parts_of v ≡ 4611686018427387904 → get_elem? s.views id ≡ some v → (i : ℕ) (u : View T B M S) → get_elem? s.views i ≡ some u → i ≢ id → parts_of u ≡ 0
   stands_alone s x d id v all at i u e ne = omega (arith, two_le parts_of s.views id i v u at e (λ k. ne (sym k)), d.all_parts)
+
+  -- where such a pass finds that no ticket is left, all were drawn for its turns
+  pub all_drawn : (s : St) (x : T) (d : Door K s x) (id : ℕ) (v : View T B M S) → get_elem? s.views id ≡ some v → 4611686018427387904 ≤ get_or s.words 0 0 → IsUsedUp v
+  all_drawn s x d id v at reached all =
+      let counted = d.drawn 4611686018427387904 reached (le_refl 4611686018427387904) in
+      let first : v.first ≡ d.first = (d.counts id v at).first (omega (arith, all)) in
+      let ours : sum_by turns_in s.views ≤ turns_in v = sum_alone turns_in s.views id v at (λ i u e ne. (d.counts i u e).gone (stands_alone s x d id v all at i u e ne)) in
+      omega arith

@@ -14,18 +14,17 @@ use Rattle.history_spec.proofs.Beginnings.{begins_itself, begins_through, begins
 use Rattle.turn_cell.specs.Meaning.{Meaning, NoMarkLowers}
 use Rattle.turn_cell.specs.declared.view.Knows.{Knows}
 use Rattle.turn_cell.specs.Known.{IsBegun, own_in, IsAmong, NoTwice, AllEnded, Knowing, Stands, Known}
-use Rattle.turn_cell.specs.Steps.{Meets}
 use Rattle.turn_cell.proofs.Views.{at_length, one_at}
-use Rattle.turn_cell.proofs.Knowledge.{living_apart, named_number, among_ended, known_apart}
+use Rattle.turn_cell.proofs.Knowledge.{living_apart, named_number, among_ended}
 use Rattle.turn_cell.proofs.Among.{among_append, among_left, among_right, once_append}
 use Rattle.turn_cell.proofs.Parting.{both_of, ended_append, ended_there, own_further}
 
 module _ {T B M S : Type 0} (K : Meaning T B M S) where
   pub known_joins : NoMarkLowers K → (value : T) (marks_of : ℕ → List (ℕ × M)) (all : List (Knows B M S)) → Known K value marks_of all
-      → (id other : ℕ) (a b gone : Knows B M S) → get_elem? all id ≡ some a → get_elem? all other ≡ some b → other ≢ id → 0 < a.parts → 0 < b.parts → b.named ≡ true → b.share ≡ K.nothing → gone.parts ≡ 0
-      → Known K value marks_of (set (set all id (both_of a b)) other gone)
-  known_joins lowers value marks_of all g id other a b gone at there apart some_parts some_parts' named empty no_parts =
-      let both : Knows B M S = both_of a b in
+      → (id other turns : ℕ) (a b gone : Knows B M S) → get_elem? all id ≡ some a → get_elem? all other ≡ some b → other ≢ id → 0 < a.parts → 0 < b.parts → b.named ≡ true → b.share ≡ K.nothing → gone.parts ≡ 0
+      → Known K value marks_of (set (set all id (both_of turns a b)) other gone)
+  known_joins lowers value marks_of all g id other turns a b gone at there apart some_parts some_parts' named empty no_parts =
+      let both : Knows B M S = both_of turns a b in
       let mid : List (Knows B M S) = set all id both in
       let after : List (Knows B M S) = set mid other gone in
       let far : History B M = longer a.seen b.seen in
@@ -42,7 +41,7 @@ module _ {T B M S : Type 0} (K : Meaning T B M S) where
       let ne : n ≢ id = living_apart K all id n a at some_parts used in
       let ne' : n ≢ other = living_apart K all other n b there some_parts' used in
       used u (sym (set_else all id n both ne) ∙ (sym (set_else mid other n gone ne') ∙ e))) in
-      let last : Ended M = record { number = b.number; mine = b.mine } in
+      let last : Ended M = record { number = b.number; turns = turns; mine = b.mine } in
       let more : List (Ended M) = last ∷ b.ended in
       let ended : AllEnded K value marks_of after both.ended = ended_append K value marks_of after a.ended more (kept a.ended mine.ended) (
         record {
@@ -95,9 +94,10 @@ module _ {T B M S : Type 0} (K : Meaning T B M S) where
               others = λ j. longer_either K.rising (λ (h : History B M). IsPrefix (own_in K j h) (in_chapter h.chapter (marks_of j))) a.seen b.seen (mine.others j) (theirs.others j);
               ended = ended;
               once = once;
+              older = mine.older;
             }))
             (λ (x : (i ≢ id) × (i ≢ other) × (get_elem? all i ≡ some u)). let f = g.each i u x.2 p in
-            record { seen = f.seen; held = f.held; met = f.met; number = f.number; mine = f.mine; share = f.share; own = f.own; later = f.later; others = f.others; ended = kept u.ended f.ended; once = f.once })
+            record { seen = f.seen; held = f.held; met = f.met; number = f.number; mine = f.mine; share = f.share; own = f.own; later = f.later; others = f.others; ended = kept u.ended f.ended; once = f.once; older = f.older })
             (living i u e p);
         one_history = λ i j u v e f p q. ⊎_elim
             (λ (x : (i ≡ id) × (both ≡ u)). ⊎_elim
@@ -130,7 +130,3 @@ module _ {T B M S : Type 0} (K : Meaning T B M S) where
             (λ same. both_stands (inr (among_right i a.ended more (⊎_elim (λ (e : m.0 ≡ i). inl (is ∙ (sym same ∙ e))) (λ (e : IsAmong i m.1.ended). inr (subst (λ (z : Knows B M S). IsAmong i z.ended) (one_at all m.0 other m.1 b m.2 there same) e)) m.4))))
             (λ ne'. (m.0, m.1, set_else mid other m.0 gone ne' ∙ (set_else all id m.0 both ne ∙ m.2), m.3, m.4)));
       }
-
-  -- what a view is told of those that were put together
-  pub known_meets : (value : T) (marks_of : ℕ → List (ℕ × M)) (all : List (Knows B M S)) → Known K value marks_of all → (id : ℕ) (k : Knows B M S) → get_elem? all id ≡ some k → 0 < k.parts → Meets K k
-  known_meets value marks_of all g id k at some_parts = let mine = g.each id k at some_parts in record { one = mine.met.0; other = mine.met.1; apart = known_apart K value marks_of all g id k at some_parts }

@@ -16,7 +16,7 @@ use Rattle.history_spec.proofs.Beginnings.{prefix_itself, prefix_through, begins
 use Rattle.history_spec.proofs.Marks.{in_chapter-append, in_chapter-here, in_chapter-other, own-append, own-of_others, added-same, added-next}
 use Rattle.turn_cell.specs.Meaning.{Meaning, NoMarkLowers, NewBaseKeeps}
 use Rattle.turn_cell.specs.declared.view.Knows.{Knows}
-use Rattle.turn_cell.specs.Known.{IsBegun, own_in, HasMarks, IsAmong, AreApart, AllEnded, Knowing, Stands, Known}
+use Rattle.turn_cell.specs.Known.{IsBegun, own_in, HasMarks, IsAmong, AreApart, Rests, AllEnded, Knowing, Stands, Known}
 use Rattle.turn_cell.specs.Steps.{HasEnded, Finds, knows_after}
 use Rattle.turn_cell.specs.Passes.{SameShare, KeepsNothing, BelongsTo, AreAmong}
 use Rattle.turn_cell.proofs.Views.{each_set, at_length, one_at, only}
@@ -178,6 +178,7 @@ module _ {T B M S : Type 0} (K : Meaning T B M S) where
               others = λ j. same_prefix (own_in K j b) (in_chapter b.chapter (marks j)) (whole j);
               ended = ended_after found left marks_of more all id k.number k w at some_parts is others k.ended mine.ended;
               once = mine.once;
+              older = mine.older;
             })
             (λ j u ne there parts. let theirs = g.each j u there parts in record {
               seen = through u.seen a b theirs.seen begun;
@@ -191,6 +192,7 @@ module _ {T B M S : Type 0} (K : Meaning T B M S) where
               others = λ i. prefix_through (own_in K i u.seen) (in_chapter u.seen.chapter (marks_of i)) (in_chapter u.seen.chapter (marks i)) (theirs.others i) (marks_grow marks_of id more u.seen.chapter i);
               ended = ended_after found left marks_of more all id k.number k w at some_parts is others u.ended theirs.ended;
               once = theirs.once;
+              older = theirs.older;
             });
         one_history = λ i j x y e f p q. ⊎_elim
             (λ (z : (i ≡ id) × (w ≡ x)). inr (subst (λ (r : Knows B M S). IsBegun K y.seen r.seen) z.1 (begins_left j y f q)))
@@ -223,7 +225,7 @@ module _ {T B M S : Type 0} (K : Meaning T B M S) where
   first_marks-none kept (suc n) l = refl
 
   pub known_opens : (x : T) (k : Knows B M S) → AreOf K.whose 0 (K.history x).marks → KeepsNothing K x
-      → k ≡ record { named = true; number = 0; parts = 4611686018427387904; seen = K.history x; met = (K.history x, K.history x); mine = tagged (K.history x).chapter (own_in K 0 (K.history x)); held = K.history x; share = K.share x 0; ended = [] }
+      → k ≡ record { named = true; number = 0; parts = 4611686018427387904; seen = K.history x; met = (K.history x, K.history x); mine = tagged (K.history x).chapter (own_in K 0 (K.history x)); held = K.history x; share = K.share x 0; ended = []; older = [] }
       → Known K x (first_marks (tagged (K.history x).chapter (own_in K 0 (K.history x)))) (k ∷ [])
   known_opens x k are nothing is =
       let h = K.history x in
@@ -240,6 +242,7 @@ module _ {T B M S : Type 0} (K : Meaning T B M S) where
         others = λ j. same_prefix (own_in K j h) (in_chapter h.chapter (first_marks kept j)) (first_marks-has x j are);
         ended = tt;
         once = tt;
+        older = λ n m. absurd m;
       }) in
       record {
         each = λ i u e parts. let o = only k i u e in subst (λ (z : ℕ × Knows B M S). Knowing K x (first_marks kept) (k ∷ []) z.0 z.1) (λ n. (sym o.0 n, o.1 n)) first;
@@ -266,6 +269,21 @@ module _ {T B M S : Type 0} (K : Meaning T B M S) where
       let is : k.number ≡ id = named_number k.named k.number id named mine.number in
       (λ m. let zero_parts : k.parts ≡ 0 = among_ended value marks_of all k.number k.ended mine.ended m k (ap (λ (i : ℕ). get_elem? all i) is ∙ at) in omega arith, mine.once)
 
+  -- what a view knows between turns
+  pub known_rests : (value : T) (marks_of : ℕ → List (ℕ × M)) (all : List (Knows B M S)) → Known K value marks_of all → (id : ℕ) (k : Knows B M S) → get_elem? all id ≡ some k → 0 < k.parts → k.named ≡ true → Rests K k.number k.seen k.held k.mine k.ended
+  known_rests value marks_of all g id k at some_parts named =
+      let mine = g.each id k at some_parts in
+      record {
+        own = subst (λ (n : ℕ). HasMarks K n k.mine k.seen) (sym (named_number k.named k.number id named mine.number)) mine.own;
+        later = mine.later;
+        held_begins = mine.held;
+        apart = known_apart value marks_of all g id k at some_parts named;
+      }
+
+  -- the first pass
+  pub first_rests : (x : T) → AreOf K.whose 0 (K.history x).marks → Rests K 0 (K.history x) (K.history x) (tagged (K.history x).chapter (own_in K 0 (K.history x))) []
+  first_rests x are = record { own = first_marks-has x 0 are; later = first_marks-later x 0; held_begins = begins_itself K.rising (K.history x); apart = (λ m. m, tt) }
+
   -- what a view finds in the value
   pub known_finds : (value : T) (marks_of : ℕ → List (ℕ × M)) (all : List (Knows B M S)) → Known K value marks_of all → (id : ℕ) (k : Knows B M S) → get_elem? all id ≡ some k → 0 < k.parts → (t : ℕ) → (K.history value).chapter ≤ t → Finds K value t k
   known_finds value marks_of all g id k at some_parts t chapter =
@@ -279,6 +297,7 @@ module _ {T B M S : Type 0} (K : Meaning T B M S) where
         share = λ named. subst (λ (n : ℕ). K.share value n ≡ k.share) (sym (is named)) mine.share;
         held = mine.held;
         own = λ named. subst (λ (n : ℕ). HasMarks K n k.mine k.seen) (sym (is named)) mine.own;
+        later = mine.later;
         ended = ended_has value marks_of all g.whole k.ended mine.ended;
         apart = known_apart value marks_of all g id k at some_parts;
       }

@@ -7,3 +7,4 @@ pub mod Among
 pub mod Parting
 pub mod Joining
 pub mod Parts
+pub mod Turning

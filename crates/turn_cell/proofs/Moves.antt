@@ -18,11 +18,11 @@ use Rattle.turn_cell.specs.declared.view.Knows.{Knows}
 use Rattle.turn_cell.specs.declared.view.View.{View}
 use Rattle.turn_cell.specs.Known.{Known, own_in}
 use Rattle.turn_cell.specs.Rule.{has_turn, knowledge, FitsStage, IsRuled, newcomer}
-use Rattle.turn_cell.specs.Steps.{with_stage, drawn, draws, passes_on, Finds, Takes, LooksFrom, looks, knows_after, left_at, publishes}
-use Rattle.turn_cell.specs.Passes.{passed, IsTurn, SameShare, KeepsNothing, Closes, Leaves}
+use Rattle.turn_cell.specs.Steps.{with_stage, drawn, draws, passes_on, Finds, Takes, LooksFrom, looks, knows_after, left_at, publishes, RestsIn}
+use Rattle.turn_cell.specs.Passes.{passed, IsIdle, IsTurn, SameShare, KeepsNothing, Closes, Leaves}
 use Rattle.turn_cell.proofs.Views.{one_at, map_set, map_set_same, at_map, at_mapped}
-use Rattle.turn_cell.proofs.Doors.{drawn_knows, door_draws, at_home, door_takes, waiting_parts, door_publishes, door_passes, door_opens, small, stands_alone}
-use Rattle.turn_cell.proofs.Knowledge.{marks_after, first_marks, goes_on_chapter, known_left, known_opens, known_finds, known_among}
+use Rattle.turn_cell.proofs.Doors.{drawn_knows, door_draws, at_home, door_takes, waiting_parts, door_publishes, door_passes, door_opens, small, stands_alone, all_drawn}
+use Rattle.turn_cell.proofs.Knowledge.{marks_after, first_marks, goes_on_chapter, known_left, known_opens, known_rests, first_rests, known_finds, known_among}
 
 module _ {T B M S : Type 0} (K : Meaning T B M S) where
   abbrev St : Type 0
@@ -51,7 +51,7 @@ module _ {T B M S : Type 0} (K : Meaning T B M S) where
       (get_or-set_other s.words 0 2 (n + 1) 0 (λ e. omega arith)) in
       let known = same_known r.value r.marks_of s.views id me.0 w at (drawn_knows (ltb n 4611686018427387904) me.0 n) r.known in
       let P : ℕ → Type 0 = λ m. Rule (stepped s 0 m id me.1 w acts.keeps) in
-      (w, acts.keeps, tt, subst P (sym count) (record { value = r.value; marks_of = r.marks_of; door = door; known = known }), refl)
+      (w, acts.keeps, tt, subst P (sym count) (record { value = r.value; marks_of = r.marks_of; door = door; known = known }), (refl, λ reached. all_drawn K s r.value r.door id me.0 at reached))
 
   pub looks_moves : (slots id : ℕ) (me : Mine) (t : ℕ) → me.0.stage ≡ Waiting t → Allows Rule slots id me 1 (λ n. n) (looks K (step slots 1 0 0 none) me)
   looks_moves slots id me t is s r homes at small_word =
@@ -92,7 +92,7 @@ module _ {T B M S : Type 0} (K : Meaning T B M S) where
       let k : Knows B M S = knows_after K x left v.knows in
       let w : View T B M S = record v { stage = Published t left; knows = k } in
       let words : List ℕ = set s.words 2 m in
-      let door = door_publishes K s x left r.door id v t k words at is' refl some_parts (goes_on_chapter K x left goes').1 (length-set s.words 2 m)
+      let door = door_publishes K s x left r.door id v t k words at is' refl refl some_parts (goes_on_chapter K x left goes').1 (length-set s.words 2 m)
       (get_or-set_other s.words 2 0 m 0 (λ e. omega arith))
       (get_or-set_other s.words 2 1 m 0 (λ e. omega arith))
       (get_or-set_same s.words 2 m 0 (omega (arith, r.door.words)) ∙ count) in
@@ -107,8 +107,8 @@ module _ {T B M S : Type 0} (K : Meaning T B M S) where
         λ (other : T) (e : me.1 ≡ (0, Some other) ∷ []). let alike : left ≡ other = ap (carried_or left) (sym carried ∙ e) in λ i. ((as_left ∙ ap (left_at K v.stage v) alike) i, me.1),
       )
 
-  pub passes_moves : (slots id : ℕ) (me : Mine) (t : ℕ) (left : T) → me.0.stage ≡ Published t left → me.1 ≡ (0, Some left) ∷ [] → Allows Rule slots id me 1 (λ n. (n + 1) % 2 ^ 64) (passes_on (step slots 1 1 0 none) me)
-  passes_moves slots id me t left is carried s r homes at small_word =
+  pub passes_moves : (slots id : ℕ) (me : Mine) (t : ℕ) (left : T) → me.0.stage ≡ Published t left → me.1 ≡ (0, Some left) ∷ [] → 0 < me.0.knows.parts → Allows Rule slots id me 1 (λ n. (n + 1) % 2 ^ 64) (passes_on K (step slots 1 1 0 none) me)
+  passes_moves slots id me t left is carried some_parts s r homes at small_word =
       let n : ℕ = get_or s.words 1 0 in
       let v : View T B M S = me.0 in
       let x : T = r.value in
@@ -124,15 +124,19 @@ module _ {T B M S : Type 0} (K : Meaning T B M S) where
       let ruled : Rule record { words = words; homes = set s.homes 0 (some (Some x)); views = set s.views id w } = record { value = x; marks_of = r.marks_of; door = door; known = same_known x r.marks_of s.views id v w at refl r.known } in
       let Goal : List (ℕ × Option T) → Type 0 = λ c. Rule record { words = words; homes = put_back s.homes c; views = set s.views id w } in
       let P : ℕ → Type 0 = λ m. Rule (stepped s 1 m id me.1 w gives) in
-      (w, gives, tt, subst P (sym count) (subst Goal (sym (carried ∙ ap (λ (y : T). (0, Some y) ∷ []) same)) ruled), refl)
+      (w, gives, tt, subst P (sym count) (subst Goal (sym (carried ∙ ap (λ (y : T). (0, Some y) ∷ []) same)) ruled), (refl, known_rests K x r.marks_of (knowledge s.views) r.known id v.knows (at_map (λ (u : View T B M S). u.knows) s.views id v at) some_parts))
 
-  pub opens : (first : ℕ) (x : T) → first ≤ 4611686018427387904 → (K.history x).chapter ≤ first → AreOf K.whose 0 (K.history x).marks → KeepsNothing K x → Rule (opening (first ∷ first ∷ length (K.history x).marks ∷ []) (Some x ∷ []) (newcomer K x))
+  pub opens : (first : ℕ) (x : T) → first ≤ 4611686018427387904 → (K.history x).chapter ≤ first → AreOf K.whose 0 (K.history x).marks → KeepsNothing K x → Rule (opening (first ∷ first ∷ length (K.history x).marks ∷ []) (Some x ∷ []) (newcomer K x first))
   opens first x le chapter are nothing = record {
     value = x;
     marks_of = first_marks (tagged (K.history x).chapter (own_in K 0 (K.history x)));
     door = door_opens K first x le chapter;
-    known = known_opens K x (newcomer K x).knows are nothing refl;
+    known = known_opens K x (newcomer K x first).knows are nothing refl;
   }
+
+  -- the first pass is between turns
+  pub first_idle : (first : ℕ) (x : T) (me : Mine) → AreOf K.whose 0 (K.history x).marks → me ≡ (newcomer K x first, []) → IsIdle me false × RestsIn K me.0
+  first_idle first x me are e = subst (λ (z : Mine). IsIdle z false × RestsIn K z.0) (sym e) (record { stage = refl; slot = refl; parts = omega arith; named = refl; spent = refl }, first_rests K x are)
 
   some_parts_not_none : (p : ℕ) → 0 < p → p ≡ 0 → ⊥
   some_parts_not_none p l e = omega arith
@@ -183,12 +187,31 @@ module _ {T B M S : Type 0} (K : Meaning T B M S) where
       let carried : me.1 ≡ (0, Some left) ∷ [] = ap (λ (z : Mine). z.1) e ∙ ap (λ (l : List (ℕ × Option T)). (0, Some left) ∷ rest l) turn.slot in
       told left carried ∙ (λ i. (ap (λ (v : View T B M S). left_at K v.stage v left) (ap (λ (z : Mine). z.0) e) i, carried i))
 
+  left_parts : (st : Stage T) (v : View T B M S) (left : T) → 0 < v.knows.parts → 0 < (left_at K st v left).knows.parts
+  left_parts Idle v left p = p
+  left_parts (Waiting t) v left p = p
+  left_parts (Holding t x) v left p = p
+  left_parts (Published t x) v left p = p
+
+  left_named : (st : Stage T) (v : View T B M S) (left : T) → (left_at K st v left).knows.named ≡ v.knows.named
+  left_named Idle v left = refl
+  left_named (Waiting t) v left = refl
+  left_named (Holding t x) v left = refl
+  left_named (Published t x) v left = refl
+
+  -- what it knows once it has
+  pub passed-rests : (n : ℕ) (before me now : Mine) (left : T) → me ≡ (left_at K before.0.stage before.0 left, (0, Some left) ∷ []) → IsTurn before → passes_on K (step 1 1 1 0 none) me n now → RestsIn K now.0
+  passed-rests n before me now left e turn told =
+      let named : me.0.knows.named ≡ true = ap (λ (z : Mine). z.0.knows.named) e ∙ (left_named before.0.stage before.0 left ∙ turn.named) in
+      subst (λ (z : Mine). RestsIn K z.0) (sym told.0) (told.1 named)
+
   -- so it may pass the turn on
-  pub published-passes : (slots id : ℕ) (before me : Mine) (left : T) → me ≡ (left_at K before.0.stage before.0 left, (0, Some left) ∷ []) → IsTurn before → Allows Rule slots id me 1 (λ n. (n + 1) % 2 ^ 64) (passes_on (step slots 1 1 0 none) me)
+  pub published-passes : (slots id : ℕ) (before me : Mine) (left : T) → me ≡ (left_at K before.0.stage before.0 left, (0, Some left) ∷ []) → IsTurn before → Allows Rule slots id me 1 (λ n. (n + 1) % 2 ^ 64) (passes_on K (step slots 1 1 0 none) me)
   published-passes slots id before me left e turn =
       passes_moves slots id me turn.ticket left
       (ap (λ (z : Mine). z.0.stage) e ∙ ap (λ (st : Stage T). (left_at K st before.0 left).stage) turn.stage)
       (ap (λ (z : Mine). z.1) e)
+      (subst (λ (v : View T B M S). 0 < v.knows.parts) (sym (ap (λ (z : Mine). z.0) e)) (left_parts before.0.stage before.0 left turn.parts))
 
   pub has_slot : (l : List (ℕ × Option T)) (now : Mine) (w : View T B M S) (value : T) → now ≡ (w, (0, Some value) ∷ l) → (x : Option T) × (now.1 ≡ (0, x) ∷ rest now.1)
   has_slot l now w value e = let p : now.1 ≡ (0, Some value) ∷ l = ap (λ (m : Mine). m.1) e in (Some value, p ∙ ap (λ (k : List (ℕ × Option T)). (0, Some value) ∷ rest k) (sym p))

@@ -1,5 +1,5 @@
 -- The rule's second half where a pass is cut in two, and where two are put together.
-use Rattle.std.proofs.Common.{◌≡◌, ◌≢◌, ◌⊎◌, ℕ, ◌+◌, ◌-◌, ◌<◌, ◌≤◌, Bool, true, false, List, [], ◌∷◌, ◌++◌, length, set, refl, sym, ap, ◌∙◌, subst, ⊎_elim, inl, arith, length-set, length-append}
+use Rattle.std.proofs.Common.{◌≡◌, ◌⊎◌, ℕ, ◌+◌, ◌-◌, ◌<◌, ◌≤◌, Bool, true, false, List, [], ◌∷◌, ◌++◌, length, set, refl, sym, ap, ◌∙◌, subst, ⊎_elim, inl, arith, length-set, length-append}
 use Rattle.std.proofs.lemmas.Bool.{cases_lt}
 use mathlib.Core.Option.{some}
 use mathlib.Core.Logic.{dite}
@@ -16,6 +16,7 @@ use Rattle.history_spec.proofs.Marks.{own-append}
 use Rattle.turn_cell.specs.Meaning.{Meaning}
 use Rattle.turn_cell.specs.declared.view.Knows.{Knows}
 use Rattle.turn_cell.specs.Known.{IsBegun, own_in, HasMarks, IsAmong, AllEnded, Knowing, Known}
+use Rattle.turn_cell.specs.Steps.{IsNew}
 use Rattle.turn_cell.proofs.Views.{each_set, at_end, at_length, one_at}
 use Rattle.turn_cell.proofs.Knowledge.{ended_moved, living_apart, same_ended, named_number, stands_same}
 
@@ -25,17 +26,17 @@ module _ {B M S : Type 0} where
   rest_of k = record k { parts = k.parts - 1 }
 
   abbrev pub cut_off : S → Knows B M S → Knows B M S
-  cut_off nothing k = record { named = false; number = k.number; parts = 1; seen = k.seen; met = (k.seen, k.seen); mine = []; held = k.seen; share = nothing; ended = [] }
+  cut_off nothing k = record { named = false; number = k.number; parts = 1; seen = k.seen; met = (k.seen, k.seen); mine = []; held = k.seen; share = nothing; ended = []; older = k.ended }
 
   abbrev pub named_as : ℕ → Knows B M S → Knows B M S
   named_as n k = record k { named = true; number = n }
 
-  abbrev pub both_of : Knows B M S → Knows B M S → Knows B M S
-  both_of a b = record a {
+  abbrev pub both_of : ℕ → Knows B M S → Knows B M S → Knows B M S
+  both_of turns a b = record a {
     parts = a.parts + b.parts;
     seen = longer a.seen b.seen;
     met = (a.seen, b.seen);
-    ended = a.ended ++ record { number = b.number; mine = b.mine } ∷ b.ended;
+    ended = a.ended ++ record { number = b.number; turns = turns; mine = b.mine } ∷ b.ended;
   }
 
 module _ {T B M S : Type 0} (K : Meaning T B M S) where
@@ -62,6 +63,10 @@ module _ {T B M S : Type 0} (K : Meaning T B M S) where
       let none : in_chapter b.chapter mine ≡ [] = later b.chapter x.chapter in
       prefix_whole (own_in K i b) (in_chapter b.chapter mine) within (subst (λ (l : List M). length l ≤ length (own_in K i b)) (sym none) (omega arith)))
       p
+
+  among_made : (value : T) (marks_of : ℕ → List (ℕ × M)) (all : List (Knows B M S)) (n : ℕ) (es : List (Ended M)) → AllEnded K value marks_of all es → IsAmong n es → n < length all
+  among_made value marks_of all n [] h m = absurd m
+  among_made value marks_of all n (e ∷ es) h m = ⊎_elim (λ (is : e.number ≡ n). subst (λ (i : ℕ). i < length all) is h.0.made) (λ (o : IsAmong n es). among_made value marks_of all n es h.1 o) m
 
   -- a part is cut off
   pub known_splits : (value : T) (marks_of : ℕ → List (ℕ × M)) (all : List (Knows B M S)) → Known K value marks_of all → (id : ℕ) (k : Knows B M S) → get_elem? all id ≡ some k → 1 < k.parts → k.named ≡ true
@@ -91,8 +96,8 @@ module _ {T B M S : Type 0} (K : Meaning T B M S) where
       record {
         each = λ j x e parts. ⊎_elim
             (λ (there : get_elem? mid j ≡ some x). each_set (λ j x. 0 < x.parts → Knowing K value marks_of after j x) all id w
-            (λ _. record { seen = mine.seen; held = mine.held; met = mine.met; number = mine.number; mine = mine.mine; share = mine.share; own = mine.own; later = mine.later; others = mine.others; ended = ended k.ended mine.ended; once = mine.once })
-            (λ i y _ f p. let theirs = g.each i y f p in record { seen = theirs.seen; held = theirs.held; met = theirs.met; number = theirs.number; mine = theirs.mine; share = theirs.share; own = theirs.own; later = theirs.later; others = theirs.others; ended = ended y.ended theirs.ended; once = theirs.once })
+            (λ _. record { seen = mine.seen; held = mine.held; met = mine.met; number = mine.number; mine = mine.mine; share = mine.share; own = mine.own; later = mine.later; others = mine.others; ended = ended k.ended mine.ended; once = mine.once; older = mine.older })
+            (λ i y _ f p. let theirs = g.each i y f p in record { seen = theirs.seen; held = theirs.held; met = theirs.met; number = theirs.number; mine = theirs.mine; share = theirs.share; own = theirs.own; later = theirs.later; others = theirs.others; ended = ended y.ended theirs.ended; once = theirs.once; older = theirs.older })
             j x there parts)
             (λ (there : (j ≡ length mid) × (u ≡ x)). subst (λ (z : ℕ × Knows B M S). Knowing K value marks_of after z.0 z.1) (λ n. (sym (there.0 ∙ long) n, there.1 n)) (record {
               seen = mine.seen;
@@ -106,6 +111,7 @@ module _ {T B M S : Type 0} (K : Meaning T B M S) where
               others = mine.others;
               ended = tt;
               once = tt;
+              older = λ n m. omega (arith, long, among_made value marks_of all n k.ended mine.ended m);
             }))
             (at_end mid u x j e);
         one_history = λ i j a b e f p q. let x = seer i a e p in let y = seer j b f q in subst (λ (z : History B M × History B M). IsBegun K z.0 z.1 ⊎ IsBegun K z.1 z.0) (λ n. (sym x.4 n, sym y.4 n)) (g.one_history x.0 y.0 x.1 y.1 x.2 y.2 x.3 y.3);
@@ -139,8 +145,8 @@ module _ {T B M S : Type 0} (K : Meaning T B M S) where
       each_set (λ i a. 0 < a.parts → (b : Knows B M S) × (get_elem? all i ≡ some b) × (0 < b.parts) × (a.seen ≡ b.seen)) all id w (λ _. (k, at, some_parts, refl)) (λ j a ne e p. (a, e, p, refl)) in
       record {
         each = each_set (λ j x. 0 < x.parts → Knowing K value marks_of (set all id w) j x) all id w
-            (λ _. record { seen = mine.seen; held = mine.held; met = mine.met; number = refl; mine = mine.mine; share = mine.share; own = mine.own; later = mine.later; others = mine.others; ended = ended k.ended mine.ended; once = mine.once })
-            (λ i y _ f p. let theirs = g.each i y f p in record { seen = theirs.seen; held = theirs.held; met = theirs.met; number = theirs.number; mine = theirs.mine; share = theirs.share; own = theirs.own; later = theirs.later; others = theirs.others; ended = ended y.ended theirs.ended; once = theirs.once });
+            (λ _. record { seen = mine.seen; held = mine.held; met = mine.met; number = refl; mine = mine.mine; share = mine.share; own = mine.own; later = mine.later; others = mine.others; ended = ended k.ended mine.ended; once = mine.once; older = mine.older })
+            (λ i y _ f p. let theirs = g.each i y f p in record { seen = theirs.seen; held = theirs.held; met = theirs.met; number = theirs.number; mine = theirs.mine; share = theirs.share; own = theirs.own; later = theirs.later; others = theirs.others; ended = ended y.ended theirs.ended; once = theirs.once; older = theirs.older });
         one_history = λ i j a b e f p q. let x = seer i a e p in let y = seer j b f q in subst (λ (z : History B M × History B M). IsBegun K z.0 z.1 ⊎ IsBegun K z.1 z.0) (λ n. (sym x.3 n, sym y.3 n)) (g.one_history i j x.0 y.0 x.1 y.1 x.2 y.2);
         joined_once = λ i j x y n e f p q m o. let u = same_ended K all id k w at refl some_parts i n x e p m in let v = same_ended K all id k w at refl some_parts j n y f q o in g.joined_once i j u.0 v.0 n u.1 v.1 u.2 v.2 u.3 v.3;
         whole = g.whole;
@@ -151,10 +157,16 @@ module _ {T B M S : Type 0} (K : Meaning T B M S) where
             (λ other. (m.0, m.1, set_else all id m.0 w other ∙ m.2, m.3, m.4));
       }
 
-  -- its number is another than that of the view it was cut off
-  pub new_number : (value : T) (marks_of : ℕ → List (ℕ × M)) (all : List (Knows B M S)) → Known K value marks_of all → (id : ℕ) (k : Knows B M S) → get_elem? all id ≡ some k → 0 < k.parts → k.named ≡ false → id ≢ k.number
-  new_number value marks_of all g id k at some_parts unnamed e = by k.named unnamed (g.each id k at some_parts).number
+  -- its number is new to what it knows
+  pub new_number : (value : T) (marks_of : ℕ → List (ℕ × M)) (all : List (Knows B M S)) → Known K value marks_of all → (id : ℕ) (k : Knows B M S) → get_elem? all id ≡ some k → 0 < k.parts → k.named ≡ false → k.mine ≡ [] → IsNew K id k
+  new_number value marks_of all g id k at some_parts unnamed nothing =
+      let mine = g.each id k at some_parts in
+      record {
+        number = λ e. by k.named unnamed mine.number e;
+        ended = λ m. let l = mine.older id m in omega arith;
+        marks = mine.own ∙ ap (in_chapter k.seen.chapter) nothing;
+      }
     where
-      by : (b : Bool) → b ≡ false → Rattle.std.specs.Prelude.MatchBool b (k.number ≡ id) (k.number < id) → ⊥
-      by true is h = absurd cc
-      by false is h = omega arith
+      by : (b : Bool) → b ≡ false → Rattle.std.specs.Prelude.MatchBool b (k.number ≡ id) (k.number < id) → id ≡ k.number → ⊥
+      by true is h e = absurd cc
+      by false is h e = omega arith

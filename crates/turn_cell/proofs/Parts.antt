@@ -1,24 +1,27 @@
 -- Cutting a pass in two, and putting two together, keep the rule.
 use Rattle.std.proofs.Common.{◌≡◌, ◌≢◌, ◌⊎◌, ℕ, ◌+◌, ◌-◌, ◌<◌, ◌≤◌, Bool, true, false, true≢false, cond, ◌||◌, List, [], ◌∷◌, ◌++◌, length, get_or, set, Option, None, Some, refl, sym, ap, ◌∙◌, subst, ⊎_elim, inl, inr, arith}
 use Rattle.std.proofs.lemmas.List.{map-append}
-use Rattle.std.proofs.lemmas.List.Sums.{sum_by_push}
+use Rattle.std.proofs.lemmas.List.Sums.{sum_by_push, sum_by-append, sum_by-cons}
 use mathlib.Core.Option.{some, none}
 use lib.ListN.{get_elem?}
 use lib.Seq.{set-get_or}
 use Rattle.atomic_table.specs.Table.{State, Me, step, Allows, Splits, Joins}
 use Rattle.atomic_table.specs.Table as acts
 use Rattle.atomic_table.proofs.Lists.{at_set, at_longer, set_else, set_again}
+use Rattle.history_spec.specs.declared.history.Ended.{Ended}
 use Rattle.turn_cell.specs.Meaning.{Meaning, NoMarkLowers}
 use Rattle.turn_cell.specs.declared.view.Stage.{Stage}
 use Rattle.turn_cell.specs.declared.view.Stage.TheVariants.{Idle}
 use Rattle.turn_cell.specs.declared.view.Knows.{Knows}
 use Rattle.turn_cell.specs.declared.view.View.{View}
-use Rattle.turn_cell.specs.Known.{Known}
-use Rattle.turn_cell.specs.Rule.{ticket, has_turn, parts_of, spent_parts, knowledge, FitsStage, Fits, Placed, Door, IsRuled}
+use Rattle.turn_cell.specs.Known.{Known, turns_of_ended}
+use Rattle.turn_cell.specs.Rule.{ticket, has_turn, parts_of, spent_parts, turns_in, Counts, knowledge, FitsStage, Fits, Placed, Door, IsRuled}
 use Rattle.turn_cell.specs.Steps.{one_fewer, one_part, is_named, together, used_up, Meets, meets}
+use Rattle.turn_cell.proofs.Doors.{counts_same}
 use Rattle.turn_cell.proofs.Views.{each_set, at_end, one_at, sum_set, same_sum, map_set, at_map}
 use Rattle.turn_cell.proofs.Parting.{known_splits, known_named, new_number}
-use Rattle.turn_cell.proofs.Joining.{known_joins, known_meets}
+use Rattle.turn_cell.proofs.Joining.{known_joins}
+use Rattle.turn_cell.proofs.Knowledge.{known_rests}
 
 spent_cut : (b : Bool) (p : ℕ) → 1 < p → cond b (p - 1) 0 + cond b 1 0 ≡ cond b p 0
 spent_cut true p l = omega arith
@@ -35,6 +38,12 @@ either_spent true b next p q e = p refl
 either_spent false b next p q e = q e
 
 module _ {T B M S : Type 0} where
+  both_turns : (v u : View T B M S) → turns_in (together v u) ≡ turns_in v + turns_in u
+  both_turns v u =
+      let last : Ended M = record { number = u.knows.number; turns = u.turns; mine = u.knows.mine } in
+      let of : Ended M → ℕ = λ (e : Ended M). e.turns in
+      omega (arith, sum_by-append of v.knows.ended (last ∷ u.knows.ended), sum_by-cons of last u.knows.ended)
+
   idle_ticket : (v : View T B M S) (t : ℕ) → v.stage ≡ Idle → ticket v.stage ≡ Some t → ⊥
   idle_ticket v t e k = let h : ticket v.stage ≡ None = ap ticket e in cc
 
@@ -107,6 +116,12 @@ module _ {T B M S : Type 0} (K : Meaning T B M S) where
             (at_end mid u y j e);
         apart = idle_apart s.views after d.apart off;
         placed = placed_idle s x after off (λ i y e holds. at_longer mid (u ∷ []) i y (set_else s.views id i w (turn_apart s.views i id y v e holds at idle) ∙ e)) d.placed;
+        first = d.first;
+        drawn = λ t a b. omega (arith, d.drawn t a b, sum_by_push turns_in mid u, same_sum turns_in s.views id v w at refl);
+        counts = λ j y e. ⊎_elim
+            (λ (p : get_elem? mid j ≡ some y). each_set (λ _ z. Counts d.first z) s.views id w (record { first = λ _. (d.counts id v at).first (omega arith); gone = λ e. absurd (omega arith) }) (λ i z _ f. d.counts i z f) j y p)
+            (λ (p : (j ≡ length mid) × (u ≡ y)). subst (Counts d.first) p.1 (record { first = λ _. (d.counts id v at).first (omega arith); gone = λ _. refl }))
+            (at_end mid u y j e);
       }
 
   pub splits : (id : ℕ) (v : View T B M S) → v.stage ≡ Idle → v.knows.named ≡ true → 1 < v.knows.parts → Splits Rule id v (one_fewer v) (one_part K.nothing v)
@@ -118,10 +133,11 @@ module _ {T B M S : Type 0} (K : Meaning T B M S) where
       record { value = r.value; marks_of = r.marks_of; door = door_splits s r.value r.door id v at idle two_parts; known = subst (Known K r.value r.marks_of) (sym is) known }
 
   -- a view learns, and stays as it is for the door
-  door_learns : (s : St) (x : T) (d : Door K s x) (id : ℕ) (v : View T B M S) (k : Knows B M S) → get_elem? s.views id ≡ some v → v.stage ≡ Idle → k.parts ≡ v.knows.parts
+  door_learns : (s : St) (x : T) (d : Door K s x) (id : ℕ) (v : View T B M S) (k : Knows B M S) → get_elem? s.views id ≡ some v → v.stage ≡ Idle → k.parts ≡ v.knows.parts → k.ended ≡ v.knows.ended
       → Door K record { words = s.words; homes = s.homes; views = set s.views id (record v { knows = k }) } x
-  door_learns s x d id v k at idle parts =
+  door_learns s x d id v k at idle parts ended =
       let w : View T B M S = record v { knows = k } in
+      let turns : turns_in w ≡ turns_in v = ap (λ (es : List (Ended M)). v.turns + turns_of_ended es) ended in
       let off = set_off s.views id w idle in
       record {
         words = d.words;
@@ -134,23 +150,28 @@ module _ {T B M S : Type 0} (K : Meaning T B M S) where
         each = each_set (λ _ z. Fits K (get_or s.words 1 0) (get_or s.words 0 0) x z) s.views id w (record { stage = (d.each id v at).stage; used_up = λ _. idle; spent = (d.each id v at).spent }) (λ i z _ f. d.each i z f);
         apart = idle_apart s.views (set s.views id w) d.apart off;
         placed = placed_idle s x (set s.views id w) off (λ i y e holds. set_else s.views id i w (turn_apart s.views i id y v e holds at idle) ∙ e) d.placed;
+        first = d.first;
+        drawn = λ t a b. omega (arith, d.drawn t a b, same_sum turns_in s.views id v w at turns);
+        counts = each_set (λ _ z. Counts d.first z) s.views id w (counts_same d.first v w refl parts turns (d.counts id v at)) (λ i z _ f. d.counts i z f);
       }
 
   -- a new pass learns its number
-  pub names : (slots id : ℕ) (me : Mine) → me.0.stage ≡ Idle → me.0.knows.named ≡ false → 0 < me.0.knows.parts → Allows Rule slots id me 0 (λ n. n) (is_named (step slots 0 0 0 none) me)
-  names slots id me idle unnamed some_parts s r homes at small_word =
+  pub names : (slots id : ℕ) (me : Mine) → me.0.stage ≡ Idle → me.0.knows.named ≡ false → me.0.knows.mine ≡ [] → 0 < me.0.knows.parts → Allows Rule slots id me 0 (λ n. n) (is_named K (step slots 0 0 0 none) me)
+  names slots id me idle unnamed nothing some_parts s r homes at small_word =
       let v : View T B M S = me.0 in
       let k : Knows B M S = record v.knows { named = true; number = id } in
       let w : View T B M S = record v { knows = k } in
       let there = at_map (λ (z : View T B M S). z.knows) s.views id v at in
       let known = known_named K r.value r.marks_of (knowledge s.views) r.known id v.knows there some_parts in
-      let ruled : Rule record { words = s.words; homes = s.homes; views = set s.views id w } = record { value = r.value; marks_of = r.marks_of; door = door_learns s r.value r.door id v k at idle refl; known = subst (Known K r.value r.marks_of) (sym (map_set (λ (z : View T B M S). z.knows) s.views id w)) known } in
-      (w, acts.keeps, tt, subst (λ (ws : List ℕ). Rule record { words = ws; homes = s.homes; views = set s.views id w }) (sym (set-get_or s.words 0 0)) ruled, (id, new_number K r.value r.marks_of (knowledge s.views) r.known id v.knows there some_parts unnamed, refl))
+      let ruled : Rule record { words = s.words; homes = s.homes; views = set s.views id w } = record { value = r.value; marks_of = r.marks_of; door = door_learns s r.value r.door id v k at idle refl refl; known = subst (Known K r.value r.marks_of) (sym (map_set (λ (z : View T B M S). z.knows) s.views id w)) known } in
+      (w, acts.keeps, tt, subst (λ (ws : List ℕ). Rule record { words = ws; homes = s.homes; views = set s.views id w }) (sym (set-get_or s.words 0 0)) ruled, (id, new_number K r.value r.marks_of (knowledge s.views) r.known id v.knows there some_parts unnamed nothing, refl))
 
   -- a pass learns what it met
   pub tells : (slots id : ℕ) (me : Mine) → 0 < me.0.knows.parts → Allows Rule slots id me 0 (λ n. n) (meets K (step slots 0 0 0 none) me)
   tells slots id me some_parts s r homes at small_word =
-      let told : Meets K me.0.knows = known_meets K r.value r.marks_of (knowledge s.views) r.known id me.0.knows (at_map (λ (z : View T B M S). z.knows) s.views id me.0 at) some_parts in
+      let there = at_map (λ (z : View T B M S). z.knows) s.views id me.0 at in
+      let mine = r.known.each id me.0.knows there some_parts in
+      let told : Meets K me.0 = record { one = mine.met.0; other = mine.met.1; rests = known_rests K r.value r.marks_of (knowledge s.views) r.known id me.0.knows there some_parts } in
       (me.0, acts.keeps, tt, subst (λ (z : List ℕ × List (View T B M S)). Rule record { words = z.0; homes = s.homes; views = z.1 }) (λ i. (sym (set-get_or s.words 0 0) i, sym (set_again s.views id me.0 at) i)) r, (refl, told))
 
   door_joins : (s : St) (x : T) (d : Door K s x) (id other : ℕ) (v u : View T B M S) → get_elem? s.views id ≡ some v → get_elem? s.views other ≡ some u → other ≢ id → v.stage ≡ Idle → u.stage ≡ Idle → 0 < v.knows.parts
@@ -178,6 +199,10 @@ module _ {T B M S : Type 0} (K : Meaning T B M S) where
         placed = placed_idle s x after off
             (λ i y e holds. set_else mid other i gone (turn_apart s.views i other y u e holds there idle') ∙ (set_else s.views id i both (turn_apart s.views i id y v e holds at idle) ∙ e))
             d.placed;
+        first = d.first;
+        drawn = λ t a b. omega (arith, d.drawn t a b, sum_set turns_in mid other u gone there_mid, sum_set turns_in s.views id v both at, both_turns v u);
+        counts = each_set (λ _ z. Counts d.first z) mid other gone (record { first = λ p. absurd (omega arith); gone = λ _. refl })
+            (λ j y _ e. each_set (λ _ z. Counts d.first z) s.views id both (record { first = λ _. (d.counts id v at).first some_parts; gone = λ e. absurd (omega arith) }) (λ i z _ f. d.counts i z f) j y e);
       }
 
   pub joins : NoMarkLowers K → (id other : ℕ) (v u : View T B M S) → v.stage ≡ Idle → u.stage ≡ Idle → 0 < v.knows.parts → 0 < u.knows.parts → u.knows.named ≡ true → u.knows.share ≡ K.nothing → Joins Rule id v other u (together v u) (used_up K)
@@ -186,15 +211,16 @@ module _ {T B M S : Type 0} (K : Meaning T B M S) where
       let gone : View T B M S = used_up K in
       let there' : get_elem? s.views other ≡ some u = sym (set_else s.views id other both apart) ∙ there in
       let seat = λ (z : View T B M S). z.knows in
-      let known = known_joins K lowers r.value r.marks_of (knowledge s.views) r.known id other v.knows u.knows gone.knows (at_map seat s.views id v at) (at_map seat s.views other u there') apart some_parts some_parts' named empty refl in
+      let known = known_joins K lowers r.value r.marks_of (knowledge s.views) r.known id other u.turns v.knows u.knows gone.knows (at_map seat s.views id v at) (at_map seat s.views other u there') apart some_parts some_parts' named empty refl in
       let is : knowledge (set (set s.views id both) other gone) ≡ set (set (knowledge s.views) id both.knows) other gone.knows = map_set seat (set s.views id both) other gone ∙ ap (λ (l : List (Knows B M S)). set l other gone.knows) (map_set seat s.views id both) in
       record { value = r.value; marks_of = r.marks_of; door = door_joins s r.value r.door id other v u at there' apart idle idle' some_parts; known = subst (Known K r.value r.marks_of) (sym is) known }
 
   -- the seat that was just cut off
-  pub part_names : (slots id : ℕ) (v : View T B M S) (me : Mine) → me ≡ (one_part K.nothing v, []) → Allows Rule slots id me 0 (λ n. n) (is_named (step slots 0 0 0 none) me)
+  pub part_names : (slots id : ℕ) (v : View T B M S) (me : Mine) → me ≡ (one_part K.nothing v, []) → Allows Rule slots id me 0 (λ n. n) (is_named K (step slots 0 0 0 none) me)
   part_names slots id v me e = names slots id me
       (ap (λ (m : Mine). m.0.stage) e)
       (ap (λ (m : Mine). m.0.knows.named) e)
+      (ap (λ (m : Mine). m.0.knows.mine) e)
       (subst (λ (m : Mine). 0 < m.0.knows.parts) (sym e) (omega arith))
 
   -- the seat into which another was just put

@@ -32,6 +32,16 @@ module _ {A : Type 0} where
   pub same_sum : (f : A → ℕ) (views : List A) (id : ℕ) (v w : A) → get_elem? views id ≡ some v → f w ≡ f v → sum_by f (set views id w) ≡ sum_by f views
   same_sum f views id v w at e = omega (arith, sum_set f views id v w at, e)
 
+  sum_nothing : (f : A → ℕ) (views : List A) → ((i : ℕ) (v : A) → get_elem? views i ≡ some v → f v ≡ 0) → sum_by f views ≡ 0
+  sum_nothing f [] none = refl
+  sum_nothing f (x ∷ xs) none = let h = none 0 x refl in let k = sum_nothing f xs (λ i v e. none (suc i) v e) in omega (arith, sum_by-cons f x xs)
+
+  -- where all others have nothing, one has all
+  pub sum_alone : (f : A → ℕ) (views : List A) (id : ℕ) (v : A) → get_elem? views id ≡ some v → ((i : ℕ) (u : A) → get_elem? views i ≡ some u → i ≢ id → f u ≡ 0) → sum_by f views ≤ f v
+  sum_alone f [] id v at none = absurd (some-ne-none v (sym at))
+  sum_alone f (x ∷ xs) zero v at none = let h : f x ≡ f v = ap f (some-injective x v at) in let k = sum_nothing f xs (λ i u e. none (suc i) u e (λ z. omega (arith, z))) in omega (arith, sum_by-cons f x xs)
+  sum_alone f (x ∷ xs) (suc id) v at none = let h = none 0 x refl (λ z. omega (arith, z)) in let k = sum_alone f xs id v at (λ i u e ne. none (suc i) u e (λ z. ne (omega (arith, z)))) in omega (arith, sum_by-cons f x xs)
+
   pub one_le : (f : A → ℕ) (views : List A) (i : ℕ) (v : A) → get_elem? views i ≡ some v → f v ≤ sum_by f views
   one_le f [] i v e = absurd (some-ne-none v (sym e))
   one_le f (x ∷ xs) zero v e = let h : f x ≡ f v = ap f (some-injective x v e) in omega (arith, sum_by-cons f x xs)

@@ -1,5 +1,5 @@
 -- The rule's second half: what each pass knows of the value, and whose each mark is.
-use Rattle.std.specs.Prelude.{◌≡◌, ◌⊎◌, ℕ, ◌<◌, ◌≤◌, List, [], ◌∷◌, length, MatchBool}
+use Rattle.std.specs.Prelude.{◌≡◌, ◌⊎◌, ℕ, ◌<◌, ◌≤◌, List, [], ◌∷◌, length, sum_by, MatchBool}
 use mathlib.Core.Option.{some}
 use lib.ListN.{get_elem?}
 use Rattle.history_spec.specs.declared.history.History.{History}
@@ -32,6 +32,10 @@ IsAmong number (e ∷ es) = (e.number ≡ number) ⊎ IsAmong number es
 abbrev pub Stands : {B M S : Type 0} → ℕ → ℕ → Knows B M S → Type 0
 Stands i j k = (j ≡ i) ⊎ IsAmong i k.ended
 
+-- how many turns these had
+abbrev pub turns_of_ended : {M : Type 0} → List (Ended M) → ℕ
+turns_of_ended ended = sum_by (λ e. e.turns) ended
+
 -- no two of these have one number
 abbrev pub NoTwice : {M : Type 0} → List (Ended M) → Type 0
 NoTwice [] = Unit {0}
@@ -40,6 +44,15 @@ NoTwice (e ∷ es) = (IsAmong e.number es → ⊥) × NoTwice es
 -- this number and those of the ended ones all differ
 abbrev pub AreApart : {M : Type 0} → ℕ → List (Ended M) → Type 0
 AreApart number ended = (IsAmong number ended → ⊥) × NoTwice ended
+
+-- what a pass knows between turns: its own marks in what it saw are those that it kept, none of them is of a later
+-- chapter, `held` begins `seen`, and its number and those that were joined into it all differ
+module _ {T B M S : Type 0} (K : Meaning T B M S) where
+  pub record Rests (number : ℕ) (seen held : History B M) (mine : List (ℕ × M)) (ended : List (Ended M)) : Type 0 where
+    pub own : HasMarks K number mine seen
+    pub later : (c : ℕ) → seen.chapter < c → in_chapter c mine ≡ []
+    pub held_begins : IsBegun K held seen
+    pub apart : AreApart number ended
 
 module _ {T B M S : Type 0} (K : Meaning T B M S) (value : T) (marks_of : ℕ → List (ℕ × M)) (all : List (Knows B M S)) where
   -- a number that ended: its marks are kept, nothing else is, and its view is used up
@@ -66,6 +79,7 @@ module _ {T B M S : Type 0} (K : Meaning T B M S) (value : T) (marks_of : ℕ �
     pub others : (j : ℕ) → IsPrefix (own_in K j k.seen) (in_chapter k.seen.chapter (marks_of j))
     pub ended : AllEnded k.ended
     pub once : NoTwice k.ended
+    pub older : (n : ℕ) → IsAmong n k.older → n < i
 
   pub record Known : Type 0 where
     pub each : (i : ℕ) (k : Knows B M S) → get_elem? all i ≡ some k → 0 < k.parts → Knowing i k

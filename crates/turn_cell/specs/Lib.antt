@@ -4,3 +4,4 @@ pub mod Known
 pub mod Steps
 pub mod Passes
 pub mod Lending
+pub mod Turning

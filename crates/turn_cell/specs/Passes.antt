@@ -4,12 +4,12 @@ use Rattle.atomic_table.specs.Table.{Me}
 use Rattle.atomic_table.specs.Seated.{TableId}
 use Rattle.history_spec.specs.declared.history.History.{History}
 use Rattle.history_spec.specs.declared.history.Ended.{Ended}
-use Rattle.history_spec.specs.Chapter.{GoesOn, added, tagged}
+use Rattle.history_spec.specs.Chapter.{GoesOn, added, tagged, in_chapter}
 use Rattle.history_spec.specs.Front.{longer}
 use Rattle.history_spec.specs.Pass.{AreOf, mine_after, held_after}
 use Rattle.turn_cell.specs.Meaning.{Meaning}
-use Rattle.turn_cell.specs.Known.{IsBegun, HasMarks, IsAmong, AreApart, own_in}
-use Rattle.turn_cell.specs.Steps.{HasEnded, Finds, with_stage, one_part}
+use Rattle.turn_cell.specs.Known.{IsBegun, HasMarks, IsAmong, AreApart, Rests, own_in, turns_of_ended}
+use Rattle.turn_cell.specs.Steps.{HasEnded, Finds, IsNew, with_stage, one_part}
 use Rattle.turn_cell.specs.declared.view.Stage.{Stage}
 use Rattle.turn_cell.specs.declared.view.Stage.TheVariants.{Idle, Waiting, Holding, Published}
 use Rattle.turn_cell.specs.declared.view.View.{View}
@@ -17,6 +17,8 @@ use Rattle.turn_cell.specs.declared.view.View.{View}
 -- a pass: B is the base of a chapter, M a mark, S what a value keeps for one number
 pub record Passed (B M S : Type 0) : Type 0 where
   pub cell : TableId
+  -- the ticket of the cell's first turn
+  pub first : ℕ
   pub number : ℕ
   -- the history as it last saw it
   pub seen : History B M
@@ -60,6 +62,7 @@ module _ {T B M S : Type 0} where
   abbrev pub passed : TableId → View T B M S → Passed B M S
   passed cell v = record {
     cell = cell;
+    first = v.first;
     number = v.knows.number;
     seen = v.knows.seen;
     mine = v.knows.mine;
@@ -99,10 +102,14 @@ module _ {T B M S : Type 0} where
 abbrev pub joined : {B M S : Type 0} → Passed B M S → Passed B M S → Passed B M S
 joined one other = record one {
   seen = longer one.seen other.seen;
-  ended = one.ended ++ record { number = other.number; mine = other.mine } ∷ other.ended;
+  ended = one.ended ++ record { number = other.number; turns = other.turns; mine = other.mine } ∷ other.ended;
   parts = one.parts + other.parts;
   spent = one.spent || other.spent;
 }
+
+-- how many turns a pass and those that were joined into it had
+abbrev pub turns_of_all : {B M S : Type 0} → Passed B M S → ℕ
+turns_of_all pass = pass.turns + turns_of_ended pass.ended
 
 -- the number is one of these, or it is nobody's
 abbrev pub BelongsTo : {M : Type 0} → ℕ → List (Ended M) → Option ℕ → Type 0
@@ -110,10 +117,15 @@ BelongsTo number ended None = Unit {0}
 BelongsTo number ended (Some n) = (n ≡ number) ⊎ IsAmong n ended
 
 module _ {T B M S : Type 0} (K : Meaning T B M S) where
-  -- the first pass of a value
-  abbrev pub IsFirst : T → Passed B M S → Type 0
-  IsFirst value pass = let h = K.history value in pass ≡ record {
+  -- what a pass knows between turns
+  abbrev pub IsSettled : Passed B M S → Type 0
+  IsSettled pass = Rests K pass.number pass.seen pass.held pass.mine pass.ended
+
+  -- the first pass of a value, at a cell whose first turn has this ticket
+  abbrev pub IsFirst : T → ℕ → Passed B M S → Type 0
+  IsFirst value first pass = let h = K.history value in pass ≡ record {
     cell = pass.cell;
+    first = first;
     number = 0;
     seen = h;
     mine = tagged h.chapter (own_in K 0 h);
@@ -137,6 +149,7 @@ module _ {T B M S : Type 0} (K : Meaning T B M S) where
     pub apart : AreApart before.number before.ended
     pub held : IsBegun K before.held before.seen
     pub own : HasMarks K before.number before.mine before.seen
+    pub later : (c : ℕ) → before.seen.chapter < c → in_chapter c before.mine ≡ []
     pub chapter : (K.history turn.entry).chapter ≤ turn.ticket
     pub ticket : turn.ticket < 4611686018427387904
 
@@ -182,11 +195,15 @@ module _ {T B M S : Type 0} (K : Meaning T B M S) where
     pub marks : AreOf K.whose me.0.knows.number (added (K.history turn.found) (K.history left))
     pub others : SameShare me.0.knows.number turn.found left
 
-  -- the pass that is cut off: it has seen as much, has nothing of its own, and another number
+  -- the pass that is cut off: it has seen as much, has nothing of its own, and its number is that of no pass and no
+  -- mark that the other one knows
   pub record IsCutOff (pass cut : Passed B M S) : Type 0 where
     pub number : cut.number ≢ pass.number
+    pub ended : IsAmong cut.number pass.ended → ⊥
+    pub marks : own_in K cut.number pass.seen ≡ []
     pub rest : cut ≡ record {
       cell = pass.cell;
+      first = pass.first;
       number = cut.number;
       seen = pass.seen;
       mine = [];
@@ -206,4 +223,4 @@ module _ {T B M S : Type 0} (K : Meaning T B M S) where
 
   -- a seat that was cut off this view, with a number of its own
   abbrev pub IsNewPart : View T B M S → Me (Option T) (View T B M S) → Type 0
-  IsNewPart v now = let u = one_part K.nothing v in (n : ℕ) × (n ≢ v.knows.number) × (now ≡ (record u { knows = record u.knows { named = true; number = n } }, []))
+  IsNewPart v now = let u = one_part K.nothing v in (n : ℕ) × IsNew K n u.knows × (now ≡ (record u { knows = record u.knows { named = true; number = n } }, []))

@@ -5,7 +5,7 @@ use lib.ListN.{get_elem?}
 use Rattle.atomic_table.specs.Table.{State}
 use Rattle.history_spec.specs.Chapter.{tagged}
 use Rattle.turn_cell.specs.Meaning.{Meaning}
-use Rattle.turn_cell.specs.Known.{Known, own_in}
+use Rattle.turn_cell.specs.Known.{Known, own_in, turns_of_ended}
 use Rattle.turn_cell.specs.declared.view.Stage.{Stage}
 use Rattle.turn_cell.specs.declared.view.Stage.TheVariants.{Idle, Waiting, Holding, Published}
 use Rattle.turn_cell.specs.declared.view.Knows.{Knows}
@@ -34,6 +34,15 @@ module _ {T B M S : Type 0} where
 
   abbrev pub spent_parts : View T B M S → ℕ
   spent_parts v = if v.spent then v.knows.parts else 0
+
+  -- how many turns a view and those that were joined into it had
+  abbrev pub turns_in : View T B M S → ℕ
+  turns_in v = v.turns + turns_of_ended v.knows.ended
+
+  -- a view knows the first ticket, and one that is used up counts no turns
+  pub record Counts (start : ℕ) (v : View T B M S) : Type 0 where
+    pub first : 0 < v.knows.parts → v.first ≡ start
+    pub gone : v.knows.parts ≡ 0 → turns_in v ≡ 0
 
   abbrev pub knowledge : List (View T B M S) → List (Knows B M S)
   knowledge views = map (λ v. v.knows) views
@@ -70,6 +79,10 @@ module _ {T B M S : Type 0} (K : Meaning T B M S) where
     pub each : (i : ℕ) (v : View T B M S) → get_elem? s.views i ≡ some v → Fits (slice_index s.words 1) (slice_index s.words 0) value v
     pub apart : (i j : ℕ) (v w : View T B M S) (t : ℕ) → get_elem? s.views i ≡ some v → get_elem? s.views j ≡ some w → ticket v.stage ≡ Some t → ticket w.stage ≡ Some t → i ≡ j
     pub placed : Placed s value
+    -- tickets are drawn from the first one on, each for a turn
+    pub first : ℕ
+    pub drawn : (t : ℕ) → t ≤ slice_index s.words 0 → t ≤ 4611686018427387904 → t ≤ first + sum_by turns_in s.views
+    pub counts : (i : ℕ) (v : View T B M S) → get_elem? s.views i ≡ some v → Counts first v
 
   pub record IsRuled (s : State (Option T) (View T B M S)) : Type 0 where
     -- the value at home, or else as its turn found it or has published it
@@ -80,9 +93,10 @@ module _ {T B M S : Type 0} (K : Meaning T B M S) where
     pub known : Known K value marks_of (knowledge s.views)
 
   -- the view of the first pass
-  abbrev pub newcomer : T → View T B M S
-  newcomer value = let h = K.history value in record {
+  abbrev pub newcomer : T → ℕ → View T B M S
+  newcomer value first = let h = K.history value in record {
     stage = Idle;
+    first = first;
     turns = 0;
     spent = false;
     knows = record {
@@ -95,5 +109,6 @@ module _ {T B M S : Type 0} (K : Meaning T B M S) where
       held = h;
       share = K.share value 0;
       ended = [];
+      older = [];
     };
   }

@@ -1,12 +1,14 @@
 -- What each step of a seat tells it.
-use Rattle.std.specs.Prelude.{◌≡◌, ◌≢◌, ℕ, ◌+◌, ◌-◌, ◌++◌, ◌||◌, ◌≤◌, ◌==◌, Bool, true, false, nat_lt, List, [], ◌∷◌, Option, Some, MatchBool}
+use Rattle.std.specs.Prelude.{◌≡◌, ◌≢◌, ℕ, ◌+◌, ◌-◌, ◌++◌, ◌||◌, ◌<◌, ◌≤◌, ◌==◌, Bool, true, false, nat_lt, List, [], ◌∷◌, Option, Some, MatchBool}
 use Rattle.atomic_table.specs.Table.{Step, Me, rest}
 use Rattle.history_spec.specs.declared.history.History.{History}
 use Rattle.history_spec.specs.declared.history.Ended.{Ended}
+use Rattle.history_spec.specs.Chapter.{in_chapter}
 use Rattle.history_spec.specs.Front.{longer}
 use Rattle.history_spec.specs.Pass.{mine_after, held_after}
 use Rattle.turn_cell.specs.Meaning.{Meaning}
-use Rattle.turn_cell.specs.Known.{IsBegun, HasMarks, AreApart}
+use Rattle.turn_cell.specs.Known.{IsBegun, own_in, HasMarks, IsAmong, AreApart, Rests}
+use Rattle.turn_cell.specs.Rule.{turns_in}
 use Rattle.turn_cell.specs.declared.view.Stage.{Stage}
 use Rattle.turn_cell.specs.declared.view.Stage.TheVariants.{Idle, Waiting, Holding, Published}
 use Rattle.turn_cell.specs.declared.view.Knows.{Knows}
@@ -24,12 +26,12 @@ module _ {T B M S : Type 0} where
   abbrev pub drawn : View T B M S → ℕ → View T B M S
   drawn v n = drawn_if (nat_lt n 4611686018427387904) v n
 
-  abbrev pub draws : Step (Option T) → Me (Option T) (View T B M S) → ℕ → Me (Option T) (View T B M S) → Type 0
-  draws st me found now = now ≡ (drawn me.0 found, me.1)
+  -- where no other view is left, all tickets were drawn for its turns
+  abbrev pub IsUsedUp : View T B M S → Type 0
+  IsUsedUp v = v.knows.parts ≡ 4611686018427387904 → 4611686018427387904 ≤ v.first + turns_in v
 
-  -- passing on: the ticket is given up, and the slot
-  abbrev pub passes_on : Step (Option T) → Me (Option T) (View T B M S) → ℕ → Me (Option T) (View T B M S) → Type 0
-  passes_on st me found now = now ≡ (with_stage me.0 Idle, rest me.1)
+  abbrev pub draws : Step (Option T) → Me (Option T) (View T B M S) → ℕ → Me (Option T) (View T B M S) → Type 0
+  draws st me found now = (now ≡ (drawn me.0 found, me.1)) × (4611686018427387904 ≤ found → IsUsedUp me.0)
 
 module _ {T B M S : Type 0} (K : Meaning T B M S) where
   -- the marks that are kept for ended numbers are all that they have, and nothing else is kept for them
@@ -45,6 +47,7 @@ module _ {T B M S : Type 0} (K : Meaning T B M S) where
     pub share : k.named ≡ true → K.share value k.number ≡ k.share
     pub held : IsBegun K k.held k.seen
     pub own : k.named ≡ true → HasMarks K k.number k.mine k.seen
+    pub later : (c : ℕ) → k.seen.chapter < c → in_chapter c k.mine ≡ []
     pub ended : HasEnded value k.ended
     pub apart : k.named ≡ true → AreApart k.number k.ended
 
@@ -77,6 +80,13 @@ module _ {T B M S : Type 0} (K : Meaning T B M S) where
   abbrev pub publishes : Step (Option T) → Me (Option T) (View T B M S) → ℕ → Me (Option T) (View T B M S) → Type 0
   publishes st me found now = (value : T) → me.1 ≡ (0, Some value) ∷ [] → now ≡ (left_at me.0.stage me.0 value, me.1)
 
+  abbrev pub RestsIn : View T B M S → Type 0
+  RestsIn v = Rests K v.knows.number v.knows.seen v.knows.held v.knows.mine v.knows.ended
+
+  -- passing on: the ticket is given up, and the slot
+  abbrev pub passes_on : Step (Option T) → Me (Option T) (View T B M S) → ℕ → Me (Option T) (View T B M S) → Type 0
+  passes_on st me found now = (now ≡ (with_stage me.0 Idle, rest me.1)) × (me.0.knows.named ≡ true → RestsIn me.0)
+
 -- cutting a part off
 module _ {T B M S : Type 0} where
   abbrev pub one_fewer : View T B M S → View T B M S
@@ -86,6 +96,7 @@ module _ {T B M S : Type 0} where
   abbrev pub one_part : S → View T B M S → View T B M S
   one_part nothing v = record {
     stage = Idle;
+    first = v.first;
     turns = 0;
     spent = v.spent;
     knows = record {
@@ -98,12 +109,9 @@ module _ {T B M S : Type 0} where
       held = v.knows.seen;
       share = nothing;
       ended = [];
+      older = v.knows.ended;
     };
   }
-
-  -- taking a number, which is another than that of the old view
-  abbrev pub is_named : Step (Option T) → Me (Option T) (View T B M S) → ℕ → Me (Option T) (View T B M S) → Type 0
-  is_named st me found now = (n : ℕ) × (n ≢ me.0.knows.number) × (now ≡ (record me.0 { knows = record me.0.knows { named = true; number = n } }, me.1))
 
   -- putting two views together: the number and marks of the second are kept as ended
   abbrev pub together : View T B M S → View T B M S → View T B M S
@@ -113,25 +121,36 @@ module _ {T B M S : Type 0} where
       parts = v.knows.parts + w.knows.parts;
       seen = longer v.knows.seen w.knows.seen;
       met = (v.knows.seen, w.knows.seen);
-      ended = v.knows.ended ++ record { number = w.knows.number; mine = w.knows.mine } ∷ w.knows.ended;
+      ended = v.knows.ended ++ record { number = w.knows.number; turns = w.turns; mine = w.knows.mine } ∷ w.knows.ended;
     };
   }
 
 module _ {T B M S : Type 0} (K : Meaning T B M S) where
+  -- a number that is new to this knowledge: no mark in it has that number, nor any pass
+  pub record IsNew (n : ℕ) (k : Knows B M S) : Type 0 where
+    pub number : n ≢ k.number
+    pub ended : IsAmong n k.older → ⊥
+    pub marks : own_in K n k.seen ≡ []
+
+  -- taking a number
+  abbrev pub is_named : Step (Option T) → Me (Option T) (View T B M S) → ℕ → Me (Option T) (View T B M S) → Type 0
+  is_named st me found now = (n : ℕ) × IsNew n me.0.knows × (now ≡ (record me.0 { knows = record me.0.knows { named = true; number = n } }, me.1))
+
   -- the view that is left behind
   abbrev pub used_up : View T B M S
   used_up = let h : History B M = record { chapter = 0; base = K.any_base; marks = [] } in record {
     stage = Idle;
+    first = 0;
     turns = 0;
     spent = false;
-    knows = record { named = false; number = 0; parts = 0; seen = h; met = (h, h); mine = []; held = h; share = K.nothing; ended = [] };
+    knows = record { named = false; number = 0; parts = 0; seen = h; met = (h, h); mine = []; held = h; share = K.nothing; ended = []; older = [] };
   }
 
-  -- what a view knows of the two that were put together: one history, and other numbers
-  pub record Meets (k : Knows B M S) : Type 0 where
-    pub one : IsBegun K k.met.0 k.seen
-    pub other : IsBegun K k.met.1 k.seen
-    pub apart : k.named ≡ true → AreApart k.number k.ended
+  -- what a view knows of the two that were put together: one history
+  pub record Meets (v : View T B M S) : Type 0 where
+    pub one : IsBegun K v.knows.met.0 v.knows.seen
+    pub other : IsBegun K v.knows.met.1 v.knows.seen
+    pub rests : v.knows.named ≡ true → RestsIn K v
 
   abbrev pub meets : Step (Option T) → Me (Option T) (View T B M S) → ℕ → Me (Option T) (View T B M S) → Type 0
-  meets st me found now = (now ≡ me) × Meets me.0.knows
+  meets st me found now = (now ≡ me) × Meets me.0

@@ -3,13 +3,17 @@
 #![tactic(auto)]
 
 mod cell;
+mod home;
 mod kept;
+mod laws;
 mod plays;
+mod sleepers;
 mod steps;
 mod turn;
 mod view;
 
 pub use cell::{NoMemory, Spent, TurnCell};
 pub use kept::Kept;
-pub use turn::{Pass, PassOf, Turn, TurnOf};
+pub use laws::{a_turn_tells, turns_add_up};
+pub use turn::{Pass, Turn};
 pub use view::{Knows, Stage, View};

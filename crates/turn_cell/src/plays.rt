@@ -1,4 +1,5 @@
 //! The rule of the table, and what each step tells.
+use crate::home::Home;
 use crate::kept::Kept;
 use crate::view::View;
 use atomic_table::{Join, Play, Split, TableRule};
@@ -7,22 +8,25 @@ use std::snapshot::Snapshot;
 
 pub(crate) type ViewOf<T> = View<T, <T as Kept>::Base, <T as Kept>::Mark, <T as Kept>::Share>;
 
+/// What the cell was made with: the value, and the ticket of the first turn.
+pub(crate) type Opening<T> = (Snapshot<T>, u64);
+
 pub struct InTurns<T> {
     of: PhantomData<T>,
 }
 
-impl<T: Kept> TableRule<Option<T>, ViewOf<T>, Snapshot<T>> for InTurns<T> {
+impl<T: Kept> TableRule<Option<Home<T>>, ViewOf<T>, Opening<T>> for InTurns<T> {
     ghost use Rattle.turn_cell.specs.Rule.{IsRuled, newcomer};
 
     ghost holds = { λ _. IsRuled T.meaning };
 
-    ghost first = { λ key. newcomer T.meaning key.value };
+    ghost first = { λ key. newcomer T.meaning key.0.value key.1 };
 }
 
 /// Drawing a ticket.
 pub(crate) struct Draw;
 
-impl<T, B, M, S> Play<Option<T>, View<T, B, M, S>> for Draw {
+impl<T, B, M, S> Play<Option<Home<T>>, View<T, B, M, S>> for Draw {
     ghost use Rattle.turn_cell.specs.Steps.{draws};
 
     ghost then = { draws };
@@ -33,7 +37,7 @@ pub(crate) struct Look<T> {
     of: PhantomData<T>,
 }
 
-impl<T: Kept> Play<Option<T>, ViewOf<T>> for Look<T> {
+impl<T: Kept> Play<Option<Home<T>>, ViewOf<T>> for Look<T> {
     ghost use Rattle.turn_cell.specs.Steps.{looks};
 
     ghost then = { looks T.meaning };
@@ -44,19 +48,21 @@ pub(crate) struct Publish<T> {
     of: PhantomData<T>,
 }
 
-impl<T: Kept> Play<Option<T>, ViewOf<T>> for Publish<T> {
+impl<T: Kept> Play<Option<Home<T>>, ViewOf<T>> for Publish<T> {
     ghost use Rattle.turn_cell.specs.Steps.{publishes};
 
     ghost then = { publishes T.meaning };
 }
 
 /// Passing the turn on.
-pub(crate) struct PassOn;
+pub(crate) struct PassOn<T> {
+    of: PhantomData<T>,
+}
 
-impl<T, B, M, S> Play<Option<T>, View<T, B, M, S>> for PassOn {
+impl<T: Kept> Play<Option<Home<T>>, ViewOf<T>> for PassOn<T> {
     ghost use Rattle.turn_cell.specs.Steps.{passes_on};
 
-    ghost then = { passes_on };
+    ghost then = { passes_on T.meaning };
 }
 
 /// Cutting one part off a pass.
@@ -73,12 +79,14 @@ impl<T: Kept> Split<ViewOf<T>> for Cut<T> {
 }
 
 /// Taking a number, of a pass that was cut off.
-pub(crate) struct Name;
+pub(crate) struct Name<T> {
+    of: PhantomData<T>,
+}
 
-impl<T, B, M, S> Play<Option<T>, View<T, B, M, S>> for Name {
+impl<T: Kept> Play<Option<Home<T>>, ViewOf<T>> for Name<T> {
     ghost use Rattle.turn_cell.specs.Steps.{is_named};
 
-    ghost then = { is_named };
+    ghost then = { is_named T.meaning };
 }
 
 /// Putting two passes together.
@@ -99,7 +107,7 @@ pub(crate) struct Meet<T> {
     of: PhantomData<T>,
 }
 
-impl<T: Kept> Play<Option<T>, ViewOf<T>> for Meet<T> {
+impl<T: Kept> Play<Option<Home<T>>, ViewOf<T>> for Meet<T> {
     ghost use Rattle.turn_cell.specs.Steps.{meets};
 
     ghost then = { meets T.meaning };

@@ -31,11 +31,15 @@ pub struct Knows<B, M, S> {
     pub share: S,
     /// The passes that were joined into it.
     pub ended: LinkedList<Ended<M>>,
+    /// Those that had been joined into the pass that it was cut off.
+    pub older: LinkedList<Ended<M>>,
 }
 
 /// The view of a seat.
 pub struct View<T, B, M, S> {
     pub stage: Stage<T>,
+    /// The ticket of the cell's first turn.
+    pub first: u64,
     /// How many turns it had.
     pub turns: u64,
     pub spent: bool,

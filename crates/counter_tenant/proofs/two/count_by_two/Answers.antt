@@ -10,7 +10,7 @@ returns g c =
     let kept = c.split-one.ensures.kept in
     c.total-2.ensures
     ∙ both_totals c.args.times c.close.result _ _ _ _ _ _
-    (subst (λ (v : Rattle.std.specs.Prelude.List Amount). IsFirst meaning v c.in-Ok.pass) c.new.ensures c.in-Ok.ensures.pass)
+    (subst (λ (v : Rattle.std.specs.Prelude.List Amount). IsFirst meaning v 0 c.in-Ok.pass) c.new.ensures c.in-Ok.ensures.pass)
     (ap (λ (p : Passed (Unit {0}) Amount (Unit {0})). p.mine) kept)
     (ap (λ (p : Passed (Unit {0}) Amount (Unit {0})). p.ended) kept)
     c.split-one.ensures.new
