@@ -1,0 +1,4 @@
+pub mod Causes
+pub mod Faking
+pub mod Hearing
+pub mod Telling

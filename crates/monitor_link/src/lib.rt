@@ -1,0 +1,12 @@
+//! The link to a guest: what asks its monitor, what hears its events, and what ends it.
+#![tactic(auto)]
+
+mod exchange;
+mod fake;
+mod link;
+#[cfg(test)]
+mod tests;
+
+pub use exchange::Exchange;
+pub use fake::Fake;
+pub use link::{Ears, Guests, Heard, Killer, Link, Monitor};
