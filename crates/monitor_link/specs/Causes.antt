@@ -26,3 +26,8 @@ IsHeardCaused other ends before now = Unit {0}
 abbrev pub IsFaultCaused : Fault → ℕ → ℕ → Type 0
 IsFaultCaused fault.Failed before now = Rose before now
 IsFaultCaused fault.NoMemory before now = Unit {0}
+
+-- an answer that a link may give: any but the store's
+abbrev pub IsOfGuest : Answer → Type 0
+IsOfGuest answer.Device = ⊥
+IsOfGuest other = Unit {0}

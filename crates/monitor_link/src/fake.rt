@@ -1,9 +1,10 @@
 // A link in memory, for tests: it answers from a list, and keeps what it was asked.
 ghost use Rattle.std.specs.Prelude.{ℕ, ◌≡◌, ◌≤◌, [], IfOk, OnErr};
-ghost use Rattle.monitor_link.specs.Causes.{IsAnswerCaused};
-ghost use Rattle.monitor_link.specs.Faking.{IsAnsweredBy, ends_after, faults_after, next_answer};
+ghost use Rattle.monitor_link.specs.Causes.{IsAnswerCaused, IsOfGuest};
+ghost use Rattle.monitor_link.specs.Faking.{IsAnsweredBy, next_answer};
 ghost use Rattle.monitor_link.specs.Telling.{Tells, told_then};
 
+use crate::counts::Counts;
 use crate::exchange::Exchange;
 use crate::link::{Ears, Heard, Killer, Monitor};
 use std::alloc::Global;
@@ -17,8 +18,7 @@ pub struct Fake {
     answers: AnswerList,
     asked: usize,
     told: ListOf<Exchange>,
-    ends: u64,
-    faults: u64,
+    counts: Counts,
 }
 
 impl Model for Fake {
@@ -27,7 +27,7 @@ impl Model for Fake {
 
     ghost Value = { FakeLink };
 
-    ghost view = { λ f. record { answers = drop f.asked f.answers; told = f.told; ends = f.ends; faults = f.faults } };
+    ghost view = { λ f. record { answers = drop f.asked f.answers; told = f.told; counts = f.counts } };
 
     ghost invariant = { λ f. f.asked ≤ length f.answers };
 }
@@ -35,14 +35,13 @@ impl Model for Fake {
 impl Fake {
     /// A link that gives these answers.
     pub fn new(alloc: Global, answers: AnswerList) -> Fake
-        ensures { result ≡ record { answers = answers; told = []; ends = 0; faults = 0 } }
+        ensures { result ≡ record { answers = answers; told = []; counts = record { ends = 0; faults = 0 } } }
     {
         Fake {
             answers,
             asked: 0,
             told: ListOf::new(alloc),
-            ends: 0,
-            faults: 0,
+            counts: Counts::NONE,
         }
     }
 
@@ -57,25 +56,24 @@ impl Fake {
 impl Monitor for Fake {
     ghost use Rattle.std.specs.Prelude.{Some};
 
-    ghost ends = { λ f. f.ends };
+    ghost ends = { λ f. f.counts.ends };
 
-    ghost faults = { λ f. f.faults };
+    ghost faults = { λ f. f.counts.faults };
 
     ghost told = { λ f. Some f.told };
 
     fn ask(&mut self, command: &Command) -> Answer
         ensures answer { IsAnsweredBy self.old self.new command.now result }
-        ensures cause { IsAnswerCaused result self.new.ends self.old.faults self.new.faults }
-        ensures ends { self.old.ends ≤ self.new.ends }
-        ensures faults { self.old.faults ≤ self.new.faults }
+        ensures cause { IsAnswerCaused result self.new.counts.ends self.old.counts.faults self.new.counts.faults }
+        ensures ends { self.old.counts.ends ≤ self.new.counts.ends }
+        ensures faults { self.old.counts.faults ≤ self.new.counts.faults }
         ensures told { Tells (Some self.old.told) (Some self.new.told) command.now result }
     {
         let left = self.answers.as_slice().split_at(self.asked).1;
         match sent(&mut self.told, command, left) {
             Ok(answer) => {
                 self.asked = (self.asked + 1).min(self.answers.len());
-                self.ends = ends_after(&answer, self.ends);
-                self.faults = faults_after(&answer, self.faults);
+                self.counts.count_answer(&answer);
                 answer
             }
             Err(NoMemory) => Answer::NoMemory,
@@ -86,9 +84,9 @@ impl Monitor for Fake {
 impl Ears for Fake {
     ghost use Rattle.std.specs.Prelude.{None};
 
-    ghost ends = { λ f. f.ends };
+    ghost ends = { λ f. f.counts.ends };
 
-    ghost faults = { λ f. f.faults };
+    ghost faults = { λ f. f.counts.faults };
 
     ghost unheard = { λ _. None };
 
@@ -108,6 +106,7 @@ fn sent(
     answers: &[Answer],
 ) -> Result<Answer, NoMemory>
     ensures answer { IfOk result (λ answer. answer ≡ next_answer answers.now) }
+    ensures guest { IfOk result (λ answer. IsOfGuest answer) }
     ensures told { IfOk result (λ answer. told.new ≡ told_then told.old command.now answer) }
     ensures err { OnErr result (told.new ≡ told.old) }
 {
@@ -124,30 +123,11 @@ fn sent(
 }
 
 fn next_answer(answers: &[Answer]) -> Result<Answer, NoMemory>
-    ensures { IfOk result (λ answer. answer ≡ next_answer answers.now) }
+    ensures answer { IfOk result (λ answer. answer ≡ next_answer answers.now) }
+    ensures guest { IfOk result (λ answer. IsOfGuest answer) }
 {
     match answers {
         [] | [Answer::Device, ..] => Ok(Answer::Lost),
         [answer, ..] => answer.copy(),
-    }
-}
-
-fn ends_after(answer: &Answer, ends: u64) -> u64
-    ensures count { result ≡ ends_after answer.now ends }
-    ensures later { ends ≤ result }
-{
-    match answer {
-        Answer::Ended(_) => ends.saturating_add(1),
-        _ => ends,
-    }
-}
-
-fn faults_after(answer: &Answer, faults: u64) -> u64
-    ensures count { result ≡ faults_after answer.now faults }
-    ensures later { faults ≤ result }
-{
-    match answer {
-        Answer::Lost => faults.saturating_add(1),
-        _ => faults,
     }
 }
