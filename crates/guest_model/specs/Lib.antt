@@ -1,0 +1,4 @@
+pub mod Machine
+pub mod Memory
+pub mod Hearing
+pub mod Script

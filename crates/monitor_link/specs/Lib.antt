@@ -1,0 +1,5 @@
+pub mod Causes
+pub mod Counting
+pub mod Faking
+pub mod Hearing
+pub mod Telling

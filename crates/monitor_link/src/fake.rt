@@ -1,0 +1,133 @@
+// A link in memory, for tests: it answers from a list, and keeps what it was asked.
+ghost use Rattle.std.specs.Prelude.{ℕ, ◌≡◌, ◌≤◌, [], IfOk, OnErr};
+ghost use Rattle.monitor_link.specs.Causes.{IsAnswerCaused, IsOfGuest};
+ghost use Rattle.monitor_link.specs.Faking.{IsAnsweredBy, next_answer};
+ghost use Rattle.monitor_link.specs.Telling.{Tells, told_then};
+
+use crate::counts::Counts;
+use crate::exchange::Exchange;
+use crate::link::{Ears, Heard, Killer, Monitor};
+use std::alloc::Global;
+use std::marker::Model;
+use virt_types::{Answer, AnswerList, Command, ListOf, NoMemory, TryCopy, both};
+
+/// A link in memory that gives these answers in order, and after them that it was lost. Nothing is heard
+/// of it.
+#[derive(Drop)]
+pub struct Fake {
+    answers: AnswerList,
+    asked: usize,
+    told: ListOf<Exchange>,
+    counts: Counts,
+}
+
+impl Model for Fake {
+    ghost use Rattle.std.specs.Prelude.{◌≤◌, drop, length};
+    ghost use Rattle.monitor_link.specs.Faking.{FakeLink};
+
+    ghost Value = { FakeLink };
+
+    ghost view = { λ f. record { answers = drop f.asked f.answers; told = f.told; counts = f.counts } };
+
+    ghost invariant = { λ f. f.asked ≤ length f.answers };
+}
+
+impl Fake {
+    /// A link that gives these answers.
+    pub fn new(alloc: Global, answers: AnswerList) -> Fake
+        ensures { result ≡ record { answers = answers; told = []; counts = record { ends = 0; faults = 0 } } }
+    {
+        Fake {
+            answers,
+            asked: 0,
+            told: ListOf::new(alloc),
+            counts: Counts::NONE,
+        }
+    }
+
+    /// The commands that it was sent, each with its answer.
+    pub fn told(&self) -> &[Exchange]
+        ensures { result.now ≡ self.now.told }
+    {
+        self.told.as_slice()
+    }
+}
+
+impl Monitor for Fake {
+    ghost use Rattle.std.specs.Prelude.{Some};
+
+    ghost ends = { λ f. f.counts.ends };
+
+    ghost faults = { λ f. f.counts.faults };
+
+    ghost told = { λ f. Some f.told };
+
+    fn ask(&mut self, command: &Command) -> Answer
+        ensures answer { IsAnsweredBy self.old self.new command.now result }
+        ensures cause { IsAnswerCaused result self.new.counts.ends self.old.counts.faults self.new.counts.faults }
+        ensures ends { self.old.counts.ends ≤ self.new.counts.ends }
+        ensures faults { self.old.counts.faults ≤ self.new.counts.faults }
+        ensures told { Tells (Some self.old.told) (Some self.new.told) command.now result }
+    {
+        let left = self.answers.as_slice().split_at(self.asked).1;
+        match sent(&mut self.told, command, left) {
+            Ok(answer) => {
+                self.asked = (self.asked + 1).min(self.answers.len());
+                self.counts.count_answer(&answer);
+                answer
+            }
+            Err(NoMemory) => Answer::NoMemory,
+        }
+    }
+}
+
+impl Ears for Fake {
+    ghost use Rattle.std.specs.Prelude.{None};
+
+    ghost ends = { λ f. f.counts.ends };
+
+    ghost faults = { λ f. f.counts.faults };
+
+    ghost unheard = { λ _. None };
+
+    fn hear(&mut self) -> Heard {
+        Heard::Quiet
+    }
+}
+
+impl Killer for Fake {
+    fn kill(&mut self) {}
+}
+
+// The next of these answers, with which what was told goes on.
+fn sent(
+    told: &mut ListOf<Exchange>,
+    command: &Command,
+    answers: &[Answer],
+) -> Result<Answer, NoMemory>
+    ensures answer { IfOk result (λ answer. answer ≡ next_answer answers.now) }
+    ensures guest { IfOk result (λ answer. IsOfGuest answer) }
+    ensures told { IfOk result (λ answer. told.new ≡ told_then told.old command.now answer) }
+    ensures err { OnErr result (told.new ≡ told.old) }
+{
+    let answer = next_answer(answers)?;
+    if let Answer::NoMemory = answer {
+        return Ok(answer);
+    }
+    let (command, kept) = both(command.copy(), answer.copy())?;
+    told.push(Exchange {
+        command,
+        answer: kept,
+    })?;
+    Ok(answer)
+}
+
+fn next_answer(answers: &[Answer]) -> Result<Answer, NoMemory>
+    ensures answer { IfOk result (λ answer. answer ≡ next_answer answers.now) }
+    ensures guest { IfOk result (λ answer. IsOfGuest answer) }
+{
+    match answers {
+        [] | [Answer::Device, ..] => Ok(Answer::Lost),
+        [answer, ..] => answer.copy(),
+    }
+}
