@@ -1,5 +1,5 @@
 -- How a modelled guest is made, and what one call of it does.
-use Rattle.std.specs.Prelude.{◌≡◌, ℕ, ◌⊎◌, List, [], None}
+use Rattle.std.specs.Prelude.{◌≡◌, ℕ, ◌⊎◌, [], None}
 use Rattle.guest_model.specs.Machine.{counted, reaction}
 use Rattle.guest_model.specs.declared.guest.SimGuest.{SimGuest}
 use Rattle.virt_types.specs.declared.answer.Answer.{Answer}

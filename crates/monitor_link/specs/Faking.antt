@@ -1,5 +1,5 @@
 -- A link in memory that answers from a list.
-use Rattle.std.specs.Prelude.{◌≡◌, ℕ, ◌+◌, ◌-◌, ◌^◌, ◌⊎◌, List, [], ◌∷◌, min, drop}
+use Rattle.std.specs.Prelude.{◌≡◌, ◌⊎◌, List, [], ◌∷◌, drop}
 use Rattle.monitor_link.specs.declared.counts.Counts.{Counts}
 use Rattle.monitor_link.specs.declared.exchange.Exchange.{Exchange}
 use Rattle.monitor_link.specs.Counting.{after_answer}
