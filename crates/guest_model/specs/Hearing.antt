@@ -18,23 +18,25 @@ pub record Hearing : Type 0 where
 abbrev pub ended_by : EndReason → SimGuest → SimGuest
 ended_by why g = record g { ended = Some (unwrap_or g.ended why) }
 
--- nothing is queued: its end is heard, again and again
-abbrev pub idle : SimGuest → Option EndReason → Heard
-idle g None = heard.Quiet
-idle g (Some why) = heard.Ended why
+-- nothing is queued: its end is heard, once it has ended
+abbrev pub idle : Option EndReason → Heard
+idle None = heard.Quiet
+idle (Some why) = heard.Ended why
 
 -- the first of the queue leaves it; an end ends the guest as it is heard
 abbrev pub hearing_of : SimGuest → List Happening → Hearing
-hearing_of g [] = record { heard = idle g g.ended; guest = g }
+hearing_of g [] = record { heard = idle g.ended; guest = g }
 hearing_of g (happening.Event event ∷ rest) = record { heard = heard.Event event; guest = record g { queue = rest } }
 hearing_of g (happening.End why ∷ rest) = record { heard = heard.Ended (unwrap_or g.ended why); guest = ended_by why (record g { queue = rest }) }
 
 -- what is heard next, counted
-abbrev pub counted : Hearing → Hearing
-counted h = record h { guest = record h.guest { counts = after_heard h.guest.counts h.heard } }
+abbrev pub with_heard_counted : Hearing → Hearing
+with_heard_counted h = record h { guest = record h.guest { counts = after_heard h.guest.counts h.heard } }
 
+-- the next hearing of a guest
 abbrev pub hearing : SimGuest → Hearing
-hearing g = counted (hearing_of g g.queue)
+hearing g = with_heard_counted (hearing_of g g.queue)
 
+-- a kill ends it at once
 abbrev pub killed : SimGuest → SimGuest
 killed g = ended_by reason.Killed g

@@ -1,4 +1,4 @@
-pub mod Machine
-pub mod Memory
 pub mod Hearing
+pub mod Machine
+pub mod Reacting
 pub mod Script

@@ -22,9 +22,11 @@ pub record Reaction : Type 0 where
   pub answer : Answer
   pub guest : SimGuest
 
+-- this answer, by the guest as it is now
 abbrev pub react : Answer → SimGuest → Reaction
 react a g = record { answer = a; guest = g }
 
+-- the command was done, and gives nothing
 abbrev pub done : SimGuest → Reaction
 done g = react (answer.Ok given.Nothing) g
 
@@ -76,6 +78,7 @@ acted g act.End = react (answer.Ended reason.Crashed) (record g { ended = Some r
 acted g act.Refuse = react (answer.Refused 1) g
 acted g act.Lost = react answer.Lost g
 
+-- the script comes first
 abbrev pub lived : SimGuest → Option ScriptAct → Command → Reaction
 lived g (Some act) command = acted g act
 lived g None command = obeyed g command
@@ -84,7 +87,7 @@ lived g None command = obeyed g command
 abbrev pub numbered : ℕ → Reaction → Reaction
 numbered commands r = react r.answer (record r.guest { commands = commands })
 
--- a live guest does what its script says, and else obeys
+-- a live guest counts the command and answers it
 abbrev pub alive : SimGuest → Command → Reaction
 alive g command = numbered (next_command g) (lived g (act_at g.script g.boot (next_command g)) command)
 

@@ -2,7 +2,7 @@
 ghost use Rattle.std.specs.Prelude.{◌≡◌, ◌++◌, IfOk, OnErr, OnOk};
 ghost use Rattle.std.specs.Int.{w64, to_be_bytes};
 ghost use Rattle.guest_model.specs.Machine.{acted, alive, kicked, lived, loaded, next_command, obeyed, polled, reaction, shutdown};
-ghost use Rattle.guest_model.specs.Memory.{TakesMemory};
+ghost use Rattle.guest_model.specs.Reacting.{TakesMemory};
 ghost use Rattle.monitor_link.specs.Causes.{IsOfGuest};
 
 use crate::guest::SimGuest;

@@ -1,7 +1,7 @@
 // A modelled guest.
 ghost use Rattle.std.specs.Prelude.{◌≡◌, ◌≤◌, IfOk};
 ghost use Rattle.guest_model.specs.Hearing.{hearing, killed};
-ghost use Rattle.guest_model.specs.Memory.{Reacts, made};
+ghost use Rattle.guest_model.specs.Reacting.{Reacts, made};
 ghost use Rattle.monitor_link.specs.Causes.{IsAnswerCaused, IsHeardCaused, IsOfGuest};
 
 use crate::asks::react;
@@ -57,7 +57,7 @@ impl Monitor for SimGuest {
 
     ghost faults = { λ g. g.counts.faults };
 
-    ghost told = { λ _. None };
+    ghost exchanges = { λ _. None };
 
     fn ask(&mut self, command: &Command) -> Answer
         ensures machine { Reacts self.old command.now result self.new }

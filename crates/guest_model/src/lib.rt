@@ -7,6 +7,8 @@ mod happening;
 mod link;
 mod queue;
 mod script;
+#[cfg(test)]
+mod tests;
 
 pub use guest::SimGuest;
 pub use happening::Happening;

@@ -21,7 +21,7 @@ impl<H: Wait + Copy + Send + Sync> Monitor for SimMonitor<H> {
 
     ghost faults = { λ m. m.counts.faults };
 
-    ghost told = { λ _. None };
+    ghost exchanges = { λ _. None };
 
     fn ask(&mut self, command: &Command) -> Answer {
         let answer = self.guest.lock(&self.rt).ask(command);
@@ -74,7 +74,7 @@ pub struct SimGuests<H> {
     alloc: Global,
 }
 
-impl<H: Wait + Copy + Send + Sync> SimGuests<H> {
+impl<H> SimGuests<H> {
     /// A maker whose links wait for their locks by this handle.
     pub fn new(rt: H, alloc: Global) -> SimGuests<H> {
         SimGuests { rt, alloc }

@@ -5,7 +5,7 @@ use Rattle.monitor_link.specs.Counting.{after_answer}
 use Rattle.monitor_link.specs.declared.counts.Counts.{Counts}
 use Rattle.monitor_link.specs.declared.exchange.Exchange.{Exchange}
 use Rattle.monitor_link.specs.Faking.{IsAnsweredBy, next_answer}
-use Rattle.monitor_link.specs.Telling.{told_then}
+use Rattle.monitor_link.specs.Exchanges.{exchanges_after}
 use Rattle.virt_types.specs.declared.answer.Answer.{Answer}
 use Rattle.virt_types.specs.declared.ask.Command.{Command}
 
@@ -13,6 +13,6 @@ use Rattle.virt_types.specs.declared.ask.Command.{Command}
 next_drop : (answers : List Answer) (asked : ℕ) → drop (min (asked + 1) (length answers)) answers ≡ drop 1 (drop asked answers)
 next_drop answers asked = drop_min (asked + 1) answers ∙ sym (drop-drop 1 asked answers)
 
-pub answered : (answers : List Answer) (asked next : ℕ) (told told_now : List Exchange) (counts counts_now : Counts) (command : Command) (result : Answer) → next ≡ min (asked + 1) (length answers) → result ≡ next_answer (drop asked answers) → told_now ≡ told_then told command result → counts_now ≡ after_answer counts result → IsAnsweredBy (record { answers = drop asked answers; told = told; counts = counts }) (record { answers = drop next answers; told = told_now; counts = counts_now }) command result
-answered answers asked next told told_now counts counts_now command result moved is goes_on counted =
-    inl (is, λ i. record { answers = (ap (λ at. drop at answers) moved ∙ next_drop answers asked) i; told = goes_on i; counts = counted i })
+pub answered : (answers : List Answer) (asked next : ℕ) (exchanges exchanges_now : List Exchange) (counts counts_now : Counts) (command : Command) (result : Answer) → next ≡ min (asked + 1) (length answers) → result ≡ next_answer (drop asked answers) → exchanges_now ≡ exchanges_after exchanges command result → counts_now ≡ after_answer counts result → IsAnsweredBy (record { answers = drop asked answers; exchanges = exchanges; counts = counts }) (record { answers = drop next answers; exchanges = exchanges_now; counts = counts_now }) command result
+answered answers asked next exchanges exchanges_now counts counts_now command result moved is goes_on counted =
+    inl (is, λ i. record { answers = (ap (λ at. drop at answers) moved ∙ next_drop answers asked) i; exchanges = goes_on i; counts = counted i })

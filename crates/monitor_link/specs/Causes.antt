@@ -1,4 +1,4 @@
--- What a link answers has its cause in a count: of the ends that were told, or of the faults of the link.
+-- What a link answers has its cause in a count: of the guest's ends, or of the faults of the link.
 use Rattle.std.specs.Prelude.{ℕ, ◌≤◌}
 use Rattle.outside_spec.specs.Faults.{Rose}
 use Rattle.monitor_link.specs.declared.link.Heard.{Heard}

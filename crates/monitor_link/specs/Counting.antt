@@ -16,6 +16,7 @@ after_answer counts (answer.Ended reason) = record counts { ends = one_more coun
 after_answer counts answer.Lost = record counts { faults = one_more counts.faults }
 after_answer counts other = counts
 
+-- the same of what is heard
 abbrev pub after_heard : Counts → Heard → Counts
 after_heard counts (heard.Ended reason) = record counts { ends = one_more counts.ends }
 after_heard counts heard.Lost = record counts { faults = one_more counts.faults }

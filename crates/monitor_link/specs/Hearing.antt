@@ -1,4 +1,4 @@
--- What ears tell of the events that are still to be heard.
+-- What ears report of the events that are still to be heard.
 use Rattle.std.specs.Prelude.{◌≡◌, List, ◌∷◌, Option, None, option_map}
 use Rattle.monitor_link.specs.declared.link.Heard.{Heard}
 use Rattle.monitor_link.specs.declared.link.Heard.TheVariants as heard

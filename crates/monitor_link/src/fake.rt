@@ -2,7 +2,7 @@
 ghost use Rattle.std.specs.Prelude.{ℕ, ◌≡◌, ◌≤◌, [], IfOk, OnErr};
 ghost use Rattle.monitor_link.specs.Causes.{IsAnswerCaused, IsOfGuest};
 ghost use Rattle.monitor_link.specs.Faking.{IsAnsweredBy, next_answer};
-ghost use Rattle.monitor_link.specs.Telling.{Tells, told_then};
+ghost use Rattle.monitor_link.specs.Exchanges.{Reports, exchanges_after};
 
 use crate::counts::Counts;
 use crate::exchange::Exchange;
@@ -17,7 +17,7 @@ use virt_types::{Answer, AnswerList, Command, ListOf, NoMemory, TryCopy, both};
 pub struct Fake {
     answers: AnswerList,
     asked: usize,
-    told: ListOf<Exchange>,
+    exchanges: ListOf<Exchange>,
     counts: Counts,
 }
 
@@ -27,7 +27,7 @@ impl Model for Fake {
 
     ghost Value = { FakeLink };
 
-    ghost view = { λ f. record { answers = drop f.asked f.answers; told = f.told; counts = f.counts } };
+    ghost view = { λ f. record { answers = drop f.asked f.answers; exchanges = f.exchanges; counts = f.counts } };
 
     ghost invariant = { λ f. f.asked ≤ length f.answers };
 }
@@ -35,21 +35,21 @@ impl Model for Fake {
 impl Fake {
     /// A link that gives these answers.
     pub fn new(alloc: Global, answers: AnswerList) -> Fake
-        ensures { result ≡ record { answers = answers; told = []; counts = record { ends = 0; faults = 0 } } }
+        ensures { result ≡ record { answers = answers; exchanges = []; counts = record { ends = 0; faults = 0 } } }
     {
         Fake {
             answers,
             asked: 0,
-            told: ListOf::new(alloc),
+            exchanges: ListOf::new(alloc),
             counts: Counts::NONE,
         }
     }
 
     /// The commands that it was sent, each with its answer.
-    pub fn told(&self) -> &[Exchange]
-        ensures { result.now ≡ self.now.told }
+    pub fn exchanges(&self) -> &[Exchange]
+        ensures { result.now ≡ self.now.exchanges }
     {
-        self.told.as_slice()
+        self.exchanges.as_slice()
     }
 }
 
@@ -60,17 +60,17 @@ impl Monitor for Fake {
 
     ghost faults = { λ f. f.counts.faults };
 
-    ghost told = { λ f. Some f.told };
+    ghost exchanges = { λ f. Some f.exchanges };
 
     fn ask(&mut self, command: &Command) -> Answer
         ensures answer { IsAnsweredBy self.old self.new command.now result }
         ensures cause { IsAnswerCaused result self.new.counts.ends self.old.counts.faults self.new.counts.faults }
         ensures ends { self.old.counts.ends ≤ self.new.counts.ends }
         ensures faults { self.old.counts.faults ≤ self.new.counts.faults }
-        ensures told { Tells (Some self.old.told) (Some self.new.told) command.now result }
+        ensures exchanges { Reports (Some self.old.exchanges) (Some self.new.exchanges) command.now result }
     {
         let left = self.answers.as_slice().split_at(self.asked).1;
-        match sent(&mut self.told, command, left) {
+        match sent(&mut self.exchanges, command, left) {
             Ok(answer) => {
                 self.asked = (self.asked + 1).min(self.answers.len());
                 self.counts.count_answer(&answer);
@@ -99,23 +99,23 @@ impl Killer for Fake {
     fn kill(&mut self) {}
 }
 
-// The next of these answers, with which what was told goes on.
+// The next of these answers, which is added to the exchanges.
 fn sent(
-    told: &mut ListOf<Exchange>,
+    exchanges: &mut ListOf<Exchange>,
     command: &Command,
     answers: &[Answer],
 ) -> Result<Answer, NoMemory>
     ensures answer { IfOk result (λ answer. answer ≡ next_answer answers.now) }
     ensures guest { IfOk result (λ answer. IsOfGuest answer) }
-    ensures told { IfOk result (λ answer. told.new ≡ told_then told.old command.now answer) }
-    ensures err { OnErr result (told.new ≡ told.old) }
+    ensures exchanges { IfOk result (λ answer. exchanges.new ≡ exchanges_after exchanges.old command.now answer) }
+    ensures err { OnErr result (exchanges.new ≡ exchanges.old) }
 {
     let answer = next_answer(answers)?;
     if let Answer::NoMemory = answer {
         return Ok(answer);
     }
     let (command, kept) = both(command.copy(), answer.copy())?;
-    told.push(Exchange {
+    exchanges.push(Exchange {
         command,
         answer: kept,
     })?;

@@ -5,7 +5,7 @@ ghost use Rattle.std.specs.Prelude.{ℕ, ◌≤◌, List, IfErr, IfOk};
 ghost use Rattle.std.specs.declared.option.Option.{Option};
 ghost use Rattle.monitor_link.specs.declared.exchange.Exchange.{Exchange as TheExchange};
 ghost use Rattle.monitor_link.specs.Causes.{IsAnswerCaused, IsFaultCaused, IsHeardCaused};
-ghost use Rattle.monitor_link.specs.Telling.{HasToldNothing, Tells};
+ghost use Rattle.monitor_link.specs.Exchanges.{HasNoExchange, Reports};
 ghost use Rattle.virt_types.specs.declared.ask.GuestEvent.{GuestEvent as TheGuestEvent};
 ghost use Rattle.monitor_link.specs.Hearing.{Hears};
 
@@ -34,8 +34,8 @@ pub trait Monitor {
     // How often the link was lost.
     ghost faults: { Self → ℕ };
 
-    // The commands that were sent, each with its answer, in order, where the monitor tells them.
-    ghost told: { Self → Option (List TheExchange) };
+    // The commands that were sent, each with its answer, in order, where the monitor reports them.
+    ghost exchanges: { Self → Option (List TheExchange) };
 
     /// Sends a command, and gives its answer. It may wait for the guest. After `NoMemory` the command
     /// was not sent.
@@ -43,7 +43,7 @@ pub trait Monitor {
         ensures cause { IsAnswerCaused result (ends self.new) (faults self.old) (faults self.new) }
         ensures ends { ends self.old ≤ ends self.new }
         ensures faults { faults self.old ≤ faults self.new }
-        ensures told { Tells (told self.old) (told self.new) command.now result };
+        ensures exchanges { Reports (exchanges self.old) (exchanges self.new) command.now result };
 }
 
 /// The end of a link at which a guest's events are heard.
@@ -54,7 +54,7 @@ pub trait Ears {
     // How often the link was lost.
     ghost faults: { Self → ℕ };
 
-    // The events that are still to be heard, in order, where the ears tell them.
+    // The events that are still to be heard, in order, where the ears report them.
     ghost unheard: { Self → Option (List TheGuestEvent) };
 
     /// What is heard next. It may wait for the guest.
@@ -100,7 +100,7 @@ pub trait Guests {
     fn make(&mut self, def: &DomainDef, boot: u64) -> Result<Link<Self::M, Self::E, Self::Z>, Fault>
         ensures cause { IfErr result (λ fault. IsFaultCaused fault (faults self.old) (faults self.new)) }
         ensures faults { faults self.old ≤ faults self.new }
-        ensures told { IfOk result (λ link. HasToldNothing (Self.M.told link.monitor)) };
+        ensures exchanges { IfOk result (λ link. HasNoExchange (Self.M.exchanges link.monitor)) };
 
     /// Another maker of such guests, for another activity.
     fn another(&mut self) -> Result<Self, NoMemory>

@@ -25,11 +25,11 @@ fn a_list_is_answered_in_order_and_then_the_link_is_lost(rt: HostRuntime) -> Res
     assert!(rt; matches!(fake.ask(&Command::Reset), Answer::Ended(EndReason::Crashed)));
     assert!(rt; matches!(fake.ask(&Command::Quit), Answer::Lost));
     assert_eq!(rt;
-        fake.told().len(),
+        fake.exchanges().len(),
         5,
         "a command that found no memory was not sent"
     );
-    match fake.told() {
+    match fake.exchanges() {
         [memory, .., quit] => {
             assert!(rt; matches!(memory.command, Command::QueryMemory));
             assert!(rt; matches!(quit.command, Command::Quit));

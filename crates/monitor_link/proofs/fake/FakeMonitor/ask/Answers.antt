@@ -9,4 +9,4 @@ returns-in-Ok-clause-answer c =
     rw (← c.self.view_is) (answered _ _ _ _ _ _ _ _ _
     (c.min-self-inside.ensures ∙ ap (λ count. min (c.self.inside.asked + 1) count) c.len.ensures)
     (c.in-Ok.ensures.answer ∙ ap next_answer (c.split_at.ensures.back ∙ ap (λ all. drop c.self.inside.asked all) c.as_slice.ensures))
-    c.in-Ok.ensures.told c.count_answer.ensures.counts)
+    c.in-Ok.ensures.exchanges c.count_answer.ensures.counts)

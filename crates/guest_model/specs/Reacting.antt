@@ -1,5 +1,5 @@
--- What a modelled guest is where it is made, and where it finds no memory.
-use Rattle.std.specs.Prelude.{◌≡◌, ℕ, ◌⊎◌, List, [], None}
+-- How a modelled guest is made, and what one call of it does.
+use Rattle.std.specs.Prelude.{◌≡◌, ℕ, ◌⊎◌, [], None}
 use Rattle.guest_model.specs.Machine.{counted, reaction}
 use Rattle.guest_model.specs.declared.guest.SimGuest.{SimGuest}
 use Rattle.virt_types.specs.declared.answer.Answer.{Answer}
@@ -39,5 +39,6 @@ pub record IsWithoutMemory (before : SimGuest) (command : Command) (result : Ans
   pub answer : result ≡ answer.NoMemory
   pub guest : after ≡ before
 
+-- the machine answered, or there was no memory
 abbrev pub Reacts : SimGuest → Command → Answer → SimGuest → Type 0
 Reacts before command result after = IsReaction before command result after ⊎ IsWithoutMemory before command result after

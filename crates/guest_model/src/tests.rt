@@ -1,0 +1,4 @@
+mod answers;
+mod fixtures;
+mod hearing;
+mod links;
