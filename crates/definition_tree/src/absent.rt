@@ -1,4 +1,4 @@
-// What stands for an identifier or an address that a definition does not have yet.
+// What replaces an identifier or an address that a definition does not have yet.
 ghost use Rattle.std.specs.Prelude.{◌≡◌, Option, Some, unwrap_or};
 ghost use Rattle.text_spec.specs.DevicePrinted.{any_mac};
 ghost use Rattle.text_spec.specs.DomainPrinted.{any_uuid};

@@ -1,4 +1,4 @@
-// Disks, interfaces, and devices that stand alone.
+// Disks, interfaces, and devices on their own.
 ghost use Rattle.std.specs.Prelude.{◌≡◌, ◌++◌, ◌∷◌, [], IfOk, map};
 ghost use Rattle.definition_tree.specs.Absent.{interface_as, device_as};
 ghost use Rattle.text_spec.specs.DevicePrinted as spec;

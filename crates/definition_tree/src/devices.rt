@@ -119,7 +119,7 @@ fn add_memballoon(
     }
 }
 
-/// Adds the devices that stand beside disks and interfaces.
+/// Adds the devices other than disks and interfaces.
 fn add_others(alloc: Global, out: &mut Vec<Tree>, def: &DomainDef) -> Result<(), NoMemory>
     ensures { OnOk result (map seen out.new.items ≡ map seen out.old.items
         ++ spec.other_device_trees def.now) }

@@ -1,4 +1,4 @@
-//! The trees that definitions stand for: how a definition is spelled.
+//! The trees of definitions: how a definition is spelled.
 #![tactic(auto)]
 
 mod absent;

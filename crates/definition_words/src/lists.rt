@@ -18,7 +18,7 @@ pub fn domain_type_word(value: DomainType) -> &'static str
     }
 }
 
-/// The value that a word stands for: by what a domain is run.
+/// The value of a word: by what a domain is run.
 #[tactic(auto, unfolding(text_spec::specs::Words::domain_type_of))]
 pub fn domain_type_of(word: &str) -> Option<DomainType>
     ensures { result ≡ spec.domain_type_of word.now }
@@ -48,7 +48,7 @@ pub fn boot_device_word(value: BootDevice) -> &'static str
     }
 }
 
-/// The value that a word stands for: what a guest is booted from.
+/// The value of a word: what a guest is booted from.
 #[tactic(auto, unfolding(text_spec::specs::Words::boot_device_of))]
 pub fn boot_device_of(word: &str) -> Option<BootDevice>
     ensures { result ≡ spec.boot_device_of word.now }
@@ -78,7 +78,7 @@ pub fn lifecycle_action_word(value: LifecycleAction) -> &'static str
     }
 }
 
-/// The value that a word stands for: what follows when a guest powers off or reboots.
+/// The value of a word: what follows when a guest powers off or reboots.
 #[tactic(auto, unfolding(text_spec::specs::Words::lifecycle_action_of))]
 pub fn lifecycle_action_of(word: &str) -> Option<LifecycleAction>
     ensures { result ≡ spec.lifecycle_action_of word.now }
@@ -112,7 +112,7 @@ pub fn crash_action_word(value: CrashAction) -> &'static str
     }
 }
 
-/// The value that a word stands for: what follows when a guest crashes.
+/// The value of a word: what follows when a guest crashes.
 #[tactic(auto, unfolding(text_spec::specs::Words::crash_action_of))]
 pub fn crash_action_of(word: &str) -> Option<CrashAction>
     ensures { result ≡ spec.crash_action_of word.now }
@@ -136,7 +136,7 @@ pub fn disk_type_word(value: DiskType) -> &'static str
     }
 }
 
-/// The value that a word stands for: what a disk's source is.
+/// The value of a word: what a disk's source is.
 #[tactic(auto, unfolding(text_spec::specs::Words::disk_type_of))]
 pub fn disk_type_of(word: &str) -> Option<DiskType>
     ensures { result ≡ spec.disk_type_of word.now }
@@ -166,7 +166,7 @@ pub fn disk_device_word(value: DiskDevice) -> &'static str
     }
 }
 
-/// The value that a word stands for: what a guest sees a disk as.
+/// The value of a word: what a guest sees a disk as.
 #[tactic(auto, unfolding(text_spec::specs::Words::disk_device_of))]
 pub fn disk_device_of(word: &str) -> Option<DiskDevice>
     ensures { result ≡ spec.disk_device_of word.now }
@@ -194,7 +194,7 @@ pub fn interface_type_word(value: InterfaceType) -> &'static str
     }
 }
 
-/// The value that a word stands for: what an interface is joined to.
+/// The value of a word: what an interface is joined to.
 #[tactic(auto, unfolding(text_spec::specs::Words::interface_type_of))]
 pub fn interface_type_of(word: &str) -> Option<InterfaceType>
     ensures { result ≡ spec.interface_type_of word.now }

@@ -22,7 +22,7 @@ fn is_number(text: &str) -> bool
     (1..=MOST_DIGITS).contains(&text.len()) && are_digits(text.as_bytes())
 }
 
-/// The number that a text of 1 to 19 decimal digits is. Zeros may stand in front.
+/// The number that a text of 1 to 19 decimal digits is. Leading zeros are allowed.
 pub fn read_number(text: &str) -> Option<u64>
     ensures value { result ≡ spec.number_of text.now }
     ensures within { IfSome result (λ number. number < 10 ^ 19) }

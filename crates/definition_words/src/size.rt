@@ -13,7 +13,7 @@ const MOST_KIBIBYTES: u64 = 1 << 40;
 /// The most storage, in bytes.
 const MOST_BYTES: u64 = 1 << 60;
 
-/// The bytes of a unit, or of the usual one where none stands.
+/// The bytes of a unit, or of the usual one where there is none.
 fn unit_or(unit: Option<&str>, usual: u64) -> Option<u64>
     ensures { result ≡ option_map_or spec.unit_of (option_copied unit.entry) (Some usual) }
 {

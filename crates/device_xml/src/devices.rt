@@ -79,7 +79,7 @@ fn all_tests(
     Ok(())
 }
 
-/// Tests the devices of a kind that stand in an element, each of which these names lead to: by
+/// Tests the devices of a kind in an element, each of which these names lead to: by
 /// their table, and that none has the key of an earlier one.
 #[tactic(auto, using(text_spec::proofs::Seen::children_seen), unfolding(text_spec::specs::Look::all_of))]
 pub fn devices_test(

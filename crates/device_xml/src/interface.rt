@@ -13,7 +13,7 @@ use virt_types::{
     Interface, InterfaceModel, InterfaceSource, InterfaceType, Mac, NoMemory, Text, both,
 };
 
-// The type is needed, so none stands for it where the element has no fault.
+// The type is needed, so this default is not used where the element has no fault.
 fn type_of(tree: &Tree) -> InterfaceType
     ensures { result ≡ unwrap_or (option_and_then words.interface_type_of
         (spec_attribute_of AttributeName.Type (seen tree.now))) interface_type.Network }

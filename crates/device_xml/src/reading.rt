@@ -1,4 +1,4 @@
-// Reading a device that stands alone.
+// Reading a device on its own.
 ghost use Rattle.std.specs.Prelude.{◌≡◌, IfOk};
 ghost use Rattle.text_spec.specs.Definition.{device_read};
 ghost use Rattle.text_spec.specs.DeviceList as spec;
@@ -40,7 +40,7 @@ fn read_by_table(alloc: Global, tree: &Tree) -> Result<DeviceDef, OrNoMemory<Def
 /// The device that a tree is by the tables of disks and interfaces.
 ///
 /// The fault is the first one in the order of the table: another root element, a needed value that
-/// is absent, a value that may not stand there. It is `TooLong`, with the root's path, where the
+/// is absent, a value that is not allowed there. It is `TooLong`, with the root's path, where the
 /// device's own text, once it is filled in, would pass the limits of a text.
 ///
 /// What is read of the tree of a whole text is sound (`text_laws::read_device_is_sound`), so that it

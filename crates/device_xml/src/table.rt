@@ -67,7 +67,7 @@ pub(crate) fn element_for(kind: DeviceKind) -> ElementName
     }
 }
 
-/// The element in which the key of a device stands.
+/// The element that has the key of a device.
 pub(crate) fn key_element(kind: DeviceKind) -> ElementName
     ensures { result ≡ spec.key_element kind }
 {

@@ -1,4 +1,4 @@
-// What stands in the element `devices`.
+// What is in the element `devices`.
 ghost use Rattle.std.specs.Prelude.{◌≡◌, IfOk, map, option_map};
 ghost use Rattle.text_spec.specs.DeviceText as device;
 ghost use Rattle.text_spec.specs.DomainValue as spec;

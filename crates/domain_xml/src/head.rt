@@ -28,7 +28,7 @@ pub(crate) fn own_text(name: ElementName, tree: &Tree) -> Option<&Text>
     value_at(Place::Child(name), Source::Text, tree)
 }
 
-// The type is needed, so none stands for it where the element has no fault.
+// The type is needed, so this default is not used where the element has no fault.
 #[tactic(auto, unfolding(text_spec::specs::DomainValue::domain_type_in))]
 pub(crate) fn domain_type_in(tree: &Tree) -> DomainType
     ensures { result ≡ spec.domain_type_in (seen tree.now) }
@@ -39,7 +39,7 @@ pub(crate) fn domain_type_in(tree: &Tree) -> DomainType
     }
 }
 
-// The name is needed, so it stands and is one where the element has no fault.
+// The name is needed, so it is there and is one where the element has no fault.
 fn name_in(alloc: Global, tree: &Tree) -> Result<Name, NoMemory>
     ensures { IfOk result (λ n. n
         ≡ unwrap_or (spec.own_text ElementName.Name (seen tree.now)) []) }

@@ -26,7 +26,7 @@ use std::alloc::Global;
 use text_spec::{DefFault, DefKind, DeviceKind, ElementName, MOST_DEVICES, Place, Tree};
 use virt_types::{DomainDef, LifecycleAction, NoMemory, OrNoMemory, Os, both};
 
-/// Tests the devices of a kind in the element `devices`, where it stands.
+/// Tests the devices of a kind in the element `devices`, if there is one.
 #[tactic(auto, unfolding(text_spec::specs::DeviceList::devices_fault))]
 fn kind_test(
     alloc: Global,
@@ -173,7 +173,7 @@ fn read_by_table(alloc: Global, tree: &Tree) -> Result<DomainDef, OrNoMemory<Def
 /// The definition that a tree is by the table of domains.
 ///
 /// The fault is the first one in the order of the table: another root element, a needed element or
-/// attribute that is absent, a value that may not stand there, a number outside its range, the key
+/// attribute that is absent, a value that is not allowed there, a number outside its range, the key
 /// of an earlier device, more than 30 disks and interfaces. It is `TooLong`, with the root's path,
 /// where the definition's own text, once it is filled in, would pass the limits of a text.
 ///

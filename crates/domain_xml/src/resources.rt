@@ -26,7 +26,7 @@ fn memory_at(name: ElementName, tree: &Tree) -> Option<u64>
     }
 }
 
-// Memory is needed, so none stands for it where the element has no fault.
+// Memory is needed, so this default is not used where the element has no fault.
 #[tactic(auto, unfolding(text_spec::specs::DomainValue::memory_of))]
 pub(crate) fn memory_of(tree: &Tree) -> u64
     ensures { result ≡ spec.memory_of (seen tree.now) }

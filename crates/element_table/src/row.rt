@@ -135,7 +135,7 @@ fn wrong_in_all(
     wrong_among(alloc, row, name, tree.children.as_slice())
 }
 
-/// What is wrong with the elements of a row that may stand any number of times.
+/// What is wrong with the elements of a row that may occur any number of times.
 fn wrong_in_each(alloc: Global, row: &Row, tree: &Tree) -> Result<Option<DefKind>, NoMemory>
     ensures { IfOk result (λ found. found
         ≡ spec.wrong_in_each row.now (elements_at row.now.place (seen tree.now))) }

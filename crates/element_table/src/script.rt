@@ -203,7 +203,7 @@ fn entry_of(piece: &[u8]) -> Option<ScriptEntry>
     }
 }
 
-/// The first piece, and what stands after the separator that ends it.
+/// The first piece, and what follows the separator that ends it.
 #[tactic(auto, using(crate::proofs::Pieces::cut_after_first))]
 fn first_piece(bytes: &[u8]) -> (&[u8], Option<&[u8]>)
     ensures pieces { spec.pieces_of bytes.now ≡ result.0.now ∷ pieces_in (option_copied result.1) }

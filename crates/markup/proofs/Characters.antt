@@ -1,4 +1,4 @@
--- What may stand in a text is a scalar value.
+-- What is allowed in a text is a scalar value.
 use Rattle.std.proofs.Common.{◌≡◌, ℕ, true, arith}
 use Rattle.std.proofs.lemmas.Bool.Decides.{nat_tests}
 use Rattle.std.specs.Char.{IsScalar}

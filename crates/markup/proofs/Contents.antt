@@ -1,4 +1,4 @@
--- What stands inside an element, a step at a time.
+-- What is inside an element, a step at a time.
 use Rattle.std.proofs.Common.{◌≡◌, ℕ, zero, suc, ◌-◌, ◌<◌, List, [], ◌∷◌, ◌++◌, Result, Ok, Err, refl, sym, ◌∙◌, ap, ap₂, arith, append_assoc, append-nil}
 use Rattle.text_spec.specs.declared.ahead.Ahead.{Ahead}
 use Rattle.text_spec.specs.declared.ahead.Ahead.TheVariants as ahead

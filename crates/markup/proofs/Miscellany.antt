@@ -1,4 +1,4 @@
--- What stands around the root element, a step at a time.
+-- What is around the root element, a step at a time.
 use Rattle.std.proofs.Common.{◌≡◌, ℕ, suc, List, Result, Ok, Err, refl, sym, ◌∙◌, ap}
 use Rattle.std.specs.Prelude.{false}
 use Rattle.text_spec.specs.declared.ahead.Ahead.{Ahead}

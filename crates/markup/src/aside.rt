@@ -1,4 +1,4 @@
-// What stands between tags besides references: comments, instructions, sections and runs of text.
+// What is between tags besides references: comments, instructions, sections and runs of text.
 ghost use Rattle.std.specs.Prelude.{◌≡◌, ◌≤◌, ◌<◌, ◌+◌, length, false, IfOk};
 ghost use Rattle.std.specs.List.{prefix_len};
 ghost use Rattle.text_spec.specs.Character.{is_run_char as spec_is_run_char};
@@ -161,7 +161,7 @@ fn doctype_at(told: Flaw, doctype: Flaw, chars: &[char]) -> Result<(&[char], &[c
     Err(doctype)
 }
 
-/// The text that stands after `<!`, and what follows it.
+/// The text after `<!`, and what follows it.
 #[tactic(auto, unfolding(text_spec::specs::Aside::after_bang))]
 fn after_bang<'a>(
     inside: bool,
@@ -192,7 +192,7 @@ fn whole_instruction_at(told: Flaw, chars: &[char]) -> Result<(&[char], &[char])
     Ok((&[], rest))
 }
 
-/// The text that stands after the `<` of an aside, and what follows it.
+/// The text after the `<` of an aside, and what follows it.
 fn after_less<'a>(
     inside: bool,
     start: &[char],
@@ -239,7 +239,7 @@ fn ends_section(chars: &[char]) -> bool
     false
 }
 
-/// How many characters of a run of text stand at the front.
+/// How many characters of a run of text are at the front.
 fn run_length(chars: &[char]) -> usize
     ensures count { result ≡ prefix_len spec_is_run_char chars.now }
     ensures within { result ≤ length chars.now }

@@ -1,4 +1,4 @@
-// The XML declaration, which may stand at the very front.
+// The XML declaration, which may come at the very front.
 ghost use Rattle.std.specs.Prelude.{◌≡◌, ◌≤◌, length, IfOk};
 ghost use Rattle.text_spec.specs.Declaration as spec;
 ghost use Rattle.markup.specs.Gives.{Tells};
@@ -6,7 +6,7 @@ ghost use Rattle.markup.specs.Gives.{Tells};
 use crate::scan::{ended, expect, flaw, skip_blanks, starts_blank};
 use text_spec::{Flaw, TextKind};
 
-/// What follows this word of small letters, which may stand as capitals.
+/// What follows this word of small letters, in either case.
 #[tactic(auto, unfolding(text_spec::specs::Declaration::expect_in_any_case))]
 fn expect_in_any_case<'a>(told: Flaw, word: &[char], chars: &'a [char]) -> Result<&'a [char], Flaw>
     ensures reads { Tells (λ r. r.now) result (spec.expect_in_any_case told word.now chars.now) }
@@ -108,7 +108,7 @@ fn standalone_at(told: Flaw, chars: &[char]) -> Result<&[char], Flaw>
     expect(told, &[quote], rest)
 }
 
-/// What follows the encoding, where one stands after a blank.
+/// What follows the encoding, if there is one after a blank.
 #[tactic(auto, unfolding(text_spec::specs::Declaration::after_encoding))]
 fn after_encoding(told: Flaw, chars: &[char]) -> Result<&[char], Flaw>
     ensures reads { Tells (λ r. r.now) result (spec.after_encoding told chars.now) }
@@ -121,7 +121,7 @@ fn after_encoding(told: Flaw, chars: &[char]) -> Result<&[char], Flaw>
     }
 }
 
-/// What follows the word on standing alone, where it stands after a blank.
+/// What follows the standalone declaration, if there is one after a blank.
 #[tactic(auto, unfolding(text_spec::specs::Declaration::after_standalone))]
 fn after_standalone(told: Flaw, chars: &[char]) -> Result<&[char], Flaw>
     ensures reads { Tells (λ r. r.now) result (spec.after_standalone told chars.now) }
@@ -146,7 +146,7 @@ fn declaration_at(told: Flaw, chars: &[char]) -> Result<&[char], Flaw>
     expect(told, &['?', '>'], skip_blanks(rest))
 }
 
-/// What follows the declaration, where one stands.
+/// What follows the declaration, if there is one.
 #[tactic(auto, unfolding(text_spec::specs::Declaration::after_declaration))]
 pub(crate) fn after_declaration(chars: &[char]) -> Result<&[char], Flaw>
     ensures reads { Tells (λ r. r.now) result (spec.after_declaration chars.now) }

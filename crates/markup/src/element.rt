@@ -46,7 +46,7 @@ fn trimmed(chars: &[char]) -> &[char]
     rest
 }
 
-/// Text that stands in an element at one place.
+/// Text of an element at one place.
 #[derive(Clone, Copy)]
 pub(crate) enum Piece<'a> {
     /// A character by its reference.

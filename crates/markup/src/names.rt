@@ -1,4 +1,4 @@
-// The names that stand in one tag: each of them once.
+// The names in one tag: each of them once.
 ghost use Rattle.std.specs.Prelude.{◌≡◌, ℕ, List, not, ◌||◌, IfOk, OnOk};
 ghost use Rattle.std.specs.Str.{bytes_eq};
 ghost use Rattle.markup.specs.Names.{has};

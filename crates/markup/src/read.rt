@@ -14,7 +14,7 @@ use virt_types::{MOST_TEXT_BYTES, NoMemory, OrNoMemory};
 
 const BYTE_ORDER_MARK: char = '\u{FEFF}';
 
-/// The characters after the mark that may stand in front.
+/// The characters after the mark that may come first.
 #[tactic(auto, unfolding(text_spec::specs::Text::unmarked))]
 fn unmarked(chars: &[char]) -> &[char]
     ensures { result.now ≡ spec.unmarked chars.now }

@@ -66,7 +66,7 @@ fn number_at(base: u32, told: Flaw, chars: &[char]) -> Result<(char, &[char]), F
     Err(ended())
 }
 
-/// What stands after `&#`.
+/// What follows `&#`.
 fn numbered(told: Flaw, chars: &[char]) -> Result<(char, &[char]), Flaw>
     ensures reads { Tells (λ r. (r.0, r.1.now)) result (spec_numbered told chars.now) }
     ensures within { IfOk result (λ r. length r.1.now ≤ length chars.now) }
@@ -78,7 +78,7 @@ fn numbered(told: Flaw, chars: &[char]) -> Result<(char, &[char]), Flaw>
     }
 }
 
-/// The character, where this name stands here.
+/// The character, where this name comes next.
 fn named<'a>(
     told: Flaw,
     character: char,
@@ -93,7 +93,7 @@ fn named<'a>(
     Ok((character, rest))
 }
 
-/// What stands after `&a`.
+/// What follows `&a`.
 fn named_a(told: Flaw, chars: &[char]) -> Result<(char, &[char]), Flaw>
     ensures reads { Tells (λ r. (r.0, r.1.now)) result (spec_named_a told chars.now) }
     ensures within { IfOk result (λ r. length r.1.now ≤ length chars.now) }
@@ -106,7 +106,7 @@ fn named_a(told: Flaw, chars: &[char]) -> Result<(char, &[char]), Flaw>
     }
 }
 
-/// What stands after an ampersand.
+/// What follows an ampersand.
 #[tactic(auto, unfolding(text_spec::specs::Reference::after_ampersand))]
 fn after_ampersand(told: Flaw, chars: &[char]) -> Result<(char, &[char]), Flaw>
     ensures reads { Tells (λ r. (r.0, r.1.now)) result (spec_after_ampersand told chars.now) }

@@ -1,4 +1,4 @@
-// The steps that every reader takes: blanks, words that must stand, names.
+// The steps that every reader takes: blanks, words that must come next, names.
 ghost use Rattle.std.specs.Prelude.{◌≡◌, ◌≤◌, ◌<◌, ◌+◌, length, drop, IfOk};
 ghost use Rattle.std.specs.List.{prefix_len};
 ghost use Rattle.text_spec.specs.Character.{is_name_char as spec_is_name_char, after_blanks, starts_blank as spec_starts_blank};
@@ -29,7 +29,7 @@ pub(crate) fn ended() -> Flaw
     }
 }
 
-/// How many characters of a name stand at the front.
+/// How many characters of a name are at the front.
 fn name_length(chars: &[char]) -> usize
     ensures count { result ≡ prefix_len spec_is_name_char chars.now }
     ensures within { result ≤ length chars.now }

@@ -73,7 +73,7 @@ fn value_at<'a>(
     Err(OrNoMemory::Fault(ended()))
 }
 
-/// The value that stands in quotes of either kind.
+/// The value in quotes of either kind.
 #[tactic(auto, unfolding(text_spec::specs::Tag::quoted_at))]
 fn quoted_at<'a>(
     alloc: Global,

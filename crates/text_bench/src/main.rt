@@ -1,4 +1,4 @@
-//! Reads a text from standard input again and again, and tells how long it took. The script
+//! Reads a text from standard input again and again, and prints how long it took. The script
 //! `bench/texts` runs it: `text_bench read TIMES` makes the tree of the text, `text_bench round
 //! TIMES` reads a domain's definition and prints it. Without words it does each once.
 #![tactic(auto)]

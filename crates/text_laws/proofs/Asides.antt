@@ -17,7 +17,7 @@ use Rattle.text_laws.proofs.Parts.{bound, right, same_ok, chosen, passed, kept, 
 use Rattle.text_laws.proofs.Values.{prefix_all, reference_good}
 
 -- ---- sections
--- characters that stand before the rest
+-- characters before the rest
 record Before (cs rest : List ℕ) : Type 0 where
   front : List ℕ
   is : cs ≡ front ++ rest

@@ -122,7 +122,7 @@ abbrev pub gathered_of : List Tree → Option Tree
 gathered_of [] = None
 gathered_of (t ∷ ts) = Some (holding element.Devices [] (t ∷ ts))
 
--- what stands after the front
+-- what follows the front
 abbrev pub back_trees : DomainDef → List Tree
 back_trees d = middle_trees d ++ gathered element.Devices (device_trees d)
 

@@ -65,7 +65,7 @@ interface_longer i a b macs =
     (interface_children (record i { mac = a })) (interface_children (record i { mac = b })) (omega arith) (omega arith)
     (both_longer (present mac_tree a) (present mac_tree b) _ _ macs (as_long (present interface_source_tree i.source ++ present interface_model_tree i.model)))
 
--- ---- addresses that stand in, and those that are filled in
+-- ---- addresses that replace absent ones, and those that are filled in
 any_is : IsMac any_mac
 any_is = record { six = refl; bytes = omega arith }
 
@@ -112,7 +112,7 @@ filled_by words before i j None e is =
 filled_by words before i j (Some m) e is =
     subst (λ k. AreNoLonger (interface_tree k ∷ []) (interface_tree (with_mac i) ∷ [])) (sym is.0) (unfilled_by i i.mac refl)
 
--- nothing stands in where an interface was filled in
+-- nothing is replaced where an interface was filled in
 settled_by : (words : List ℕ) (before : List Interface) (i j : Interface) (own : Option Mac) → i.mac ≡ own → IsMacFilled words before i own j → with_mac j ≡ j
 settled_by words before i j None e is = ap with_mac is.1 ∙ sym is.1
 settled_by words before i j (Some m) e is = ap with_mac is.0 ∙ (stood_by i (Some m) e ∙ (own_kept i (Some m) e ∙ sym is.0))

@@ -83,7 +83,7 @@ content_less inset name x y inner outer (first t ts) none h k s = absurd (omega 
 content_less inset name x y inner outer (first t ts) (first u us) h k s = with_less inset name x y inner outer h k
 
 -- ---- elements
--- elements one after another, whatever blanks stand before them
+-- elements one after another, whatever blanks come before them
 pub record AreNoLonger (ts us : List Tree) : Type 0 where
   pub bytes : (inset : List ℕ) → room (trees_written inset (trees ts)) ≤ room (trees_written inset (trees us))
   pub elements : sizes (trees ts) ≤ sizes (trees us)

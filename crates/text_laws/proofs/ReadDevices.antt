@@ -131,6 +131,6 @@ interfaces_read names keys (t ∷ ts) e =
     let rest = interfaces_read names (with_mac_key (mac_in t) keys) ts (rw (key, more_keys keys (mac_in t)) at parts.1) in
     ((interface_is t, rest.0), (apart, rest.1))
 
--- ---- a device that stands alone
+-- ---- a device on its own
 pub disk_alone : (t : Tree) → alone_fault of.Disk t ≡ None → IsDisk (disk_of t)
 disk_alone t e = disk_is t (disk_keyed (element.Disk ∷ []) t e)

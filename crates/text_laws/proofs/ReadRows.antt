@@ -1,4 +1,4 @@
--- What rows of element tables that find no fault say of the values that stand there.
+-- What rows of element tables that find no fault say of the values there.
 use Rattle.std.proofs.Common.{◌≡◌, ℕ, zero, suc, drop, List, [], ◌∷◌, Bool, true, false, Option, Some, None, Result, Ok, Err, refl, ◌∙◌, sym, ap}
 use Rattle.std.specs.Prelude.{is_none, option_and_then, unwrap_or, if◌then◌else◌}
 use Rattle.std.specs.Option.{option_or}
@@ -38,7 +38,7 @@ later_rows (suc n) names [] t e = e
 later_rows (suc n) names (r ∷ rs) t e = later_rows n names rs t (first_row names r rs t e).1
 
 -- ---- values
--- a value of this content that stands there
+-- a value of this content
 pub record Valued (p : Place) (s : Source) (c : Content) (t : Tree) : Type 0 where
   pub first : Tree
   pub value : List ℕ

@@ -27,7 +27,7 @@ is_attribute n v is = record {
   value = is.value_chars;
 }
 
--- the names differ from these and from one another, whichever of them stand
+-- the names differ from these and from one another, whichever of them are there
 abbrev pub apart : List (List ℕ) → List AttributeName → Bool
 apart seen [] = true
 apart seen (n ∷ ns) = not (is_among (word n) seen) && (apart (word n ∷ seen) ns && apart seen ns)

@@ -9,7 +9,7 @@ use Rattle.text_spec.specs.Element.{trimmed}
 use Rattle.text_spec.specs.Writable.{AreChars, IsText}
 use Rattle.text_laws.proofs.Allowed.{chars_scalars, utf8_of, both_all}
 
--- what stands before the first character that is no blank
+-- what comes before the first character that is no blank
 record Parted (cs : List ℕ) : Type 0 where
   blanks : List ℕ
   is : cs ≡ blanks ++ after_blanks cs

@@ -7,7 +7,7 @@ ghost use Rattle.text_spec.specs.DomainPrinted.{domain_tree, domain_fits};
 ghost use Rattle.text_spec.specs.Fill.{IsFilled, IsDeviceFilled};
 ghost use Rattle.text_spec.specs.Spelling.{fits};
 
-/// A domain that fits once it is filled in fits as it stands, and fits whatever it is filled in with.
+/// A domain that fits once it is filled in fits as it is, and fits whatever it is filled in with.
 pub fn filled_domain_fits()
     ensures as_it_stands { (d : DomainDef) → domain_fits d ≡ true → fits (domain_tree d) ≡ true }
     ensures filled { (d f : DomainDef) → domain_fits d ≡ true → IsFilled d f

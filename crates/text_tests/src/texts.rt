@@ -14,7 +14,7 @@ fn printed(alloc: Global, text: &[u8]) -> Option<Text> {
 }
 
 // Attributes in any order, namespaces, comments, sections, numeric references, other line ends,
-// elements that stand twice, and all that no table names.
+// elements that occur twice, and all that no table names.
 const MIXED: &str =
     "\u{FEFF}<?xml version=\"1.0\" encoding=\"utf-8\"?>\r\n<!-- made by hand -->\r\n<domain xmlns:qemu='http://libvirt.org/schemas/domain/qemu/1.0' id=\"7\" type='qemu'>\r\n  <os firmware=\"efi\"><!-- first --><boot dev=\"cdrom\"/><type machine='pc' arch=\"i686\"> hvm </type><boot dev='network' order='2'/></os>\r\n  <vcpu placement=\"static\" current=\"1\">&#50;</vcpu><name><![CDATA[a<b>&]]>c</name>\r\n  <memory unit=\"mib\">1</memory><memory unit='G'>9</memory>\r\n  <currentMemory unit='KB'>1</currentMemory>\r\n  <title/><description>two\nlines</description>\r\n  <metadata><x:y xmlns:x=\"u\"/><guest>\n  boot 1 command 2 end ; slow 5;stall\t</guest></metadata>\r\n  <on_crash>coredump-restart</on_crash><on_reboot>preserve</on_reboot>\r\n  <devices>\r\n    <graphics port='-1' autoport='yes' type='vnc'><listen type='address'/></graphics>\r\n    <console/><serial type=\"pty\"><target port=\"0\"/></serial>\r\n    <interface type='bridge'><address type='pci' slot='0x03'/><model/><mac address=\"52:54:00:AB:CD:EF\"/><source dev='x' bridge='br0'/></interface>\r\n    <disk device='cdrom' type='block'><address type='pci' slot='0x02'/><readonly/><target bus='sata' dev=\"sda\"/><source dev='/dev/sr&quot;0'/></disk>\r\n    <disk><target dev='vdb'/></disk>\r\n    <interface type=\"user\"/>\r\n  </devices>\r\n  <devices><emulator>/no</emulator></devices>\r\n  <qemu:commandline><qemu:arg value='-newarg'/></qemu:commandline>\r\n</domain>\r\n<?end?>";
 
