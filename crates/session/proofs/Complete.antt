@@ -9,8 +9,8 @@ use Rattle.session.proofs.Courses.{each_back}
 use Rattle.session_spec.specs.Course.{Course, Ends, HasEnd, IsBegun, IsOver, IsServedWhole, IsWhole, StaysOpen}
 use Rattle.session_spec.specs.declared.end.End.{End}
 use Rattle.session_spec.specs.declared.end.End.TheVariants as end
-use Rattle.session_spec.specs.Definitions.{Definitions}
 use Rattle.session_spec.specs.Replies.{closes}
+use Rattle.session_spec.specs.State.{SessionState}
 use Rattle.wire_spec.specs.Packets.{IsPacket, fault, spelling}
 use Rattle.wire_spec.specs.Split.{IsRest, Splits, stream}
 use Rattle.wire_spec.specs.declared.fault.BadPacket.{BadPacket}
@@ -97,18 +97,18 @@ bad_packet bytes more all packets behind rest bad input each stays is bad_is =
     (λ (close : list_any closes all ≡ true). not_open all packets behind rest more input.each each stays (sym input.whole ∙ is) close (λ p tail one e. no_such_packet rest more tail bad p bad_is one e))
     input.how
 
-end_of_whole : (m after : Definitions) (bytes more : List ℕ) (all packets : List Packet) (behind rest extra : List ℕ) (e : End) → IsInput bytes all behind
-    → AllByRecursion IsPacket packets → HasEnd e packets → bytes ≡ stream packets rest ++ more → Ends m (Some more) (stream packets rest) rest extra e after → (e ≡ end.SourceFault → ⊥) → (e ≡ end.SinkFault → ⊥) → IsServedWhole e
-end_of_whole m after bytes more all packets behind rest extra end.Closed input each has is ends no_source no_sink = inr (inl refl)
-end_of_whole m after bytes more all packets behind rest extra end.Eof input each has is ends no_source no_sink = inl refl
-end_of_whole m after bytes more all packets behind rest extra (end.Truncated n) input each has is ends no_source no_sink = absurd (truncated bytes more all packets behind rest input each has is ends.1 ends.2)
-end_of_whole m after bytes more all packets behind rest extra (end.BadPacket bad) input each has is ends no_source no_sink = absurd (bad_packet bytes more all packets behind rest bad input each has is ends.0)
-end_of_whole m after bytes more all packets behind rest extra end.SourceFault input each has is ends no_source no_sink = absurd (no_source refl)
-end_of_whole m after bytes more all packets behind rest extra end.SinkFault input each has is ends no_source no_sink = absurd (no_sink refl)
-end_of_whole m after bytes more all packets behind rest extra end.NoMemory input each has is ends no_source no_sink = inr (inr refl)
+end_of_whole : (s after : SessionState) (bytes more : List ℕ) (all packets : List Packet) (behind rest extra : List ℕ) (e : End) → IsInput bytes all behind
+    → AllByRecursion IsPacket packets → HasEnd e packets → bytes ≡ stream packets rest ++ more → Ends s (Some more) (stream packets rest) rest extra e after → (e ≡ end.SourceFault → ⊥) → (e ≡ end.SinkFault → ⊥) → IsServedWhole e
+end_of_whole s after bytes more all packets behind rest extra end.Closed input each has is ends no_source no_sink = inr (inl refl)
+end_of_whole s after bytes more all packets behind rest extra end.Eof input each has is ends no_source no_sink = inl refl
+end_of_whole s after bytes more all packets behind rest extra (end.Truncated n) input each has is ends no_source no_sink = absurd (truncated bytes more all packets behind rest input each has is ends.1 ends.2)
+end_of_whole s after bytes more all packets behind rest extra (end.BadPacket bad) input each has is ends no_source no_sink = absurd (bad_packet bytes more all packets behind rest bad input each has is ends.0)
+end_of_whole s after bytes more all packets behind rest extra end.SourceFault input each has is ends no_source no_sink = absurd (no_source refl)
+end_of_whole s after bytes more all packets behind rest extra end.SinkFault input each has is ends no_source no_sink = absurd (no_sink refl)
+end_of_whole s after bytes more all packets behind rest extra end.NoMemory input each has is ends no_source no_sink = inr (inr refl)
 
-pub complete : (m after : Definitions) (left now held wrote : Option (List ℕ)) (e : End) → Course m left now held wrote e after → IsWhole left → (e ≡ end.SourceFault → ⊥) → (e ≡ end.SinkFault → ⊥) → IsServedWhole e
-complete m after None now held wrote e course whole no_source no_sink = absurd whole
-complete m after (Some bytes) None held wrote e course whole no_source no_sink = absurd course.taken
-complete m after (Some bytes) (Some more) held wrote e course (all, behind, each, is, how, short) no_source no_sink =
+pub complete : (s after : SessionState) (left now held wrote : Option (List ℕ)) (e : End) → Course s left now held wrote e after → IsWhole left → (e ≡ end.SourceFault → ⊥) → (e ≡ end.SinkFault → ⊥) → IsServedWhole e
+complete s after None now held wrote e course whole no_source no_sink = absurd whole
+complete s after (Some bytes) None held wrote e course whole no_source no_sink = absurd course.taken
+complete s after (Some bytes) (Some more) held wrote e course (all, behind, each, is, how, short) no_source no_sink =
     end_of_whole course.then after bytes more all course.packets behind course.rest course.extra e (record { each = each; whole = is; how = how; short = short }) course.each course.has_end course.taken course.ends no_source no_sink

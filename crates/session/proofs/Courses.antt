@@ -11,9 +11,9 @@ use Rattle.session.specs.declared.say.Stop.TheVariants as stop
 use Rattle.session.specs.Steps.{Closes, EndsPiece, Going, PieceDone, PieceEnds, SaysOne, ServesFront, Stopped, StopsAt, StopsOne, end_at}
 use Rattle.session.proofs.Answering.{answered_append, answered_one, open_append, text-append}
 use Rattle.session.proofs.Known.{Appends-none, Appends-then, Consumes-kept, Consumes-none, Consumes-then}
-use Rattle.session_spec.specs.Course.{Course, Ends, HasEnd, IsClosed, IsOver, IsStill, StaysOpen}
-use Rattle.session_spec.specs.Definitions.{Definitions}
+use Rattle.session_spec.specs.Course.{Course, Ends, HasEnd, IsClosed, IsLost, IsOver, IsStill, StaysOpen}
 use Rattle.session_spec.specs.Replies.{text}
+use Rattle.session_spec.specs.State.{SessionState}
 use Rattle.session_spec.specs.declared.end.End.{End}
 use Rattle.session_spec.specs.declared.end.End.TheVariants.{BadPacket, Eof, NoMemory, SinkFault, SourceFault, Truncated}
 use Rattle.session_spec.specs.declared.end.End.TheVariants as end
@@ -22,7 +22,7 @@ use Rattle.wire_spec.specs.Split.{IsRest, stream}
 use Rattle.wire_spec.specs.declared.message.Packet.{Packet}
 
 -- one more packet was answered, and the session goes on
-pub serves_more : (m now then : Definitions) (ready before left : List Packet) (p : Packet) (held w v : Option (List ℕ)) → ServesFront m ready before held w now → before ≡ p ∷ left → SaysOne now p w v then flow.On → ServesFront m ready left held v then
+pub serves_more : (m now then : SessionState) (ready before left : List Packet) (p : Packet) (held w v : Option (List ℕ)) → ServesFront m ready before held w now → before ≡ p ∷ left → SaysOne now p w v then flow.On → ServesFront m ready left held v then
 serves_more m now then ready before left p held w v s is o = record {
   served = s.served ++ p ∷ [];
   messages = s.messages ++ option_to_list o.reply;
@@ -33,7 +33,7 @@ serves_more m now then ready before left p held w v s is o = record {
 }
 
 -- one more packet was answered, and closes the session
-pub serves_close : (m now then : Definitions) (ready before left : List Packet) (p : Packet) (held w v : Option (List ℕ)) → ServesFront m ready before held w now → before ≡ p ∷ left → SaysOne now p w v then flow.Closed → Closes m ready held v then
+pub serves_close : (m now then : SessionState) (ready before left : List Packet) (p : Packet) (held w v : Option (List ℕ)) → ServesFront m ready before held w now → before ≡ p ∷ left → SaysOne now p w v then flow.Closed → Closes m ready held v then
 serves_close m now then ready before left p held w v s is o = record {
   served = s.served ++ p ∷ [];
   left = left;
@@ -45,7 +45,7 @@ serves_close m now then ready before left p held w v s is o = record {
 }
 
 -- the next packet was not answered, or in part
-pub serves_stopped : (m now then : Definitions) (ready before left : List Packet) (p : Packet) (held w v : Option (List ℕ)) (why : Stop) → ServesFront m ready before held w now → before ≡ p ∷ left → StopsOne now p w v then why → Stopped m ready held v then why
+pub serves_stopped : (m now then : SessionState) (ready before left : List Packet) (p : Packet) (held w v : Option (List ℕ)) (why : Stop) → ServesFront m ready before held w now → before ≡ p ∷ left → StopsOne now p w v then why → Stopped m ready held v then why
 serves_stopped m now then ready before left p held w v why s is (extra, stops, put) = record {
   served = s.served;
   next = p;
@@ -83,7 +83,7 @@ abbrev pub end_by : Stop → End
 end_by stop.SinkFault = SinkFault
 end_by stop.NoMemory = NoMemory
 
-stop_ends : (m after : Definitions) (p : Packet) (others : List Packet) (rest extra : List ℕ) (why : Stop) → IsPacket p → StopsAt m p extra why after → EndsPiece m (stream (p ∷ others) rest) extra (end_by why) after
+stop_ends : (m after : SessionState) (p : Packet) (others : List Packet) (rest extra : List ℕ) (why : Stop) → IsPacket p → StopsAt m p extra why after → EndsPiece m (stream (p ∷ others) rest) extra (end_by why) after
 stop_ends m after p others rest extra stop.SinkFault is (reply, n, a, front, cut) = record {
   packet = p;
   behind = stream others rest;
@@ -101,7 +101,7 @@ stop_has_end : (packets : List Packet) (why : Stop) → StaysOpen packets → Ha
 stop_has_end packets stop.SinkFault h = h
 stop_has_end packets stop.NoMemory h = h
 
-pub stopped_ends : (m after : Definitions) (ready : List Packet) (rest : List ℕ) (held wrote : Option (List ℕ)) (why : Stop) → Stopped m ready held wrote after why → AllByRecursion IsPacket ready → PieceEnds m (stream ready rest) held wrote after (end_by why)
+pub stopped_ends : (m after : SessionState) (ready : List Packet) (rest : List ℕ) (held wrote : Option (List ℕ)) (why : Stop) → Stopped m ready held wrote after why → AllByRecursion IsPacket ready → PieceEnds m (stream ready rest) held wrote after (end_by why)
 stopped_ends m after ready rest held wrote why s each =
     let all : AllByRecursion IsPacket (s.served ++ s.next ∷ s.others) = rw (← s.parts) each in
     let last = each_back s.served (s.next ∷ s.others) all in
@@ -119,11 +119,15 @@ stopped_ends m after ready rest held wrote why s each =
       ends = stop_ends s.then after s.next s.others rest s.extra why last.0 s.stops;
     }
 
-still : (m : Definitions) → IsStill m [] m
+still : (m : SessionState) → IsStill m [] m
 still m = record { nothing = refl; same = refl }
 
+-- memory ran out outside of a call
+lost : (m : SessionState) → IsLost m [] m
+lost m = record { nothing = refl; same = refl; words = []; drew = Appends-none m.drawn }
+
 -- a close was answered
-pub closed_ends : (m after : Definitions) (ready : List Packet) (rest : List ℕ) (held wrote : Option (List ℕ)) → Closes m ready held wrote after → AllByRecursion IsPacket ready → PieceEnds m (stream ready rest) held wrote after end.Closed
+pub closed_ends : (m after : SessionState) (ready : List Packet) (rest : List ℕ) (held wrote : Option (List ℕ)) → Closes m ready held wrote after → AllByRecursion IsPacket ready → PieceEnds m (stream ready rest) held wrote after end.Closed
 closed_ends m after ready rest held wrote s each =
     let all : AllByRecursion IsPacket (s.served ++ s.left) = rw (← s.parts) each in
     record {
@@ -141,7 +145,7 @@ closed_ends m after ready rest held wrote s each =
     }
 
 -- all were answered, and after them stands what no packet begins with
-pub bad_ends : (m after : Definitions) (ready : List Packet) (rest : List ℕ) (held wrote : Option (List ℕ)) (bad : _) → ServesFront m ready [] held wrote after → AllByRecursion IsPacket ready → fault rest ≡ Some bad → PieceEnds m (stream ready rest) held wrote after (BadPacket bad)
+pub bad_ends : (m after : SessionState) (ready : List Packet) (rest : List ℕ) (held wrote : Option (List ℕ)) (bad : _) → ServesFront m ready [] held wrote after → AllByRecursion IsPacket ready → fault rest ≡ Some bad → PieceEnds m (stream ready rest) held wrote after (BadPacket bad)
 bad_ends m after ready rest held wrote bad s each is =
     let all : AllByRecursion IsPacket (s.served ++ []) = rw (← s.parts) each in
     let same : ready ≡ s.served = s.parts ∙ append-nil s.served in
@@ -160,7 +164,7 @@ bad_ends m after ready rest held wrote bad s each is =
     }
 
 -- all were answered, and what stands after them is the front of a packet
-pub piece_done : (m after : Definitions) (ready : List Packet) (rest : List ℕ) (held wrote : Option (List ℕ)) → ServesFront m ready [] held wrote after → AllByRecursion IsPacket ready → IsRest rest → fault rest ≡ None → PieceDone m (stream ready rest) rest held wrote after
+pub piece_done : (m after : SessionState) (ready : List Packet) (rest : List ℕ) (held wrote : Option (List ℕ)) → ServesFront m ready [] held wrote after → AllByRecursion IsPacket ready → IsRest rest → fault rest ≡ None → PieceDone m (stream ready rest) rest held wrote after
 piece_done m after ready rest held wrote s each part sound =
     let all : AllByRecursion IsPacket (s.served ++ []) = rw (← s.parts) each in
     let same : ready ≡ s.served = s.parts ∙ append-nil s.served in
@@ -177,7 +181,7 @@ piece_done m after ready rest held wrote s each part sound =
     }
 
 -- there was no memory for the piece
-pub piece_lost : (m : Definitions) (bytes : List ℕ) (held : Option (List ℕ)) → PieceEnds m bytes held held m NoMemory
+pub piece_lost : (m : SessionState) (bytes : List ℕ) (held : Option (List ℕ)) → PieceEnds m bytes held held m NoMemory
 piece_lost m bytes held = record {
   packets = [];
   rest = bytes;
@@ -189,11 +193,11 @@ piece_lost m bytes held = record {
   has_end = tt;
   answered = (refl, refl);
   written = Appends-none held;
-  ends = still m;
+  ends = lost m;
 }
 
 -- no byte was taken so far
-pub going_none : (m : Definitions) (left held : Option (List ℕ)) (rest : List ℕ) → rest ≡ [] → Going m left left held held rest 0 m
+pub going_none : (m : SessionState) (left held : Option (List ℕ)) (rest : List ℕ) → rest ≡ [] → Going m left left held held rest 0 m
 going_none m left held [] is = record {
   packets = [];
   messages = [];
@@ -209,7 +213,7 @@ going_none m left held [] is = record {
 going_none m left held (x ∷ xs) is = cc
 
 -- the session ended before the first byte
-pub ends_at_once : (m : Definitions) (left held : Option (List ℕ)) → Course m left left held held NoMemory m
+pub ends_at_once : (m : SessionState) (left held : Option (List ℕ)) → Course m left left held held NoMemory m
 ends_at_once m left held = record {
   packets = [];
   rest = [];
@@ -221,11 +225,11 @@ ends_at_once m left held = record {
   answered = (refl, refl);
   written = Appends-none held;
   has_end = tt;
-  ends = still m;
+  ends = lost m;
 }
 
 -- the pieces so far, and one more
-pub going_more : (m mid after_map : Definitions) (left now next held wrote then : Option (List ℕ)) (rest piece after : List ℕ) (count more : ℕ) → Going m left now held wrote rest count mid → Consumes now next piece → more ≡ length piece → PieceDone mid (rest ++ piece) after wrote then after_map → Going m left next held then after (count + more) after_map
+pub going_more : (m mid after_map : SessionState) (left now next held wrote then : Option (List ℕ)) (rest piece after : List ℕ) (count more : ℕ) → Going m left now held wrote rest count mid → Consumes now next piece → more ≡ length piece → PieceDone mid (rest ++ piece) after wrote then after_map → Going m left next held then after (count + more) after_map
 going_more m mid after_map left now next held wrote then rest piece after count more g takes is p = record {
   packets = g.packets ++ p.packets;
   messages = g.messages ++ p.messages;
@@ -239,7 +243,7 @@ going_more m mid after_map left now next held wrote then rest piece after count 
   count_is = rw stream_append (rw (← p.parts) (omega (arith, g.count_is, is, length-append (flat_map spelling g.packets) (rest ++ piece), length-append rest piece, length-append (flat_map spelling g.packets) rest)));
 }
 
-piece_end : (m after : Definitions) (now : Option (List ℕ)) (taken rest extra : List ℕ) (e : End) → EndsPiece m rest extra e after → Ends m now taken rest extra e after
+piece_end : (m after : SessionState) (now : Option (List ℕ)) (taken rest extra : List ℕ) (e : End) → EndsPiece m rest extra e after → Ends m now taken rest extra e after
 piece_end m after now taken rest extra end.Closed h = h
 piece_end m after now taken rest extra Eof h = absurd h
 piece_end m after now taken rest extra (Truncated n) h = absurd h
@@ -268,7 +272,7 @@ has_end_more SinkFault ps qs h k = open_append ps qs h k
 has_end_more NoMemory ps qs h k = open_append ps qs h k
 
 -- the pieces so far, and the one at which the session ended
-pub going_ends : (m mid after : Definitions) (left now next held wrote then : Option (List ℕ)) (rest piece : List ℕ) (count : ℕ) (e : End) → Going m left now held wrote rest count mid → Consumes now next piece → PieceEnds mid (rest ++ piece) wrote then after e → Course m left next held then e after
+pub going_ends : (m mid after : SessionState) (left now next held wrote then : Option (List ℕ)) (rest piece : List ℕ) (count : ℕ) (e : End) → Going m left now held wrote rest count mid → Consumes now next piece → PieceEnds mid (rest ++ piece) wrote then after e → Course m left next held then e after
 going_ends m mid after left now next held wrote then rest piece count e g takes p = record {
   packets = g.packets ++ p.packets;
   rest = p.rest;
@@ -284,7 +288,7 @@ going_ends m mid after left now next held wrote then rest piece count e g takes 
 }
 
 -- the input is over
-ends_here : (m : Definitions) (now : Option (List ℕ)) (taken rest : List ℕ) → fault rest ≡ None → IsRest rest → IsOver now taken → Ends m now taken rest [] (end_at rest) m
+ends_here : (m : SessionState) (now : Option (List ℕ)) (taken rest : List ℕ) → fault rest ≡ None → IsRest rest → IsOver now taken → Ends m now taken rest [] (end_at rest) m
 ends_here m now taken [] sound part over = (refl, over, still m)
 ends_here m now taken (x ∷ xs) sound part over = (refl, record { some = omega arith; part = part; sound = sound }, over, still m)
 
@@ -292,7 +296,7 @@ has_end_here : (rest : List ℕ) (packets : List Packet) → StaysOpen packets �
 has_end_here [] packets h = h
 has_end_here (x ∷ xs) packets h = h
 
-pub going_over : (m mid : Definitions) (left now next held wrote : Option (List ℕ)) (rest : List ℕ) (count : ℕ) (e : End) → Going m left now held wrote rest count mid → Consumes now next []
+pub going_over : (m mid : SessionState) (left now next held wrote : Option (List ℕ)) (rest : List ℕ) (count : ℕ) (e : End) → Going m left now held wrote rest count mid → Consumes now next []
     → IsAtEnd next ⊎ (count ≡ 2 ^ 62) → e ≡ end_at rest → Course m left next held wrote e mid
 going_over m mid left now next held wrote rest count e g same over is = record {
   packets = g.packets;
@@ -309,7 +313,7 @@ going_over m mid left now next held wrote rest count e g same over is = record {
 }
 
 -- the source failed
-pub going_fails : (m mid : Definitions) (left now next held wrote : Option (List ℕ)) (rest : List ℕ) (count : ℕ) → Going m left now held wrote rest count mid → Keeps now next → Course m left next held wrote SourceFault mid
+pub going_fails : (m mid : SessionState) (left now next held wrote : Option (List ℕ)) (rest : List ℕ) (count : ℕ) → Going m left now held wrote rest count mid → Keeps now next → Course m left next held wrote SourceFault mid
 going_fails m mid left now next held wrote rest count g same = record {
   packets = g.packets;
   rest = rest;

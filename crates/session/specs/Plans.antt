@@ -1,10 +1,12 @@
 -- What a call is to leave. No public clause cites these.
-use Rattle.std.specs.Prelude.{◌≡◌, ◌≤◌, ℕ, length, Option, option_map, Result}
+use Rattle.std.specs.Io.KnownBytes.{Appends}
+use Rattle.std.specs.Prelude.{◌≡◌, ◌≤◌, ℕ, List, length, Option, option_map, Result}
 use Rattle.procedure_spec.specs.Results.{HasResult, HasShape, result}
 use Rattle.procedure_spec.specs.declared.fault.ArgFault.{ArgFault}
 use Rattle.procedure_spec.specs.declared.procedure.ResultShape.{ResultShape}
 use Rattle.session_spec.specs.Definitions.{Definitions, Entry, IsKept, IsOnlyNamed}
 use Rattle.session_spec.specs.Replies.{HasOutcome, asks_to_close}
+use Rattle.session_spec.specs.State.{SessionState, state}
 use Rattle.session.specs.Left.{left}
 use Rattle.session.specs.declared.plan.Plan.{Plan}
 use Rattle.virt_types.specs.Limits.{most_kept_bytes}
@@ -36,8 +38,16 @@ pub record IsPutInto (m : Definitions) (e : Entry) : Type 0 where
   pub kept : IsKept e
   pub only : IsOnlyNamed e.0 e.1.name m
 
--- the plan for a call over a map, as the call is read
-pub record IsPlan (m : Definitions) (call : Header) (read : Result Request ArgFault) (plan : Plan) : Type 0 where
-  pub outcome : HasOutcome m call read plan.said (left m (put_of plan))
+-- what a plan leaves, once it is done, where these words are drawn
+abbrev pub planned : SessionState → Plan → Option (List ℕ) → SessionState
+planned s plan drawn = state (left s.map (put_of plan)) drawn
+
+-- the plan for a call over a map, as the call is read, and the words that are drawn after it
+pub record IsPlan (s : SessionState) (call : Header) (read : Result Request ArgFault) (drawn : Option (List ℕ)) (plan : Plan) : Type 0 where
+  pub outcome : HasOutcome s call read plan.said (planned s plan drawn)
   pub closes : plan.closes ≡ asks_to_close read
   pub sayable : IsSayable call plan.said
+
+-- some words were drawn, or none
+abbrev pub HasDrawn : Option (List ℕ) → Option (List ℕ) → Type 0
+HasDrawn before now = (words : List ℕ) × Appends before now words

@@ -1,12 +1,13 @@
 // What is said to a call.
-ghost use Rattle.std.specs.Prelude.{◌≡◌, IfOk, IfSome, OnErr, OnOk, Ok, Err, None, false};
+ghost use Rattle.std.specs.Prelude.{◌≡◌, ℕ, [], IfOk, IfSome, List, OnErr, OnOk, Option, Ok, Err, None, false};
 ghost use Rattle.procedure_spec.specs.Arguments.{HasArguments, HasDomainArguments};
 ghost use Rattle.procedure_spec.specs.Calls.{IsCall, call_of};
 ghost use Rattle.procedure_spec.specs.Results.{domain_result, result_shape};
+ghost use Rattle.session_spec.specs.Course.{IsLost};
 ghost use Rattle.session_spec.specs.Replies.{asks_to_close, reply_packet};
 ghost use Rattle.session_spec.specs.Served.{Serves, ServesDomain};
-ghost use Rattle.session.specs.Left.{left};
-ghost use Rattle.session.specs.Plans.{IsPlan, IsPutInto, IsSayable, IsShort, put_of};
+ghost use Rattle.session_spec.specs.State.{state};
+ghost use Rattle.session.specs.Plans.{HasDrawn, IsPlan, IsPutInto, IsSayable, IsShort, planned, put_of};
 ghost use Rattle.session.specs.Steps.{IsDone};
 ghost use Rattle.virt_types.specs.declared.value.Reply.TheVariants as reply;
 ghost use Rattle.wire_spec.specs.Packets.{IsPacket, spelling};
@@ -62,7 +63,9 @@ fn plan_request<R: Random>(
     asked: &Request,
 ) -> Result<Plan, NoMemory>
     requires { HasArguments asked.now }
-    ensures serves { IfOk result (λ plan. Serves map.now asked.now plan.said (left map.now (put_of plan))) }
+    ensures serves { IfOk result (λ plan. Serves (state map.now (R.drawn random.old)) asked.now plan.said
+        (planned (state map.now (R.drawn random.old)) plan (R.drawn random.new))) }
+    ensures drawn { HasDrawn (R.drawn random.old) (R.drawn random.new) }
     ensures short { IfOk result (λ plan. IsShort (result_shape asked.now) plan.said) }
     ensures closes { IfOk result (λ plan. plan.closes ≡ asks_to_close (Ok asked.now)) }
     ensures kept { IfOk result (λ plan. IfSome (put_of plan) (IsPutInto map.now)) }
@@ -92,7 +95,7 @@ fn plan_refusal(
     call: &Header,
     fault: ArgFault,
 ) -> Result<Plan, NoMemory>
-    ensures plan { IfOk result (IsPlan map.now call.now (Err fault)) }
+    ensures plan { (drawn : Option (List ℕ)) → IfOk result (IsPlan (state map.now drawn) call.now (Err fault) drawn) }
     ensures put { IfOk result (λ plan. plan.put ≡ None) }
 {
     Ok(Plan::of(Reply::No(unread(alloc, call, fault)?)))
@@ -108,7 +111,9 @@ fn plan_asked<R: Random>(
 ) -> Result<Plan, NoMemory>
     requires found { IsCall call.now.header call.now.payload asked.now }
     requires read { call_of call.now.header call.now.payload ≡ Ok asked.now }
-    ensures plan { IfOk result (IsPlan map.now call.now.header (call_of call.now.header call.now.payload)) }
+    ensures plan { IfOk result (IsPlan (state map.now (R.drawn random.old)) call.now.header
+        (call_of call.now.header call.now.payload) (R.drawn random.new)) }
+    ensures drawn { HasDrawn (R.drawn random.old) (R.drawn random.new) }
     ensures kept { IfOk result (λ plan. IfSome (put_of plan) (IsPutInto map.now)) }
 {
     let plan = plan_request(alloc, map, random, asked)?;
@@ -122,7 +127,9 @@ fn plan_call<R: Random>(
     random: &mut R,
     call: &Packet,
 ) -> Result<Plan, NoMemory>
-    ensures plan { IfOk result (IsPlan map.now call.now.header (call_of call.now.header call.now.payload)) }
+    ensures plan { IfOk result (IsPlan (state map.now (R.drawn random.old)) call.now.header
+        (call_of call.now.header call.now.payload) (R.drawn random.new)) }
+    ensures drawn { HasDrawn (R.drawn random.old) (R.drawn random.new) }
     ensures kept { IfOk result (λ plan. IfSome (put_of plan) (IsPutInto map.now)) }
 {
     match read_call(alloc, &call.header, call.payload.as_slice()) {
@@ -174,8 +181,10 @@ fn write(alloc: Global, call: &Header, said: &Reply) -> Result<Bytes, NoMemory>
 impl<K, R: Random> Session<K, R> {
     /// Does a call, once the bytes of its reply are there, and says whether it closes the session.
     pub(crate) fn answer(&mut self, call: &Packet) -> Result<(Bytes, bool), NoMemory>
-        ensures done { IfOk result (IsDone self.old.map call.now self.new.map) }
-        ensures err { OnErr result (self.new.map ≡ self.old.map) }
+        ensures done { IfOk result (IsDone (state self.old.map (R.drawn self.old.random)) call.now
+            (state self.new.map (R.drawn self.new.random))) }
+        ensures err { OnErr result (IsLost (state self.old.map (R.drawn self.old.random)) []
+            (state self.new.map (R.drawn self.new.random))) }
         ensures sink { self.new.sink ≡ self.old.sink }
     {
         let Plan { said, put, closes } = plan_call(self.alloc, &self.map, &mut self.random, call)?;

@@ -3,15 +3,17 @@ ghost use Rattle.std.specs.Prelude.{◌≡◌, ◌≤◌, ℕ, IfOk, IfSome, Lis
 ghost use Rattle.virt_types.specs.Memory.{UnlessNoMemory};
 ghost use Rattle.session_spec.specs.Defining.{Defines, Puts, clash as clash_of, full as full_of, other_identifier, other_name as other_name_of, refused_put};
 ghost use Rattle.session_spec.specs.Definitions.{IsKept, identified, named};
-ghost use Rattle.text_spec.specs.Fill.{IsFilled};
+ghost use Rattle.session_spec.specs.State.{state};
+ghost use Rattle.text_spec.specs.Fill.{IsFilled, IsFilledBy};
 ghost use Rattle.text_spec.specs.Text.{most_bytes};
 ghost use Rattle.session_spec.specs.Refused.{at_place};
 ghost use Rattle.procedure_spec.specs.declared.procedure.ResultShape.TheVariants as shape;
 ghost use Rattle.session.specs.Left.{left};
+ghost use Rattle.virt_types.specs.Drawn.{IsMadeOfDrawn};
 ghost use Rattle.virt_types.specs.Limits.{most_kept_bytes};
 ghost use Rattle.virt_types.specs.Name.{IsName};
 ghost use Rattle.virt_types.specs.declared.domain_def.DomainDef.{DomainDef as Definition};
-ghost use Rattle.session.specs.Plans.{IsPutInto, IsShort, put_of};
+ghost use Rattle.session.specs.Plans.{HasDrawn, IsPutInto, IsShort, planned, put_of};
 ghost use Rattle.session_spec.specs.DefinitionText.{definition_in, text_of};
 
 use crate::lookup::reference;
@@ -166,9 +168,10 @@ fn is_entry(uuid: &Uuid, def: &DomainDef)
     let _name = def.name.as_bytes();
 }
 
-/// The definition with all that it lacked, of whichever words are drawn.
+/// The definition with all that it lacked, of the words that are drawn.
 fn filled<R: Random>(alloc: Global, read: DomainDef, random: &mut R) -> DomainDef
-    ensures { IsFilled read result }
+    ensures { IsMadeOfDrawn (λ words. IsFilledBy words read result)
+        (R.drawn random.old) (R.drawn random.new) }
 {
     fill_domain(alloc, read, random)
 }
@@ -193,7 +196,9 @@ pub(crate) fn plan_define<R: Random>(
     random: &mut R,
     text: &[u8],
 ) -> Result<Plan, NoMemory>
-    ensures defines { IfOk result (λ plan. Defines map.now (definition_in text.now) plan.said (left map.now (put_of plan))) }
+    ensures defines { IfOk result (λ plan. Defines (state map.now (R.drawn random.old)) (definition_in text.now) plan.said
+        (planned (state map.now (R.drawn random.old)) plan (R.drawn random.new))) }
+    ensures drawn { HasDrawn (R.drawn random.old) (R.drawn random.new) }
     ensures put { IfOk result (λ plan. IfSome (put_of plan) (IsPutInto map.now)) }
     ensures short { IfOk result (λ plan. IsShort shape.Domain plan.said) }
     ensures goes_on { IfOk result (λ plan. plan.closes ≡ false) }

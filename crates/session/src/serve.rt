@@ -6,6 +6,7 @@ ghost use Rattle.outside_spec.specs.Faults.{HasCause, Rose};
 ghost use Rattle.packet.specs.Feeding.{Grows, IsSplit, bytes_of};
 ghost use Rattle.wire_spec.specs.Packets.{fault};
 ghost use Rattle.session_spec.specs.Course.{Course, IsServedWhole, IsWhole};
+ghost use Rattle.session_spec.specs.State.{state};
 ghost use Rattle.session.specs.Steps.{Flows, HasSinkCause, PieceDone, PieceEnds, Stopped, end_at};
 
 use crate::say::{Flow, Stop};
@@ -64,11 +65,11 @@ fn end_of(feed: &Feed) -> End
 impl<K: Sink, R: Random> Session<K, R> {
     /// Answers the packets that are ready, in order, and none after one that closes the session.
     fn serve_ready(&mut self, feed: &mut Feed) -> Result<Flow, Stop>
-        ensures ok { IfOk result (Flows self.old.map feed.old.ready feed.new.ready
-            (K.held self.old.sink) (K.held self.new.sink) self.new.map) }
+        ensures ok { IfOk result (Flows (state self.old.map (R.drawn self.old.random)) feed.old.ready feed.new.ready
+            (K.held self.old.sink) (K.held self.new.sink) (state self.new.map (R.drawn self.new.random))) }
         ensures rest { feed.new.rest ≡ feed.old.rest }
-        ensures err { IfErr result (Stopped self.old.map feed.old.ready
-            (K.held self.old.sink) (K.held self.new.sink) self.new.map) }
+        ensures err { IfErr result (Stopped (state self.old.map (R.drawn self.old.random)) feed.old.ready
+            (K.held self.old.sink) (K.held self.new.sink) (state self.new.map (R.drawn self.new.random))) }
         ensures cause { HasSinkCause (K.faults self.old.sink) (K.faults self.new.sink) result }
     {
         while let Some(packet) = feed.next() {
@@ -85,11 +86,11 @@ impl<K: Sink, R: Random> Session<K, R> {
     fn serve_taken(&mut self, feed: &mut Feed, bad: Option<BadPacket>) -> Option<End>
         requires split { IsSplit feed.old }
         requires bad { bad ≡ fault feed.old.rest }
-        ensures none { IfNone result (PieceDone self.old.map (bytes_of feed.old) feed.new.rest
-            (K.held self.old.sink) (K.held self.new.sink) self.new.map) }
+        ensures none { IfNone result (PieceDone (state self.old.map (R.drawn self.old.random)) (bytes_of feed.old) feed.new.rest
+            (K.held self.old.sink) (K.held self.new.sink) (state self.new.map (R.drawn self.new.random))) }
         ensures ready { IfNone result (feed.new.ready ≡ []) }
-        ensures some { IfSome result (PieceEnds self.old.map (bytes_of feed.old)
-            (K.held self.old.sink) (K.held self.new.sink) self.new.map) }
+        ensures some { IfSome result (PieceEnds (state self.old.map (R.drawn self.old.random)) (bytes_of feed.old)
+            (K.held self.old.sink) (K.held self.new.sink) (state self.new.map (R.drawn self.new.random))) }
         ensures later { K.faults self.old.sink ≤ K.faults self.new.sink }
         ensures cause { result ≡ Some End.SinkFault → Rose (K.faults self.old.sink) (K.faults self.new.sink) }
     {
@@ -109,11 +110,11 @@ impl<K: Sink, R: Random> Session<K, R> {
     fn serve_piece(&mut self, feed: &mut Feed, piece: &[u8]) -> Option<End>
         requires ready { feed.old.ready ≡ [] }
         requires sound { fault feed.old.rest ≡ None }
-        ensures none { IfNone result (PieceDone self.old.map (feed.old.rest ++ piece.now) feed.new.rest
-            (K.held self.old.sink) (K.held self.new.sink) self.new.map) }
+        ensures none { IfNone result (PieceDone (state self.old.map (R.drawn self.old.random)) (feed.old.rest ++ piece.now) feed.new.rest
+            (K.held self.old.sink) (K.held self.new.sink) (state self.new.map (R.drawn self.new.random))) }
         ensures ready { IfNone result (feed.new.ready ≡ []) }
-        ensures some { IfSome result (PieceEnds self.old.map (feed.old.rest ++ piece.now)
-            (K.held self.old.sink) (K.held self.new.sink) self.new.map) }
+        ensures some { IfSome result (PieceEnds (state self.old.map (R.drawn self.old.random)) (feed.old.rest ++ piece.now)
+            (K.held self.old.sink) (K.held self.new.sink) (state self.new.map (R.drawn self.new.random))) }
         ensures later { K.faults self.old.sink ≤ K.faults self.new.sink }
         ensures cause { result ≡ Some End.SinkFault → Rose (K.faults self.old.sink) (K.faults self.new.sink) }
     {
@@ -127,8 +128,8 @@ impl<K: Sink, R: Random> Session<K, R> {
     fn serve_pieces<S: Source>(&mut self, feed: &mut Feed, source: &mut S) -> End
         requires ready { feed.old.ready ≡ [] }
         requires rest { feed.old.rest ≡ [] }
-        ensures course { Course self.old.map (S.left source.old) (S.left source.new)
-            (K.held self.old.sink) (K.held self.new.sink) result self.new.map }
+        ensures course { Course (state self.old.map (R.drawn self.old.random)) (S.left source.old) (S.left source.new)
+            (K.held self.old.sink) (K.held self.new.sink) result (state self.new.map (R.drawn self.new.random)) }
         ensures source_count { S.faults source.old ≤ S.faults source.new }
         ensures sink_count { K.faults self.old.sink ≤ K.faults self.new.sink }
         ensures source_fault { result ≡ End.SourceFault
@@ -154,8 +155,8 @@ impl<K: Sink, R: Random> Session<K, R> {
 
     /// Serves from the first byte on.
     fn serve_all<S: Source>(&mut self, source: &mut S) -> End
-        ensures course { Course self.old.map (S.left source.old) (S.left source.new)
-            (K.held self.old.sink) (K.held self.new.sink) result self.new.map }
+        ensures course { Course (state self.old.map (R.drawn self.old.random)) (S.left source.old) (S.left source.new)
+            (K.held self.old.sink) (K.held self.new.sink) result (state self.new.map (R.drawn self.new.random)) }
         ensures source_count { S.faults source.old ≤ S.faults source.new }
         ensures sink_count { K.faults self.old.sink ≤ K.faults self.new.sink }
         ensures source_fault { result ≡ End.SourceFault
@@ -174,8 +175,9 @@ impl<K: Sink, R: Random> Session<K, R> {
     /// Every other packet is passed over. A call of CONNECT_CLOSE that was answered is the last, and
     /// after 2^62 bytes the input counts as over. It gives back the session, and says how it ended.
     pub fn serve_plain<S: Source>(mut self, source: &mut S) -> (Session<K, R>, End)
-        ensures course { Course self.map (S.left source.old) (S.left source.new)
-            (K.held self.sink) (K.held result.0.sink) result.1 result.0.map }
+        ensures course { Course (state self.map (R.drawn self.random)) (S.left source.old) (S.left source.new)
+            (K.held self.sink) (K.held result.0.sink) result.1
+            (state result.0.map (R.drawn result.0.random)) }
         ensures source_count { S.faults source.old ≤ S.faults source.new }
         ensures sink_count { K.faults self.sink ≤ K.faults result.0.sink }
         ensures source_fault { result.1 ≡ End.SourceFault

@@ -3,8 +3,10 @@ use Rattle.std.specs.Prelude.{◌≡◌, ℕ, List, codes, bytes_eq, length, nat
 use Rattle.std.specs.Option.{option_or}
 use Rattle.session_spec.specs.Definitions.{Definitions, Entry, identified, most_domains, named, with_definition}
 use Rattle.session_spec.specs.Refused.{refusal}
-use Rattle.text_spec.specs.Fill.{IsFilled}
+use Rattle.session_spec.specs.State.{SessionState}
+use Rattle.text_spec.specs.Fill.{IsFilledBy}
 use Rattle.uuid.specs.Text.{hyphenated_text, lower}
+use Rattle.virt_types.specs.Drawn.{IsMadeOfDrawn}
 use Rattle.virt_types.specs.declared.domain_def.DomainDef.{DomainDef}
 use Rattle.virt_types.specs.declared.reference.DomainRef.{DomainRef}
 use Rattle.virt_types.specs.declared.refusal.Refusal.{Refusal}
@@ -49,7 +51,9 @@ abbrev pub Puts : Definitions → Entry → Option Refusal → Reply → Definit
 Puts m e (Some why) said after = (said ≡ reply.No why) × (after ≡ m)
 Puts m e None said after = (said ≡ reply.Ok (value.Domain (reference e))) × (after ≡ with_definition m e)
 
--- the definition is filled in: its identifier, if it names none, and its missing addresses are drawn
-abbrev pub Defines : Definitions → Result DomainDef (List ℕ) → Reply → Definitions → Type 0
-Defines m (Err kept) said after = (said ≡ reply.No (refusal code.BadDefinition kept)) × (after ≡ m)
-Defines m (Ok read) said after = (def : DomainDef) × (uuid : List ℕ) × IsFilled read def × (def.uuid ≡ Some uuid) × Puts m (uuid, def) (refused_put m (uuid, def)) said after
+-- the definition is filled in: its identifier, if it names none, and its missing addresses are made of
+-- exactly the words that are drawn for it
+abbrev pub Defines : SessionState → Result DomainDef (List ℕ) → Reply → SessionState → Type 0
+Defines s (Err kept) said after = (said ≡ reply.No (refusal code.BadDefinition kept)) × (after ≡ s)
+Defines s (Ok read) said after = (def : DomainDef) × (uuid : List ℕ) × IsMadeOfDrawn (λ words. IsFilledBy words read def) s.drawn after.drawn
+    × (def.uuid ≡ Some uuid) × Puts s.map (uuid, def) (refused_put s.map (uuid, def)) said after.map

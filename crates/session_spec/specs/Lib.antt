@@ -5,3 +5,4 @@ pub mod Definitions
 pub mod Refused
 pub mod Replies
 pub mod Served
+pub mod State

@@ -1,4 +1,4 @@
--- What each request gives over a map: the reply, and the map after it.
+-- What each request gives over a map: the reply, and the map after it, with the words that were drawn.
 use Rattle.std.specs.Prelude.{◌≡◌, ℕ, ℤ, pos, nat_abs, int_lt, List, ◌++◌, codes, take, Option, Some, None, if◌then◌else◌}
 use Rattle.std.specs.Cmp.Lexicographic.{slice_cmp}
 use Rattle.std.specs.Fmt.{decimal, signed_decimal}
@@ -8,6 +8,7 @@ use Rattle.session_spec.specs.Defining.{Defines, reference}
 use Rattle.session_spec.specs.DefinitionText.{definition_in, text_of}
 use Rattle.session_spec.specs.Definitions.{Definitions, Entry, identified, named, names_of}
 use Rattle.session_spec.specs.Refused.{refusal}
+use Rattle.session_spec.specs.State.{SessionState}
 use Rattle.uuid.specs.Text.{hyphenated_text, lower}
 use Rattle.virt_types.specs.declared.domain_def.DomainDef.{DomainDef}
 use Rattle.virt_types.specs.declared.object_request.DomainRequest.{DomainRequest}
@@ -67,6 +68,6 @@ LooksUp m (request.DomainLookupByName name) said = said ≡ by_name name (named 
 LooksUp m (request.DomainLookupByUuid uuid) said = said ≡ by_uuid uuid (identified uuid m)
 LooksUp m _ said = ⊥
 
-abbrev pub Serves : Definitions → Request → Reply → Definitions → Type 0
-Serves m (request.DomainDefineXml xml) said after = Defines m (definition_in xml) said after
-Serves m asked said after = LooksUp m asked said × (after ≡ m)
+abbrev pub Serves : SessionState → Request → Reply → SessionState → Type 0
+Serves s (request.DomainDefineXml xml) said after = Defines s (definition_in xml) said after
+Serves s asked said after = LooksUp s.map asked said × (after ≡ s)

@@ -106,8 +106,8 @@ pub(crate) struct Process {
     output: Stdout,
     error: Stderr,
     words: SystemWords,
-    made: HandedOver<(StandardInput, StandardOutput)>,
-    back: HandedOver<(StandardInput, StandardOutput)>,
+    made: HandedOver<(StandardInput, StandardOutput, SystemWords)>,
+    back: HandedOver<(StandardInput, StandardOutput, SystemWords)>,
 }
 
 impl Process {
@@ -134,8 +134,8 @@ impl World for Process {
 
     ghost back = { λ p. p.back };
 
-    fn stdio(&mut self) -> (StandardInput, StandardOutput) {
-        let ends = (
+    fn connection(&mut self) -> (StandardInput, StandardOutput, SystemWords) {
+        let connection = (
             StandardInput {
                 stream: self.input,
                 faults: 0,
@@ -144,18 +144,15 @@ impl World for Process {
                 stream: self.output,
                 faults: 0,
             },
+            self.words.another(),
         );
-        self.made.add(&ends);
-        ends
+        self.made.add(&connection);
+        connection
     }
 
-    fn ended(&mut self, source: StandardInput, sink: StandardOutput) {
-        let ends = (source, sink);
-        self.back.add(&ends);
-    }
-
-    fn random(&mut self) -> SystemWords {
-        self.words.another()
+    fn ended(&mut self, source: StandardInput, sink: StandardOutput, random: SystemWords) {
+        let connection = (source, sink, random);
+        self.back.add(&connection);
     }
 
     fn say(&mut self, line: &[u8]) {

@@ -36,11 +36,10 @@ fn status_of(end: &End) -> u8
 /// Serves the domains over standard input and output.
 fn serve_stdio<W: World>(alloc: Global, map: PlainMap, world: &mut W) -> u8
     requires { map ≡ demo_map }
-    ensures { ServesStdio W.S.left W.S.faults W.K.held W.K.faults
+    ensures { ServesStdio W.S.left W.S.faults W.K.held W.K.faults W.R.drawn
         (W.made world.old) (W.back world.old) (W.made world.new) (W.back world.new) result }
 {
-    let random = world.random();
-    let (mut source, sink) = world.stdio();
+    let (mut source, sink, random) = world.connection();
     let session = Session {
         alloc,
         map,
@@ -48,7 +47,7 @@ fn serve_stdio<W: World>(alloc: Global, map: PlainMap, world: &mut W) -> u8
         random,
     };
     let (session, end) = session.serve_plain(&mut source);
-    world.ended(source, session.sink);
+    world.ended(source, session.sink, session.random);
     say_end(alloc, world, &end);
     status_of(&end)
 }
@@ -65,7 +64,7 @@ fn out_of_memory<W: World>(world: &mut W) -> u8
 
 /// `virtd demo`
 fn serve_demo<W: World>(alloc: Global, world: &mut W) -> u8
-    ensures { ServesDemo W.S.left W.S.faults W.K.held W.K.faults
+    ensures { ServesDemo W.S.left W.S.faults W.K.held W.K.faults W.R.drawn
         (W.made world.old) (W.back world.old) (W.made world.new) (W.back world.new) result }
 {
     match demo_domains(alloc) {
@@ -92,7 +91,7 @@ pub fn virtd<W: World>(alloc: Global, words: &[String], world: &mut W) -> u8
     ensures nothing { result ≡ 2 → MakesNothing (W.made world.old) (W.back world.old)
         (W.made world.new) (W.back world.new) }
     ensures demo { map string_bytes words.now ≡ demo_words
-        → ServesDemo W.S.left W.S.faults W.K.held W.K.faults
+        → ServesDemo W.S.left W.S.faults W.K.held W.K.faults W.R.drawn
         (W.made world.old) (W.back world.old) (W.made world.new) (W.back world.new) result }
 {
     if is_demo(words) {

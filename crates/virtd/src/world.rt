@@ -17,26 +17,22 @@ pub trait World {
     /// Where new identifiers and addresses come from.
     type R: Random + Drop;
 
-    // The pairs of ends that were made.
-    ghost made: { Self → Handed (Self.S × Self.K) };
+    // The connections that were made: both ends, and the words of each.
+    ghost made: { Self → Handed (Self.S × Self.K × Self.R) };
 
-    // The pairs of ends that were given back, as they were then.
-    ghost back: { Self → Handed (Self.S × Self.K) };
+    // The connections that were given back, as they were then.
+    ghost back: { Self → Handed (Self.S × Self.K × Self.R) };
 
-    /// Makes the two ends of standard input and output.
-    fn stdio(&mut self) -> (Self::S, Self::K)
+    /// Makes a connection: the two ends of standard input and output, and a source of words without a
+    /// pattern.
+    fn connection(&mut self) -> (Self::S, Self::K, Self::R)
         ensures made { made self.new ≡ one_more (made self.old) result }
         ensures back { back self.new ≡ back self.old };
 
-    /// Gets the two ends of `stdio` back.
-    fn ended(&mut self, source: Self::S, sink: Self::K)
+    /// Gets a connection back.
+    fn ended(&mut self, source: Self::S, sink: Self::K, random: Self::R)
         ensures made { made self.new ≡ made self.old }
-        ensures back { back self.new ≡ one_more (back self.old) (source, sink) };
-
-    /// A source of words without a pattern.
-    fn random(&mut self) -> Self::R
-        ensures made { made self.new ≡ made self.old }
-        ensures back { back self.new ≡ back self.old };
+        ensures back { back self.new ≡ one_more (back self.old) (source, sink, random) };
 
     /// Writes a line for a person on standard error. Its faults are passed over.
     fn say(&mut self, line: &[u8])

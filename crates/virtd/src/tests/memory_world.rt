@@ -88,8 +88,8 @@ struct MemoryWorld {
     ends: Ends,
     output: Option<Vec<u8>>,
     said: Vec<u8>,
-    made: HandedOver<(MemorySource, MemorySink)>,
-    back: HandedOver<(MemorySource, MemorySink)>,
+    made: HandedOver<(MemorySource, MemorySink, CountedWords)>,
+    back: HandedOver<(MemorySource, MemorySink, CountedWords)>,
 }
 
 impl World for MemoryWorld {
@@ -103,28 +103,25 @@ impl World for MemoryWorld {
 
     ghost back = { λ w. w.back };
 
-    fn stdio(&mut self) -> (MemorySource, MemorySink) {
+    fn connection(&mut self) -> (MemorySource, MemorySink, CountedWords) {
         let input = std::mem::replace(&mut self.input, Vec::new(self.alloc));
-        let ends = (
+        let connection = (
             MemorySource::new(input)
                 .at_most(self.ends.read_most)
                 .failing(self.ends.reads),
             MemorySink::new(self.alloc)
                 .at_most(self.ends.write_most)
                 .failing(self.ends.writes),
+            CountedWords { last: 0 },
         );
-        self.made.add(&ends);
-        ends
+        self.made.add(&connection);
+        connection
     }
 
-    fn ended(&mut self, source: MemorySource, sink: MemorySink) {
-        let ends = (source, sink);
-        self.back.add(&ends);
-        self.output = Vec::from_slice(self.alloc, ends.1.bytes()).ok();
-    }
-
-    fn random(&mut self) -> CountedWords {
-        CountedWords { last: 0 }
+    fn ended(&mut self, source: MemorySource, sink: MemorySink, random: CountedWords) {
+        let connection = (source, sink, random);
+        self.back.add(&connection);
+        self.output = Vec::from_slice(self.alloc, connection.1.bytes()).ok();
     }
 
     fn say(&mut self, line: &[u8]) {

@@ -1,4 +1,4 @@
 use Rattle.session.proofs.define.filled.Goals as goal
 
 pub returns : goal.returns
-returns g c = (c.fill_domain.ensures.0, c.fill_domain.ensures.1)
+returns g c = c.fill_domain.ensures

@@ -4,10 +4,10 @@ use Rattle.virtd.proofs.top.serve_stdio.Goals as goal
 
 pub returns : goal.returns
 returns g c = record {
-  ends = c.stdio-source.result;
-  given = (c.serve_plain-session.new.source, c.serve_plain-session.result.0.sink);
-  made_one = rw (c.say_end.ensures.made, c.ended.ensures.made, c.stdio-source.ensures.made, c.random-random.ensures.made) refl;
-  back_one = rw (c.say_end.ensures.back, c.ended.ensures.back, c.stdio-source.ensures.back, c.random-random.ensures.back) refl;
+  connection = c.connection-source.result;
+  given = (c.serve_plain-session.new.source, c.serve_plain-session.result.0.sink, c.serve_plain-session.result.0.random);
+  made_one = rw (c.say_end.ensures.made, c.ended.ensures.made, c.connection-source.ensures.made) refl;
+  back_one = rw (c.say_end.ensures.back, c.ended.ensures.back, c.connection-source.ensures.back) refl;
   served = record {
     end = c.serve_plain-session.result.1;
     after = c.serve_plain-session.result.0.map;
