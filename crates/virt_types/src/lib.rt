@@ -26,6 +26,8 @@ mod request;
 mod room;
 mod run_state;
 mod script;
+mod snap_list;
+mod snap_tree;
 mod status;
 mod storage_def;
 mod text;
