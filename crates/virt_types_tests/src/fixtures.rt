@@ -1,32 +1,31 @@
-// One value of each larger type, with every field set.
+// Values to be copied, and what they are made of.
 use std::alloc::Global;
 use virt_types::{
-    AddressRange, BootDevice, Bytes, Cause, CharacterDevice, CrashAction, Dhcp, Disk, DiskDevice,
-    DiskDriver, DiskSource, DiskTarget, DiskType, DomainDef, DomainType, EndReason, ForwardMode,
-    Graphics, HostLine, Interface, InterfaceModel, InterfaceSource, InterfaceType, LifecycleAction,
-    ListOf, Live, Mac, Memballoon, Name, NetDef, NetIp, NoMemory, Op, OpKind, OrNoMemory, Os,
-    Phase, Refusal, RefusalCode, RunState, Script, ScriptAct, ScriptEntry, Snap, Text, Uuid, Who,
-    both,
+    AddressRange, BootDevice, Bytes, CharacterDevice, CrashAction, Dhcp, Disk, DiskDevice,
+    DiskDriver, DiskSource, DiskTarget, DiskType, DomainDef, DomainType, Graphics, HostLine,
+    Interface, InterfaceModel, InterfaceSource, InterfaceType, LifecycleAction, ListOf, Live, Mac,
+    Memballoon, Name, NetDef, NetIp, NoMemory, Op, OpKind, OrNoMemory, Os, Phase, Refusal,
+    RefusalCode, RunState, Script, ScriptEntry, Snap, Text, Uuid, Who,
 };
 
-pub(crate) fn text(alloc: Global, text: &str) -> Result<Text, NoMemory> {
-    Text::copy_of(alloc, text)
-}
-
-pub(crate) fn some_text(alloc: Global, text: &str) -> Result<Option<Text>, NoMemory> {
-    Ok(Some(Text::copy_of(alloc, text)?))
+pub(crate) fn text(alloc: Global) -> Result<Text, NoMemory> {
+    Text::copy_of(alloc, "text")
 }
 
 pub(crate) fn bytes(alloc: Global) -> Result<Bytes, NoMemory> {
     Bytes::copy_of(alloc, &[7, 0, 255])
 }
 
-pub(crate) fn name(alloc: Global, text: &str) -> Result<Name, NoMemory> {
-    match Name::read(alloc, text.as_bytes()) {
+pub(crate) fn named(alloc: Global, bytes: &[u8]) -> Result<Name, NoMemory> {
+    match Name::read(alloc, bytes) {
         Ok(name) => Ok(name),
         Err(OrNoMemory::Fault(_)) => Err(NoMemory),
         Err(OrNoMemory::NoMemory) => Err(NoMemory),
     }
+}
+
+pub(crate) fn name(alloc: Global) -> Result<Name, NoMemory> {
+    named(alloc, b"name")
 }
 
 pub(crate) fn uuid() -> Uuid {
@@ -45,37 +44,30 @@ pub(crate) fn list<T: Drop>(alloc: Global, one: T) -> Result<ListOf<T>, NoMemory
     Ok(list)
 }
 
-pub(crate) fn script(alloc: Global) -> Result<Script, NoMemory> {
-    let entry = ScriptEntry::At {
-        boot: 1,
-        command: 2,
-        act: ScriptAct::End,
-    };
+fn script(alloc: Global) -> Result<Script, NoMemory> {
     Ok(Script {
-        text: text(alloc, "boot 1 command 2 end")?,
-        entries: list(alloc, entry)?,
+        text: text(alloc)?,
+        entries: list(alloc, ScriptEntry::Stall)?,
     })
 }
 
 pub(crate) fn disk(alloc: Global) -> Result<Disk, NoMemory> {
-    let driver = DiskDriver {
-        name: some_text(alloc, "qemu")?,
-        kind: some_text(alloc, "qcow2")?,
-    };
-    let source = DiskSource {
-        file: some_text(alloc, "/a")?,
-        dev: some_text(alloc, "/b")?,
-        pool: some_text(alloc, "c")?,
-        volume: some_text(alloc, "d")?,
-    };
     Ok(Disk {
         kind: DiskType::Block,
         device: DiskDevice::Lun,
-        driver: Some(driver),
-        source: Some(source),
+        driver: Some(DiskDriver {
+            name: Some(text(alloc)?),
+            kind: None,
+        }),
+        source: Some(DiskSource {
+            file: Some(text(alloc)?),
+            dev: None,
+            pool: None,
+            volume: None,
+        }),
         target: DiskTarget {
-            dev: text(alloc, "vda")?,
-            bus: some_text(alloc, "virtio")?,
+            dev: text(alloc)?,
+            bus: None,
         },
         readonly: true,
     })
@@ -86,31 +78,44 @@ pub(crate) fn interface(alloc: Global) -> Result<Interface, NoMemory> {
         kind: InterfaceType::Bridge,
         mac: Some(mac()),
         source: Some(InterfaceSource {
-            network: some_text(alloc, "default")?,
-            bridge: some_text(alloc, "br0")?,
+            network: Some(text(alloc)?),
+            bridge: None,
         }),
         model: Some(InterfaceModel {
-            kind: some_text(alloc, "e1000")?,
+            kind: Some(text(alloc)?),
         }),
     })
 }
 
-fn os(alloc: Global) -> Result<Os, NoMemory> {
+pub(crate) fn os(alloc: Global) -> Result<Os, NoMemory> {
     Ok(Os {
-        kind: text(alloc, "hvm")?,
-        arch: some_text(alloc, "x86_64")?,
-        machine: some_text(alloc, "q35")?,
+        kind: text(alloc)?,
+        arch: None,
+        machine: None,
         boot: list(alloc, BootDevice::Cdrom)?,
+    })
+}
+
+pub(crate) fn graphics(alloc: Global) -> Result<Graphics, NoMemory> {
+    Ok(Graphics {
+        kind: Some(text(alloc)?),
+        port: None,
+    })
+}
+
+pub(crate) fn character_device(alloc: Global) -> Result<CharacterDevice, NoMemory> {
+    Ok(CharacterDevice {
+        kind: Some(text(alloc)?),
     })
 }
 
 pub(crate) fn definition(alloc: Global) -> Result<DomainDef, NoMemory> {
     Ok(DomainDef {
         kind: DomainType::Kvm,
-        name: name(alloc, "web1")?,
+        name: name(alloc)?,
         uuid: Some(uuid()),
-        title: some_text(alloc, "title")?,
-        description: some_text(alloc, "description")?,
+        title: None,
+        description: None,
         guest: script(alloc)?,
         memory: 2048,
         current_memory: 1024,
@@ -120,62 +125,41 @@ pub(crate) fn definition(alloc: Global) -> Result<DomainDef, NoMemory> {
         on_poweroff: LifecycleAction::Preserve,
         on_reboot: LifecycleAction::RenameRestart,
         on_crash: CrashAction::CoredumpRestart,
-        emulator: some_text(alloc, "/usr/bin/qemu")?,
-        disks: list(alloc, disk(alloc)?)?,
-        interfaces: list(alloc, interface(alloc)?)?,
-        serials: list(
-            alloc,
-            CharacterDevice {
-                kind: some_text(alloc, "pty")?,
-            },
-        )?,
-        consoles: list(
-            alloc,
-            CharacterDevice {
-                kind: some_text(alloc, "tty")?,
-            },
-        )?,
-        graphics: list(alloc, graphics(alloc)?)?,
+        emulator: None,
+        disks: ListOf::new(alloc),
+        interfaces: ListOf::new(alloc),
+        serials: ListOf::new(alloc),
+        consoles: ListOf::new(alloc),
+        graphics: ListOf::new(alloc),
         memballoon: Some(Memballoon {
-            model: some_text(alloc, "virtio")?,
+            model: Some(text(alloc)?),
         }),
     })
 }
 
-fn graphics(alloc: Global) -> Result<Graphics, NoMemory> {
-    Ok(Graphics {
-        kind: some_text(alloc, "vnc")?,
-        port: some_text(alloc, "5900")?,
-    })
-}
-
 pub(crate) fn live(alloc: Global) -> Result<Live, NoMemory> {
-    let (def, slots) = both(definition(alloc), list(alloc, 2))?;
     Ok(Live {
         boot: 3,
-        run: RunState::Paused(Cause::Job),
-        def,
-        slots,
+        run: RunState::Running,
+        def: definition(alloc)?,
+        slots: list(alloc, 2)?,
     })
 }
 
-pub(crate) fn snapshot(alloc: Global) -> Result<Snap, NoMemory> {
-    let names = both(name(alloc, "s2"), name(alloc, "s1"));
-    let parts = both(definition(alloc), both(text(alloc, "why"), bytes(alloc)));
-    let ((own, parent), (def, (description, saved))) = both(names, parts)?;
+pub(crate) fn snapshot(alloc: Global, own: &[u8]) -> Result<Snap, NoMemory> {
     Ok(Snap {
-        name: own,
-        description,
-        parent: Some(parent),
+        name: named(alloc, own)?,
+        description: text(alloc)?,
+        parent: None,
         run: Some(RunState::Crashed),
-        def,
-        saved,
+        def: definition(alloc)?,
+        saved: bytes(alloc)?,
     })
 }
 
 pub(crate) fn operation(alloc: Global) -> Result<Op, NoMemory> {
     Ok(Op {
-        kind: OpKind::Save,
+        kind: OpKind::MigrateOut,
         who: Who {
             session: 1,
             lane: 2,
@@ -189,26 +173,30 @@ pub(crate) fn operation(alloc: Global) -> Result<Op, NoMemory> {
         still: 63,
         remaining: Some(5),
         refusal: Some(Refusal::new(alloc, RefusalCode::OperationFailed, "class 1")?),
+        limit: 2,
+        rests: false,
     })
 }
 
 pub(crate) fn network(alloc: Global) -> Result<NetDef, NoMemory> {
-    let line = HostLine {
-        mac: mac(),
-        address: 0x0a00_0003,
-    };
     let dhcp = Dhcp {
         range: Some(AddressRange {
             start: 0x0a00_0002,
             end: 0x0a00_0003,
         }),
-        hosts: list(alloc, line)?,
+        hosts: list(
+            alloc,
+            HostLine {
+                mac: mac(),
+                address: 0x0a00_0003,
+            },
+        )?,
     };
     Ok(NetDef {
-        name: name(alloc, "default")?,
-        uuid: Some(uuid()),
-        forward: Some(ForwardMode::Nat),
-        bridge: some_text(alloc, "virbr0")?,
+        name: name(alloc)?,
+        uuid: None,
+        forward: None,
+        bridge: None,
         ip: Some(NetIp {
             address: 0x0a00_0001,
             prefix: 24,
@@ -216,5 +204,3 @@ pub(crate) fn network(alloc: Global) -> Result<NetDef, NoMemory> {
         }),
     })
 }
-
-pub(super) const LAST: Option<(u64, EndReason)> = Some((2, EndReason::Saved));

@@ -1,7 +1,6 @@
 // Numbers, messages and words of the wire, against the protocol's tables.
 use virt_types::{
-    DomainState, Front, ImageKind, OpKind, Phase, RefusalCode, SHUTDOWN_FINISHED, STARTED_BOOTED,
-    STARTED_FROM_SNAPSHOT, STOPPED_SAVED, Transition,
+    DomainState, Front, ImageKind, Job, OpKind, Phase, RefusalCode, STOPPED_MIGRATED,
 };
 
 #[test]
@@ -28,7 +27,6 @@ fn refusals_have_their_numbers_and_messages(rt: HostRuntime) {
         (202, "monitor lost"),
         (203, "too many waiting"),
         (204, "list full"),
-        (205, "history full"),
         (206, "not built"),
         (207, "stalled"),
         (208, "snapshot exists"),
@@ -47,38 +45,42 @@ fn refusals_have_their_numbers_and_messages(rt: HostRuntime) {
             None => assert!(rt; false, "{number}"),
         }
     }
-    assert!(rt; RefusalCode::of_number(1).is_none());
+    assert!(rt; RefusalCode::of_number(205).is_none());
     assert!(rt; RefusalCode::of_number(214).is_none());
 }
 
 #[test]
 fn states_and_phases_have_their_numbers(rt: HostRuntime) {
-    assert_eq!(rt; DomainState::of_number(5), Some(DomainState::ShutOff));
-    assert_eq!(rt; DomainState::ShutOff.word(), "shut off");
-    assert_eq!(rt; DomainState::of_number(2), None);
-    assert_eq!(rt; DomainState::Crashed.number(), 6);
-    assert_eq!(rt; OpKind::of_number(6), Some(OpKind::Revert));
-    assert_eq!(rt; OpKind::of_number(0), None);
-    assert_eq!(rt; OpKind::Save.word(), "save");
-    assert_eq!(rt; Phase::of_number(8), Some(Phase::Cancel));
-    assert_eq!(rt; Phase::of_number(9), None);
+    for (number, word) in [
+        (1, "running"),
+        (3, "paused"),
+        (5, "shut off"),
+        (6, "crashed"),
+    ] {
+        assert_eq!(rt;
+            DomainState::of_number(number).map(|state| state.word()),
+            Some(word)
+        );
+    }
+    let kinds = [
+        (1, "start"),
+        (6, "revert"),
+        (7, "migrate-out"),
+        (8, "migrate-in"),
+    ];
+    for (number, word) in kinds {
+        assert_eq!(rt;
+            OpKind::of_number(number).map(|kind| kind.word()),
+            Some(word)
+        );
+    }
+    assert_eq!(rt; OpKind::of_number(9), None);
+    assert_eq!(rt; Phase::of_number(17), Some(Phase::MigrateDrop));
+    assert_eq!(rt; Phase::of_number(18), None);
     assert_eq!(rt; ImageKind::of_number(1), Some(ImageKind::Save));
-    assert_eq!(rt; ImageKind::Dump.number(), 2);
-    assert_eq!(rt;
-        STARTED_FROM_SNAPSHOT,
-        Transition {
-            event: 2,
-            detail: 3
-        }
-    );
-    assert_eq!(rt;
-        STOPPED_SAVED,
-        Transition {
-            event: 5,
-            detail: 4
-        }
-    );
-    assert!(rt; STARTED_BOOTED != SHUTDOWN_FINISHED);
+    assert_eq!(rt; Job::MigrationOp.word(), "migration");
+    assert_eq!(rt; STOPPED_MIGRATED.event, 5);
+    assert_eq!(rt; STOPPED_MIGRATED.detail, 3);
 }
 
 #[test]
