@@ -2,7 +2,7 @@
 use crate::bases::{Setting, base};
 use crate::marks::{Marks, tell, told};
 use crate::story::Line;
-use history_reference::{Verdict, judge, state_after};
+use model_histories::{Verdict, judge, state_after};
 use std::alloc::Global;
 use virt_types::{NoMemory, RunState, State};
 

@@ -2,7 +2,7 @@
 use crate::bases::Setting;
 use crate::judged::{After, judged};
 use crate::story::*;
-use history_reference::Verdict;
+use model_histories::Verdict;
 use std::test::Fail;
 use virt_types::{Cause, EndReason, GuestEvent, Job, Phase, RefusalCode, RunState};
 

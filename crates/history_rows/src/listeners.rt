@@ -3,7 +3,7 @@ use crate::bases::{Setting, registration};
 use crate::judged::{Deed, both_verdicts, found, verdict};
 use crate::marks::{Marks, many, told};
 use crate::story::*;
-use history_reference::{Verdict, owed, owed_at_base, owed_since};
+use model_histories::{Verdict, owed, owed_at_base, owed_since};
 use std::alloc::Global;
 use std::test::Fail;
 use virt_types::{

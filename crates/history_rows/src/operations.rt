@@ -3,7 +3,7 @@ use crate::bases::Setting;
 use crate::judged::{Deed, both_verdicts, found, verdict};
 use crate::marks::many;
 use crate::story::*;
-use history_reference::Verdict;
+use model_histories::Verdict;
 use std::alloc::Global;
 use std::test::Fail;
 use virt_types::{EndReason, NoMemory, Phase, RefusalCode};
