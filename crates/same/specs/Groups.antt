@@ -48,6 +48,8 @@ pub record HaveComeAlike (a b : Op) : Type 0 where
   pub still : a.still ≡ b.still
   pub remaining : a.remaining ≡ b.remaining
   pub refusal : a.refusal ≡ b.refusal
+  pub limit : a.limit ≡ b.limit
+  pub rests : a.rests ≡ b.rests
 
 pub record AreKnownAlike (a b : Domain) : Type 0 where
   pub uuid : a.uuid ≡ b.uuid

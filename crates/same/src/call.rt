@@ -48,6 +48,18 @@ impl Same for Call {
                 } => name.same(other_name) && *children == *other_children,
                 _ => false,
             },
+            Call::Limit(it) => match other {
+                Call::Limit(that) => *it == *that,
+                _ => false,
+            },
+            Call::Confirm(it) => match other {
+                Call::Confirm(that) => *it == *that,
+                _ => false,
+            },
+            Call::Finish(it) => match other {
+                Call::Finish(that) => *it == *that,
+                _ => false,
+            },
             Call::Start => matches!(other, Call::Start),
             Call::Create(it) => match other {
                 Call::Create(that) => it.same(that),
@@ -81,6 +93,21 @@ impl Same for Call {
             },
             Call::Revert(it) => match other {
                 Call::Revert(that) => it.same(that),
+                _ => false,
+            },
+            Call::Perform => matches!(other, Call::Perform),
+            Call::Prepare {
+                definition,
+                running,
+                saved,
+            } => match other {
+                Call::Prepare {
+                    definition: other_definition,
+                    running: other_running,
+                    saved: other_saved,
+                } => definition.same(other_definition)
+                    && *running == *other_running
+                    && saved.same(other_saved),
                 _ => false,
             },
         }

@@ -55,6 +55,8 @@ fn have_come_alike(one: &Op, other: &Op) -> bool
         && one.still == other.still
         && one.remaining.same(&other.remaining)
         && one.refusal.same(&other.refusal)
+        && one.limit == other.limit
+        && one.rests == other.rests
 }
 
 impl Same for Op {

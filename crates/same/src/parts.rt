@@ -1,7 +1,7 @@
 // The trait, and the collections of which larger values are made.
 ghost use Rattle.std.specs.Prelude.{◌≡◌, ◌↔◌, IsTrue};
 
-use virt_types::{Bytes, ListOf, Name, Text};
+use virt_types::{Boxed, Bytes, ListOf, Name, Text};
 
 /// A value of which can be told whether another is the same.
 pub trait Same {
@@ -40,6 +40,12 @@ impl<T: Same> Same for Option<T> {
                 None => true,
             },
         }
+    }
+}
+
+impl<T: Same> Same for Boxed<T> {
+    fn same(&self, other: &Boxed<T>) -> bool {
+        self.as_ref().same(other.as_ref())
     }
 }
 

@@ -35,14 +35,8 @@ impl Same for DomainRequest {
                 DomainRequest::AttachDevice { xml: that_xml } => xml.same(that_xml),
                 _ => false,
             },
-            DomainRequest::Create => match other {
-                DomainRequest::Create => true,
-                _ => false,
-            },
-            DomainRequest::Destroy => match other {
-                DomainRequest::Destroy => true,
-                _ => false,
-            },
+            DomainRequest::Create => matches!(other, DomainRequest::Create),
+            DomainRequest::Destroy => matches!(other, DomainRequest::Destroy),
             DomainRequest::DetachDevice { xml } => match other {
                 DomainRequest::DetachDevice { xml: that_xml } => xml.same(that_xml),
                 _ => false,
@@ -51,22 +45,13 @@ impl Same for DomainRequest {
                 DomainRequest::GetXmlDesc { flags: that_flags } => flags.same(that_flags),
                 _ => false,
             },
-            DomainRequest::GetAutostart => match other {
-                DomainRequest::GetAutostart => true,
-                _ => false,
-            },
-            DomainRequest::GetInfo => match other {
-                DomainRequest::GetInfo => true,
-                _ => false,
-            },
+            DomainRequest::GetAutostart => matches!(other, DomainRequest::GetAutostart),
+            DomainRequest::GetInfo => matches!(other, DomainRequest::GetInfo),
             DomainRequest::Reboot { flags } => match other {
                 DomainRequest::Reboot { flags: that_flags } => flags.same(that_flags),
                 _ => false,
             },
-            DomainRequest::Resume => match other {
-                DomainRequest::Resume => true,
-                _ => false,
-            },
+            DomainRequest::Resume => matches!(other, DomainRequest::Resume),
             DomainRequest::SetAutostart { autostart } => match other {
                 DomainRequest::SetAutostart {
                     autostart: that_autostart,
@@ -83,18 +68,9 @@ impl Same for DomainRequest {
                 DomainRequest::SetVcpus { vcpus: that_vcpus } => vcpus.same(that_vcpus),
                 _ => false,
             },
-            DomainRequest::Shutdown => match other {
-                DomainRequest::Shutdown => true,
-                _ => false,
-            },
-            DomainRequest::Suspend => match other {
-                DomainRequest::Suspend => true,
-                _ => false,
-            },
-            DomainRequest::Undefine => match other {
-                DomainRequest::Undefine => true,
-                _ => false,
-            },
+            DomainRequest::Shutdown => matches!(other, DomainRequest::Shutdown),
+            DomainRequest::Suspend => matches!(other, DomainRequest::Suspend),
+            DomainRequest::Undefine => matches!(other, DomainRequest::Undefine),
             DomainRequest::CoreDump { to, flags } => match other {
                 DomainRequest::CoreDump {
                     to: that_to,
@@ -106,22 +82,13 @@ impl Same for DomainRequest {
                 DomainRequest::Save { to: that_to } => to.same(that_to),
                 _ => false,
             },
-            DomainRequest::JobInfo => match other {
-                DomainRequest::JobInfo => true,
-                _ => false,
-            },
-            DomainRequest::JobAbort => match other {
-                DomainRequest::JobAbort => true,
-                _ => false,
-            },
+            DomainRequest::JobInfo => matches!(other, DomainRequest::JobInfo),
+            DomainRequest::JobAbort => matches!(other, DomainRequest::JobAbort),
             DomainRequest::SnapCreate { xml } => match other {
                 DomainRequest::SnapCreate { xml: that_xml } => xml.same(that_xml),
                 _ => false,
             },
-            DomainRequest::SnapList => match other {
-                DomainRequest::SnapList => true,
-                _ => false,
-            },
+            DomainRequest::SnapList => matches!(other, DomainRequest::SnapList),
             DomainRequest::SnapParent { snapshot } => match other {
                 DomainRequest::SnapParent {
                     snapshot: that_snapshot,
@@ -147,22 +114,28 @@ impl Same for DomainRequest {
                 } => snapshot.same(that_snapshot),
                 _ => false,
             },
-            DomainRequest::EventRegister => match other {
-                DomainRequest::EventRegister => true,
-                _ => false,
-            },
-            DomainRequest::EventDeregister => match other {
-                DomainRequest::EventDeregister => true,
-                _ => false,
-            },
-            DomainRequest::MemoryStats => match other {
-                DomainRequest::MemoryStats => true,
-                _ => false,
-            },
+            DomainRequest::EventRegister => matches!(other, DomainRequest::EventRegister),
+            DomainRequest::EventDeregister => matches!(other, DomainRequest::EventDeregister),
+            DomainRequest::MemoryStats => matches!(other, DomainRequest::MemoryStats),
             DomainRequest::Kick { action } => match other {
                 DomainRequest::Kick {
                     action: that_action,
                 } => action.same(that_action),
+                _ => false,
+            },
+            DomainRequest::MigratePerform => matches!(other, DomainRequest::MigratePerform),
+            DomainRequest::MigrateConfirm { verdict } => match other {
+                DomainRequest::MigrateConfirm {
+                    verdict: that_verdict,
+                } => verdict.same(that_verdict),
+                _ => false,
+            },
+            DomainRequest::MigrateFinish { go } => match other {
+                DomainRequest::MigrateFinish { go: that_go } => go.same(that_go),
+                _ => false,
+            },
+            DomainRequest::MigrateLimit { rest } => match other {
+                DomainRequest::MigrateLimit { rest: that_rest } => rest.same(that_rest),
                 _ => false,
             },
         }
@@ -172,22 +145,10 @@ impl Same for DomainRequest {
 impl Same for PoolRequest {
     fn same(&self, other: &PoolRequest) -> bool {
         match self {
-            PoolRequest::Create => match other {
-                PoolRequest::Create => true,
-                _ => false,
-            },
-            PoolRequest::Destroy => match other {
-                PoolRequest::Destroy => true,
-                _ => false,
-            },
-            PoolRequest::Undefine => match other {
-                PoolRequest::Undefine => true,
-                _ => false,
-            },
-            PoolRequest::Xml => match other {
-                PoolRequest::Xml => true,
-                _ => false,
-            },
+            PoolRequest::Create => matches!(other, PoolRequest::Create),
+            PoolRequest::Destroy => matches!(other, PoolRequest::Destroy),
+            PoolRequest::Undefine => matches!(other, PoolRequest::Undefine),
+            PoolRequest::Xml => matches!(other, PoolRequest::Xml),
             PoolRequest::SetAutostart { autostart } => match other {
                 PoolRequest::SetAutostart {
                     autostart: that_autostart,
@@ -204,10 +165,7 @@ impl Same for PoolRequest {
                 } => volume.same(that_volume),
                 _ => false,
             },
-            PoolRequest::VolList => match other {
-                PoolRequest::VolList => true,
-                _ => false,
-            },
+            PoolRequest::VolList => matches!(other, PoolRequest::VolList),
             PoolRequest::VolXml { volume } => match other {
                 PoolRequest::VolXml {
                     volume: that_volume,
@@ -228,10 +186,7 @@ impl Same for Request {
                 } => name.same(that_name) && flags.same(that_flags),
                 _ => false,
             },
-            Request::ConnectClose => match other {
-                Request::ConnectClose => true,
-                _ => false,
-            },
+            Request::ConnectClose => matches!(other, Request::ConnectClose),
             Request::DomainCreateXml { xml, flags } => match other {
                 Request::DomainCreateXml {
                     xml: that_xml,
@@ -275,10 +230,8 @@ impl Same for Request {
                 Request::DomainRestore { from: that_from } => from.same(that_from),
                 _ => false,
             },
-            Request::ListAll => match other {
-                Request::ListAll => true,
-                _ => false,
-            },
+            Request::ListAll => matches!(other, Request::ListAll),
+            Request::Titles => matches!(other, Request::Titles),
             Request::PoolDefine { xml } => match other {
                 Request::PoolDefine { xml: that_xml } => xml.same(that_xml),
                 _ => false,
@@ -287,8 +240,17 @@ impl Same for Request {
                 Request::PoolLookup { name: that_name } => name.same(that_name),
                 _ => false,
             },
-            Request::PoolList => match other {
-                Request::PoolList => true,
+            Request::PoolList => matches!(other, Request::PoolList),
+            Request::MigratePrepare {
+                xml,
+                running,
+                state,
+            } => match other {
+                Request::MigratePrepare {
+                    xml: that_xml,
+                    running: that_running,
+                    state: that_state,
+                } => xml.same(that_xml) && running.same(that_running) && state.same(that_state),
                 _ => false,
             },
             Request::OnDomain { domain, request } => match other {

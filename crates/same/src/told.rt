@@ -39,32 +39,17 @@ impl Same for Note {
 impl Same for Query {
     fn same(&self, other: &Query) -> bool {
         match self {
-            Query::Reference => match other {
-                Query::Reference => true,
-                _ => false,
-            },
+            Query::Reference => matches!(other, Query::Reference),
             Query::Text { stored } => match other {
                 Query::Text {
                     stored: that_stored,
                 } => stored.same(that_stored),
                 _ => false,
             },
-            Query::Autostart => match other {
-                Query::Autostart => true,
-                _ => false,
-            },
-            Query::Info => match other {
-                Query::Info => true,
-                _ => false,
-            },
-            Query::JobInfo => match other {
-                Query::JobInfo => true,
-                _ => false,
-            },
-            Query::SnapNames => match other {
-                Query::SnapNames => true,
-                _ => false,
-            },
+            Query::Autostart => matches!(other, Query::Autostart),
+            Query::Info => matches!(other, Query::Info),
+            Query::JobInfo => matches!(other, Query::JobInfo),
+            Query::SnapNames => matches!(other, Query::SnapNames),
             Query::SnapParent(it) => match other {
                 Query::SnapParent(that) => it.same(that),
                 _ => false,

@@ -1,6 +1,9 @@
 // What calls are answered.
 use crate::parts::Same;
-use virt_types::{DomainRef, DomainRow, NetworkRef, PoolRef, PoolRow, Reply, Value};
+use virt_types::{
+    DomainRef, DomainRow, MigratedGuest, MigratedText, NetworkRef, PoolRef, PoolRow, Reply,
+    TitleRow, Value,
+};
 
 impl Same for DomainRef {
     fn same(&self, other: &DomainRef) -> bool {
@@ -29,6 +32,28 @@ impl Same for DomainRow {
 impl Same for PoolRow {
     fn same(&self, other: &PoolRow) -> bool {
         self.name.same(&other.name) && self.uuid.same(&other.uuid) && self.active == other.active
+    }
+}
+
+impl Same for TitleRow {
+    fn same(&self, other: &TitleRow) -> bool {
+        self.name.same(&other.name) && self.title.same(&other.title)
+    }
+}
+
+impl Same for MigratedGuest {
+    fn same(&self, other: &MigratedGuest) -> bool {
+        self.definition.same(&other.definition)
+            && self.running == other.running
+            && self.state.same(&other.state)
+    }
+}
+
+impl Same for MigratedText {
+    fn same(&self, other: &MigratedText) -> bool {
+        self.definition.same(&other.definition)
+            && self.running == other.running
+            && self.state.same(&other.state)
     }
 }
 
@@ -92,6 +117,14 @@ impl Same for Value {
                 Value::Leases(that) => it.same(that),
                 _ => false,
             },
+            Value::Titles(it) => match other {
+                Value::Titles(that) => it.same(that),
+                _ => false,
+            },
+            Value::MigratedText(it) => match other {
+                Value::MigratedText(that) => it.same(that),
+                _ => false,
+            },
             Value::Reference(it) => match other {
                 Value::Reference(that) => it.same(that),
                 _ => false,
@@ -106,6 +139,10 @@ impl Same for Value {
             },
             Value::Snapshot(it) => match other {
                 Value::Snapshot(that) => it.same(that),
+                _ => false,
+            },
+            Value::MigratedGuest(it) => match other {
+                Value::MigratedGuest(that) => it.same(that),
                 _ => false,
             },
         }

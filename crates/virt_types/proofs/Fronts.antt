@@ -1,5 +1,5 @@
 -- Laws of the order of fronts: of two fronts one is longer or they are equal, and longer than a longer one is longer.
-use Rattle.std.proofs.Common.{◌≡◌, ℕ, Bool, true, false, ◌⊎◌, ◌&&◌, ◌||◌, ◌==◌, nat_lt, refl, arith}
+use Rattle.std.proofs.Common.{◌≡◌, true, false, arith}
 use Rattle.virt_types.specs.Front.{is_longer, longer}
 use Rattle.virt_types.specs.declared.caller.Front.{Front}
 

@@ -1,5 +1,5 @@
 -- The order of places in a history.
-use Rattle.std.specs.Prelude.{◌≡◌, ℕ, Bool, true, ◌&&◌, ◌||◌, ◌==◌, nat_lt, if◌then◌else◌}
+use Rattle.std.specs.Prelude.{Bool, ◌&&◌, ◌||◌, ◌==◌, nat_lt, if◌then◌else◌}
 use Rattle.virt_types.specs.declared.caller.Front.{Front}
 
 -- a is longer than b: it stands in a later chapter, or after more marks of the same chapter

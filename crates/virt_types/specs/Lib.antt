@@ -1,5 +1,8 @@
+pub mod Drawn
 pub mod Front
+pub mod Limits
 pub mod Mac
+pub mod Memory
 pub mod Name
 pub mod Numbers
 pub mod Refusal

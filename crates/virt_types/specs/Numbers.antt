@@ -1,6 +1,8 @@
--- Numbers and words by which the wire and files tell states, operations, phases and images. The numbers of states
+-- Numbers and words by which the wire and files tell states, operations, jobs, phases and images. The numbers of states
 -- are libvirt's (virDomainState of libvirt-domain.h) and the words virsh's; the others are this project's own.
 use Rattle.std.specs.Prelude.{ℕ, List, codes, Option, Some, None}
+use Rattle.virt_types.specs.declared.answer.Job.{Job}
+use Rattle.virt_types.specs.declared.answer.Job.TheVariants as job
 use Rattle.virt_types.specs.declared.ask.ImageKind.{ImageKind}
 use Rattle.virt_types.specs.declared.ask.ImageKind.TheVariants as image
 use Rattle.virt_types.specs.declared.operation.OpKind.{OpKind}
@@ -32,6 +34,8 @@ op_number op.Dump = 3
 op_number op.Snapshot = 4
 op_number op.Restore = 5
 op_number op.Revert = 6
+op_number op.MigrateOut = 7
+op_number op.MigrateIn = 8
 
 -- the word for an operation's kind
 abbrev pub op_word : OpKind → List ℕ
@@ -41,6 +45,18 @@ op_word op.Dump = codes "dump"
 op_word op.Snapshot = codes "snapshot"
 op_word op.Restore = codes "restore"
 op_word op.Revert = codes "revert"
+op_word op.MigrateOut = codes "migrate-out"
+op_word op.MigrateIn = codes "migrate-in"
+
+-- the word for a normal job
+abbrev pub job_word : Job → List ℕ
+job_word job.Query = codes "query"
+job_word job.Destroy = codes "destroy"
+job_word job.Suspend = codes "suspend"
+job_word job.Modify = codes "modify"
+job_word job.Abort = codes "abort"
+job_word job.MigrationOp = codes "migration"
+job_word job.Nested = codes "nested"
 
 -- the number by which an operation that may be absent is told
 abbrev pub job_number : Option OpKind → ℕ
@@ -58,6 +74,15 @@ phase_number phase.Poll = 5
 phase_number phase.Take = 6
 phase_number phase.Quit = 7
 phase_number phase.Cancel = 8
+phase_number phase.MigrateCopy = 9
+phase_number phase.MigrateTake = 10
+phase_number phase.MigrateCancel = 11
+phase_number phase.MigrateLoad = 12
+phase_number phase.Resting = 13
+phase_number phase.MigrateQuit = 14
+phase_number phase.MigrateBack = 15
+phase_number phase.MigrateRun = 16
+phase_number phase.MigrateDrop = 17
 
 -- the number of an image's kind
 abbrev pub image_number : ImageKind → ℕ

@@ -1,4 +1,7 @@
 // What asks are answered, and the normal jobs under which calls make them.
+ghost use Rattle.std.specs.Prelude.{◌≡◌};
+ghost use Rattle.virt_types.specs.Numbers.{job_word};
+
 use crate::ask::Ask;
 use crate::bytes::Bytes;
 use crate::caller::{Front, Who};
@@ -83,6 +86,25 @@ pub enum Job {
     Modify,
     /// The operation under way is to be given up.
     Abort,
+    /// A migration is steered or taken up.
+    MigrationOp,
     /// A phase of the operation under way.
     Nested,
+}
+
+impl Job {
+    /// The word for it.
+    pub fn word(self) -> &'static str
+        ensures { result.now ≡ job_word self }
+    {
+        match self {
+            Job::Query => "query",
+            Job::Destroy => "destroy",
+            Job::Suspend => "suspend",
+            Job::Modify => "modify",
+            Job::Abort => "abort",
+            Job::MigrationOp => "migration",
+            Job::Nested => "nested",
+        }
+    }
 }

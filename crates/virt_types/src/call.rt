@@ -7,7 +7,8 @@ use crate::domain_def::DomainDef;
 use crate::memory::NoMemory;
 use crate::name::Name;
 
-/// A call on a domain's cell. The last seven begin an operation.
+/// A call on a domain's cell. The last nine begin an operation, and `Confirm` and `Finish` take up one
+/// that rests.
 #[derive(Drop)]
 pub enum Call {
     /// The guest is to stand still.
@@ -47,6 +48,12 @@ pub enum Call {
         /// Whether its children go with it. Else they take its parent.
         children: bool,
     },
+    /// How much of the copy may be left when a guest that goes to another host is stopped.
+    Limit(u64),
+    /// A guest that left goes on at the other host, or, where this is false, here.
+    Confirm(bool),
+    /// A guest that came from another host goes on here, or, where this is false, is given up.
+    Finish(bool),
     /// A guest is started of the stored definition.
     Start,
     /// A guest is started of this definition, in a vacant cell.
@@ -68,6 +75,17 @@ pub enum Call {
     Snapshot(SnapInfo),
     /// The snapshot of this name is gone back to.
     Revert(Name),
+    /// The guest is made ready to go on at another host, and rests.
+    Perform,
+    /// A guest of another host is made here, and rests.
+    Prepare {
+        /// The definition that the guest had there.
+        definition: DomainDef,
+        /// Whether the guest ran.
+        running: bool,
+        /// The state of the guest.
+        saved: Bytes,
+    },
 }
 
 impl TryCopy for Call {
@@ -92,6 +110,9 @@ impl TryCopy for Call {
                 name: name.copy()?,
                 children: *children,
             },
+            Call::Limit(it) => Call::Limit(*it),
+            Call::Confirm(it) => Call::Confirm(*it),
+            Call::Finish(it) => Call::Finish(*it),
             Call::Start => Call::Start,
             Call::Create(it) => Call::Create(it.copy()?),
             Call::Restore {
@@ -110,6 +131,19 @@ impl TryCopy for Call {
             Call::Dump(it) => Call::Dump(it.copy()?),
             Call::Snapshot(it) => Call::Snapshot(it.copy()?),
             Call::Revert(it) => Call::Revert(it.copy()?),
+            Call::Perform => Call::Perform,
+            Call::Prepare {
+                definition,
+                running,
+                saved,
+            } => {
+                let (definition, saved) = both(definition.copy(), saved.copy())?;
+                Call::Prepare {
+                    definition,
+                    running: *running,
+                    saved,
+                }
+            }
         })
     }
 }

@@ -1,5 +1,5 @@
 // Copies of values that hold collections, each equal to the value that it was made of.
-ghost use Rattle.std.specs.Prelude.{◌≡◌, IfOk, Ok};
+ghost use Rattle.std.specs.Prelude.{◌≡◌, ◌&&◌, IfOk, Ok, is_ok};
 
 use crate::memory::NoMemory;
 
@@ -33,7 +33,8 @@ pub fn both<A: Drop, B: Drop>(
     one: Result<A, NoMemory>,
     other: Result<B, NoMemory>,
 ) -> Result<(A, B), NoMemory>
-    ensures { IfOk result (λ pair. (one ≡ Ok pair.0) × (other ≡ Ok pair.1)) }
+    ensures values { IfOk result (λ pair. (one ≡ Ok pair.0) × (other ≡ Ok pair.1)) }
+    ensures both { is_ok result ≡ (is_ok one && is_ok other) }
 {
     match (one, other) {
         (Ok(one), Ok(other)) => Ok((one, other)),

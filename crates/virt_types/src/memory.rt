@@ -1,9 +1,19 @@
 // What a call answers besides its result: a fault of its input, want of memory, or a fault of the outside.
 use std::alloc::{AllocError, AllocFailed};
+use std::error::Error;
+use std::fmt;
 
 /// There was no memory for what was to be made. Whoever asks again later may get it.
 #[derive(Clone, Copy, Debug, PartialEq, Eq)]
 pub struct NoMemory;
+
+impl fmt::Display for NoMemory {
+    fn fmt<W: fmt::Write>(&self, f: &mut fmt::Formatter<W>) -> fmt::Result {
+        f.write_str("out of memory")
+    }
+}
+
+impl Error for NoMemory {}
 
 impl From<AllocError> for NoMemory {
     fn from(_error: AllocError) -> NoMemory {
@@ -22,6 +32,14 @@ impl<T: Drop> From<AllocFailed<T>> for NoMemory {
 #[derive(Clone, Copy, Debug, PartialEq, Eq)]
 pub struct Failed;
 
+impl fmt::Display for Failed {
+    fn fmt<W: fmt::Write>(&self, f: &mut fmt::Formatter<W>) -> fmt::Result {
+        f.write_str("the outside failed")
+    }
+}
+
+impl Error for Failed {}
+
 /// Why a call on the outside that takes memory gave nothing.
 #[derive(Clone, Copy, Debug, PartialEq, Eq)]
 pub enum Fault {
@@ -30,6 +48,17 @@ pub enum Fault {
     /// There was no memory.
     NoMemory,
 }
+
+impl fmt::Display for Fault {
+    fn fmt<W: fmt::Write>(&self, f: &mut fmt::Formatter<W>) -> fmt::Result {
+        match self {
+            Fault::Failed => Failed.fmt(f),
+            Fault::NoMemory => NoMemory.fmt(f),
+        }
+    }
+}
+
+impl Error for Fault {}
 
 impl From<Failed> for Fault {
     ghost use Rattle.std.specs.Prelude.{◌≡◌};
@@ -83,6 +112,17 @@ pub enum OrNoMemory<F> {
     /// There was no memory.
     NoMemory,
 }
+
+impl<F: fmt::Display> fmt::Display for OrNoMemory<F> {
+    fn fmt<W: fmt::Write>(&self, f: &mut fmt::Formatter<W>) -> fmt::Result {
+        match self {
+            OrNoMemory::Fault(fault) => fault.fmt(f),
+            OrNoMemory::NoMemory => NoMemory.fmt(f),
+        }
+    }
+}
+
+impl<F: Error> Error for OrNoMemory<F> {}
 
 impl<F: Drop> From<NoMemory> for OrNoMemory<F> {
     ghost use Rattle.std.specs.Prelude.{◌≡◌};

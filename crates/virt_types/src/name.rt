@@ -5,6 +5,8 @@ ghost use Rattle.virt_types.specs.Name.{IsName, IsRefused, bad_place, first_forb
 use crate::copy::TryCopy;
 use crate::memory::{NoMemory, OrNoMemory};
 use std::alloc::Global;
+use std::error::Error;
+use std::fmt;
 use std::marker::Model;
 
 /// A name: 1 to 128 bytes of UTF-8 with no `/`, no byte below 0x20 and no 0x7f, which is neither
@@ -33,6 +35,25 @@ pub struct BadName {
     /// sequence of UTF-8 that is its first byte. Where no byte is wrong, but the length or the
     /// whole, as of `..`, it is the length.
     pub at: u64,
+}
+
+impl fmt::Display for BadName {
+    fn fmt<W: fmt::Write>(&self, f: &mut fmt::Formatter<W>) -> fmt::Result {
+        write!(f, "no name, from byte {}", self.at)
+    }
+}
+
+impl Error for BadName {}
+
+impl From<BadName> for OrNoMemory<BadName> {
+    ghost use Rattle.std.specs.Prelude.{◌≡◌};
+    ghost use Rattle.virt_types.specs.declared.memory.OrNoMemory.TheVariants as or;
+
+    ghost from_gives = { λ bad e. e ≡ or.Fault bad };
+
+    fn from(bad: BadName) -> OrNoMemory<BadName> {
+        OrNoMemory::Fault(bad)
+    }
 }
 
 // The longest name, in bytes.

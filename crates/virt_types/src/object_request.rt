@@ -114,6 +114,23 @@ pub enum DomainRequest {
         /// What it does, 1 to 5.
         action: i32,
     },
+    /// `MIGRATE_PERFORM`, 50 of the second program.
+    MigratePerform,
+    /// `MIGRATE_CONFIRM`, 51 of the second program.
+    MigrateConfirm {
+        /// 1 where the guest goes on at the other host, 0 where it goes on here.
+        verdict: i32,
+    },
+    /// `MIGRATE_FINISH`, 53 of the second program.
+    MigrateFinish {
+        /// 1 where the guest goes on here, 0 where it is given up.
+        go: i32,
+    },
+    /// `MIGRATE_LIMIT`, 54 of the second program.
+    MigrateLimit {
+        /// How much of the copy may be left when the guest is stopped, 0 to 2^40.
+        rest: u64,
+    },
 }
 
 impl TryCopy for DomainRequest {
@@ -162,6 +179,12 @@ impl TryCopy for DomainRequest {
             DomainRequest::EventDeregister => DomainRequest::EventDeregister,
             DomainRequest::MemoryStats => DomainRequest::MemoryStats,
             DomainRequest::Kick { action } => DomainRequest::Kick { action: *action },
+            DomainRequest::MigratePerform => DomainRequest::MigratePerform,
+            DomainRequest::MigrateConfirm { verdict } => DomainRequest::MigrateConfirm {
+                verdict: *verdict,
+            },
+            DomainRequest::MigrateFinish { go } => DomainRequest::MigrateFinish { go: *go },
+            DomainRequest::MigrateLimit { rest } => DomainRequest::MigrateLimit { rest: *rest },
         })
     }
 }

@@ -25,15 +25,21 @@ pub enum OpKind {
     Restore = 5,
     /// A snapshot is gone back to.
     Revert = 6,
+    /// A guest goes to another host.
+    MigrateOut = 7,
+    /// A guest comes from another host.
+    MigrateIn = 8,
 }
 
-const KINDS: [OpKind; 6] = [
+const KINDS: [OpKind; 8] = [
     OpKind::Start,
     OpKind::Save,
     OpKind::Dump,
     OpKind::Snapshot,
     OpKind::Restore,
     OpKind::Revert,
+    OpKind::MigrateOut,
+    OpKind::MigrateIn,
 ];
 
 impl OpKind {
@@ -63,6 +69,8 @@ impl OpKind {
             OpKind::Snapshot => "snapshot",
             OpKind::Restore => "restore",
             OpKind::Revert => "revert",
+            OpKind::MigrateOut => "migrate-out",
+            OpKind::MigrateIn => "migrate-in",
         }
     }
 }
@@ -89,9 +97,27 @@ pub enum Phase {
     Quit = 7,
     /// The copying is given up.
     Cancel = 8,
+    /// `mcopy`: the copying of a guest that goes to another host is begun, while the guest goes on.
+    MigrateCopy = 9,
+    /// `mtake`: that guest is stopped, and what was copied is taken.
+    MigrateTake = 10,
+    /// `mcancel`: that copying is given up.
+    MigrateCancel = 11,
+    /// `mload`: the state of a guest that comes from another host is loaded.
+    MigrateLoad = 12,
+    /// `resting`: the operation rests until a call takes it up.
+    Resting = 13,
+    /// `mquit`: the guest goes on at the other host, and is ended here.
+    MigrateQuit = 14,
+    /// `mback`: the guest goes on here after all.
+    MigrateBack = 15,
+    /// `mrun`: a guest that came from another host goes on here.
+    MigrateRun = 16,
+    /// `mdrop`: a guest that came from another host is given up.
+    MigrateDrop = 17,
 }
 
-const PHASES: [Phase; 9] = [
+const PHASES: [Phase; 18] = [
     Phase::Nothing,
     Phase::Make,
     Phase::Run,
@@ -101,6 +127,15 @@ const PHASES: [Phase; 9] = [
     Phase::Take,
     Phase::Quit,
     Phase::Cancel,
+    Phase::MigrateCopy,
+    Phase::MigrateTake,
+    Phase::MigrateCancel,
+    Phase::MigrateLoad,
+    Phase::Resting,
+    Phase::MigrateQuit,
+    Phase::MigrateBack,
+    Phase::MigrateRun,
+    Phase::MigrateDrop,
 ];
 
 fn phase_numbered(number: u32) -> Option<Phase>
@@ -134,7 +169,7 @@ impl Phase {
 pub struct Op {
     /// What kind it is.
     pub kind: OpKind,
-    /// The call that began it.
+    /// The call that took it up last, else the one that began it.
     pub who: Who,
     /// The boot that it works on; none where it works on no guest.
     pub boot: Option<u64>,
@@ -152,6 +187,10 @@ pub struct Op {
     pub remaining: Option<u64>,
     /// The refusal that led to the step that gives up, and with which it then ends.
     pub refusal: Option<Refusal>,
+    /// How much of a copy may be left when a guest that goes to another host is stopped; 0 at first.
+    pub limit: u64,
+    /// Whether it rests: no call works on it until one takes it up.
+    pub rests: bool,
 }
 
 impl TryCopy for Op {
@@ -167,6 +206,8 @@ impl TryCopy for Op {
             still: self.still,
             remaining: self.remaining,
             refusal: self.refusal.copy()?,
+            limit: self.limit,
+            rests: self.rests,
         })
     }
 }

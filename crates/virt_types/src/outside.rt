@@ -1,14 +1,24 @@
 // The two smallest parts of the outside: words without a pattern, and a place to stop at.
+ghost use Rattle.std.specs.Prelude.{ℕ, List, ◌∷◌, []};
+ghost use Rattle.std.specs.declared.option.Option.{Option};
+ghost use Rattle.std.specs.Io.KnownBytes.{Appends, Keeps};
+ghost use Rattle.virt_types.specs.Drawn.{HasDrawnNone};
 
 /// A source of words without a pattern, for new identifiers and addresses.
 pub trait Random {
-    /// The next word.
-    fn word(&mut self) -> u64;
+    // The words drawn so far, in order, where the source tells them.
+    ghost drawn: { Self → Option (List ℕ) };
 
-    /// A source of words of its own, for another activity.
+    /// The next word.
+    fn word(&mut self) -> u64
+        ensures { Appends (drawn self.old) (drawn self.new) (result ∷ []) };
+
+    /// A source of its own, for another activity. It tells its words where this one does.
     fn another(&mut self) -> Self
     where
-        Self: Sized;
+        Self: Sized,
+        ensures fresh { HasDrawnNone (drawn self.old) (drawn result) }
+        ensures this { Keeps (drawn self.old) (drawn self.new) };
 }
 
 /// Where a session may be held up, as a test does it. The shipped gate does nothing.

@@ -5,9 +5,12 @@ ghost use Rattle.virt_types.specs.declared.refusal.RefusalCode.{RefusalCode as C
 ghost use Rattle.virt_types.specs.Refusal.{kept_cut, refusal_message, refusal_number};
 
 use crate::copy::TryCopy;
+use crate::limits::MOST_KEPT_BYTES;
 use crate::memory::NoMemory;
 use crate::text::Text;
 use std::alloc::Global;
+use std::error::Error;
+use std::fmt;
 
 /// Why a call was refused, with the code of its error. The codes below 100 are libvirt's
 /// (`virErrorNumber` of `virterror.h`), those from 201 on this project's own.
@@ -55,8 +58,6 @@ pub enum RefusalCode {
     TooManyWaiting = 203,
     /// The list is at its limit.
     ListFull = 204,
-    /// The chapter holds no more marks.
-    HistoryFull = 205,
     /// The procedure is in the tables and not built.
     NotBuilt = 206,
     /// The copying of the guest's state made no headway.
@@ -76,7 +77,7 @@ pub enum RefusalCode {
 }
 
 // Each reason, so that a number can be looked up.
-const CODES: [RefusalCode; 30] = [
+const CODES: [RefusalCode; 29] = [
     RefusalCode::NoMemory,
     RefusalCode::UnknownProcedure,
     RefusalCode::InvalidArgument,
@@ -98,7 +99,6 @@ const CODES: [RefusalCode; 30] = [
     RefusalCode::MonitorLost,
     RefusalCode::TooManyWaiting,
     RefusalCode::ListFull,
-    RefusalCode::HistoryFull,
     RefusalCode::NotBuilt,
     RefusalCode::Stalled,
     RefusalCode::SnapshotExists,
@@ -157,7 +157,6 @@ impl RefusalCode {
             RefusalCode::MonitorLost => "monitor lost",
             RefusalCode::TooManyWaiting => "too many waiting",
             RefusalCode::ListFull => "list full",
-            RefusalCode::HistoryFull => "history full",
             RefusalCode::NotBuilt => "not built",
             RefusalCode::Stalled => "stalled",
             RefusalCode::SnapshotExists => "snapshot exists",
@@ -170,14 +169,28 @@ impl RefusalCode {
     }
 }
 
+impl fmt::Display for RefusalCode {
+    fn fmt<W: fmt::Write>(&self, f: &mut fmt::Formatter<W>) -> fmt::Result {
+        f.write_str(self.message())
+    }
+}
+
 /// Why a call was not done.
-#[derive(Drop)]
+#[derive(Debug, Drop)]
 pub struct Refusal {
     /// The reason.
     pub code: RefusalCode,
     /// What it is about: a name, a number, a place. Empty where nothing is to be said.
     pub kept: Text,
 }
+
+impl fmt::Display for Refusal {
+    fn fmt<W: fmt::Write>(&self, f: &mut fmt::Formatter<W>) -> fmt::Result {
+        write!(f, "{}: {}", self.code, self.kept.as_str())
+    }
+}
+
+impl Error for Refusal {}
 
 impl TryCopy for Refusal {
     fn copy(&self) -> Result<Refusal, NoMemory> {
@@ -188,16 +201,13 @@ impl TryCopy for Refusal {
     }
 }
 
-// The most bytes that a refusal keeps of a text.
-const KEPT_MOST: usize = 1024;
-
 // How much of the text a refusal keeps.
 fn cut_place(text: &str) -> usize
     ensures place { result ≡ utf8_valid_len (take 1024 text.now) }
     ensures boundary { IsCharBoundary text.now result }
 {
     let bytes = text.as_bytes();
-    let front = &bytes[..KEPT_MOST.min(bytes.len())];
+    let front = &bytes[..MOST_KEPT_BYTES.min(bytes.len())];
     match str::from_utf8(front) {
         Ok(_) => front.len(),
         Err(fault) => fault.valid_up_to(),

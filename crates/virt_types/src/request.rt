@@ -1,4 +1,5 @@
 // Requests: what a session is asked, one variant for each procedure of the two programs' tables.
+use crate::bytes::Bytes;
 use crate::copy::{TryCopy, both};
 use crate::list::ListOf;
 use crate::memory::NoMemory;
@@ -75,6 +76,8 @@ pub enum Request {
     },
     /// `LIST_ALL`, 1 of the second program.
     ListAll,
+    /// `TITLES`, 16 of the second program.
+    Titles,
     /// `POOL_DEFINE`, 20 of the second program.
     PoolDefine {
         /// The definition's text.
@@ -87,6 +90,15 @@ pub enum Request {
     },
     /// `POOL_LIST`, 26 of the second program.
     PoolList,
+    /// `MIGRATE_PREPARE`, 52 of the second program.
+    MigratePrepare {
+        /// The definition's text.
+        xml: Text,
+        /// 1 where the guest ran on the host that it leaves, else 0.
+        running: i32,
+        /// The state of the guest.
+        state: Bytes,
+    },
     /// A procedure for one domain.
     OnDomain {
         /// The domain.
@@ -139,9 +151,22 @@ impl TryCopy for Request {
             },
             Request::DomainRestore { from } => Request::DomainRestore { from: from.copy()? },
             Request::ListAll => Request::ListAll,
+            Request::Titles => Request::Titles,
             Request::PoolDefine { xml } => Request::PoolDefine { xml: xml.copy()? },
             Request::PoolLookup { name } => Request::PoolLookup { name: name.copy()? },
             Request::PoolList => Request::PoolList,
+            Request::MigratePrepare {
+                xml,
+                running,
+                state,
+            } => {
+                let (xml, state) = both(xml.copy(), state.copy())?;
+                Request::MigratePrepare {
+                    xml,
+                    running: *running,
+                    state,
+                }
+            }
             Request::OnDomain { domain, request } => {
                 let (domain, request) = both(domain.copy(), request.copy())?;
                 Request::OnDomain { domain, request }

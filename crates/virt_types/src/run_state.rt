@@ -12,6 +12,8 @@ pub enum Cause {
     Job,
     /// It was made and has not run yet.
     Starting,
+    /// It is between two hosts: it left this one or came to it, and no call has said yet where it goes on.
+    Moved,
 }
 
 /// What a live guest does.
@@ -42,6 +44,8 @@ pub enum EndReason {
     Lost,
     /// A snapshot without a saved state took its place.
     FromSnapshot,
+    /// It went to another host.
+    Migrated,
 }
 
 /// The state of a domain as the wire tells it, with libvirt's numbers (`virDomainState` of

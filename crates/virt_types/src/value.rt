@@ -1,4 +1,6 @@
 // What is answered: values, replies and notes.
+use crate::boxed::Boxed;
+use crate::bytes::Bytes;
 use crate::copy::TryCopy;
 use crate::domain::{Live, Snap};
 use crate::domain_def::DomainDef;
@@ -87,6 +89,27 @@ impl TryCopy for LeaseRow {
 /// Leases in order.
 pub type LeaseRowList = ListOf<LeaseRow>;
 
+/// A domain and the title of its stored definition.
+#[derive(Drop)]
+pub struct TitleRow {
+    /// The domain's name.
+    pub name: Name,
+    /// The title, cut to the whole characters within its first 1,024 bytes; empty where it has none.
+    pub title: Text,
+}
+
+impl TryCopy for TitleRow {
+    fn copy(&self) -> Result<TitleRow, NoMemory> {
+        Ok(TitleRow {
+            name: self.name.copy()?,
+            title: self.title.copy()?,
+        })
+    }
+}
+
+/// Domains with their titles, in order.
+pub type TitleRowList = ListOf<TitleRow>;
+
 /// What a domain has (`remote_domain_get_info_ret`). The processor time is always told as 0.
 #[derive(Clone, Copy, Debug, PartialEq, Eq)]
 pub struct DomainInfo {
@@ -111,8 +134,51 @@ pub struct JobInfo {
     pub rest: u64,
 }
 
-/// What a call or a query that was done gives. The last four are what queries read of a domain's
-/// cell, of which the driver makes rows and texts; no reply on the wire has them.
+/// A guest that leaves for another host, as its cell gives it.
+#[derive(Drop)]
+pub struct MigratedGuest {
+    /// The definition that the guest had.
+    pub definition: DomainDef,
+    /// Whether the guest ran.
+    pub running: bool,
+    /// The state of the guest.
+    pub state: Bytes,
+}
+
+impl TryCopy for MigratedGuest {
+    fn copy(&self) -> Result<MigratedGuest, NoMemory> {
+        Ok(MigratedGuest {
+            definition: self.definition.copy()?,
+            running: self.running,
+            state: self.state.copy()?,
+        })
+    }
+}
+
+/// A guest that leaves for another host, as the reply has it.
+#[derive(Drop)]
+pub struct MigratedText {
+    /// The text of the definition that the guest had.
+    pub definition: Text,
+    /// Whether the guest ran.
+    pub running: bool,
+    /// The state of the guest.
+    pub state: Bytes,
+}
+
+impl TryCopy for MigratedText {
+    fn copy(&self) -> Result<MigratedText, NoMemory> {
+        Ok(MigratedText {
+            definition: self.definition.copy()?,
+            running: self.running,
+            state: self.state.copy()?,
+        })
+    }
+}
+
+/// What a call or a query that was done gives. The last five are what calls and queries read of a
+/// domain's cell, of which the driver makes rows and texts; no reply on the wire has them. What is
+/// large is boxed, so that a value takes 64 bytes.
 #[derive(Drop)]
 pub enum Value {
     /// Nothing to be told.
@@ -145,14 +211,20 @@ pub enum Value {
     Memory(u64),
     /// The leases of a network, by rising address.
     Leases(LeaseRowList),
+    /// All domains with their titles, by rising name.
+    Titles(TitleRowList),
+    /// A guest that leaves for another host.
+    MigratedText(MigratedText),
     /// How the wire refers to a domain, and its state.
     Reference(DomainRow),
     /// A definition.
-    Definition(DomainDef),
+    Definition(Boxed<DomainDef>),
     /// The live part of a domain.
-    Live(Live),
+    Live(Boxed<Live>),
     /// A snapshot.
-    Snapshot(Snap),
+    Snapshot(Boxed<Snap>),
+    /// A guest that leaves for another host.
+    MigratedGuest(Boxed<MigratedGuest>),
 }
 
 impl TryCopy for Value {
@@ -173,10 +245,13 @@ impl TryCopy for Value {
             Value::Parent(it) => Value::Parent(it.copy()?),
             Value::Memory(it) => Value::Memory(*it),
             Value::Leases(it) => Value::Leases(it.copy()?),
+            Value::Titles(it) => Value::Titles(it.copy()?),
+            Value::MigratedText(it) => Value::MigratedText(it.copy()?),
             Value::Reference(it) => Value::Reference(it.copy()?),
             Value::Definition(it) => Value::Definition(it.copy()?),
             Value::Live(it) => Value::Live(it.copy()?),
             Value::Snapshot(it) => Value::Snapshot(it.copy()?),
+            Value::MigratedGuest(it) => Value::MigratedGuest(it.copy()?),
         })
     }
 }

@@ -1,4 +1,4 @@
-use Rattle.std.proofs.Common.{◌∙◌, arith}
+use Rattle.std.proofs.Common.{arith}
 use Rattle.virt_types.specs.Refusal.{kept_cut}
 use Rattle.virt_types.proofs.refusal.Refusal.new.Goals as goal
 

@@ -1,0 +1,52 @@
+// A large value in a place of its own, so that the enum that holds it stays small.
+ghost use Rattle.std.specs.Prelude.{◌≡◌, IfOk};
+
+use crate::copy::TryCopy;
+use crate::memory::NoMemory;
+use std::alloc::Global;
+use std::marker::Model;
+
+/// A value in a box of its own, which contracts see as the value.
+#[derive(Drop)]
+pub struct Boxed<T> {
+    value: Box<T>,
+}
+
+impl<T> Model for Boxed<T> {
+    ghost Value = { T };
+
+    ghost view = { λ b. b.value.value };
+}
+
+impl<T> Boxed<T> {
+    /// The value, in a box.
+    pub fn new(alloc: Global, value: T) -> Result<Boxed<T>, NoMemory>
+    where
+        T: Drop,
+        ensures { IfOk result (λ boxed. boxed ≡ value) }
+    {
+        Ok(Boxed {
+            value: Box::new(alloc, value)?,
+        })
+    }
+
+    /// The value without its box.
+    pub fn into_inner(self) -> T
+        ensures { result ≡ self }
+    {
+        Box::into_inner(self.value)
+    }
+
+    /// The value.
+    pub fn as_ref(&self) -> &T
+        ensures { result.now ≡ self.now }
+    {
+        &self.value
+    }
+}
+
+impl<T: TryCopy + Drop> TryCopy for Boxed<T> {
+    fn copy(&self) -> Result<Boxed<T>, NoMemory> {
+        Boxed::new(*Box::allocator(&self.value), self.value.copy()?)
+    }
+}
