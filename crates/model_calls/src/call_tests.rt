@@ -1,12 +1,15 @@
 // The tests of each call, in their order.
-ghost use Rattle.std.specs.Prelude.{◌≡◌, ◌∷◌, [], IfOk, false, is_some, true};
+ghost use Rattle.std.specs.Prelude.{◌≡◌, ◌∷◌, ◌^◌, [], IfOk, false, is_some, not, true};
+ghost use Rattle.domain_spec.specs.Migrating.{can_limit};
 ghost use Rattle.domain_spec.specs.Refusals.{invalid, no_domain, snapshot_exists};
-ghost use Rattle.domain_spec.specs.Tests.{absent, active, bad_number, can_abort, crashed, fails_if, first_refusal, has_free_slot, has_key, has_snapshots, held_tests, inactive, is_abortable, key_absent, key_there, live_memory, live_tests, live_vcpus, name_there, no_free_slot, none_stored, operation_tests, outside, refusal_of, reverts_to_new_boot, snapshots_full, spent, spent_at_revert, state_kept, tests_of};
+ghost use Rattle.domain_spec.specs.Tests.{absent, active, bad_number, can_abort, crashed, fails_if, first_refusal, has_free_slot, has_key, has_snapshots, held_tests, inactive, is_abortable, key_absent, key_there, live_memory, live_tests, live_vcpus, moved, name_there, no_free_slot, none_resting, none_stored, operation_tests, outside, plain_tests, refusal_of, reverts_to_new_boot, snapshots_full, spent, spent_at_revert, state_kept, tests_of};
 
 use domain_spec::Test;
 use model_domain::devices::{device_like, free_slot, key_of};
+use model_domain::jobs::operation_begun;
 use model_domain::lists::{led_by, pair, single};
-use model_domain::reading::has_crashed;
+use model_domain::migrating::{can_limit, rests_as};
+use model_domain::reading::{has_crashed, has_moved};
 use model_domain::refusals::{
     bad_kick, boots_spent, invalid, list_full, no_device, no_domain, no_slot, no_snapshot,
     out_of_range, snapshot_exists,
@@ -141,7 +144,10 @@ fn has_free_slot(live: &Option<Live>) -> bool
 fn is_abortable(kind: OpKind) -> bool
     ensures { result ≡ is_abortable kind }
 {
-    matches!(kind, OpKind::Save | OpKind::Dump | OpKind::Snapshot)
+    matches!(
+        kind,
+        OpKind::Save | OpKind::Dump | OpKind::Snapshot | OpKind::MigrateOut
+    )
 }
 
 fn can_abort(op: &Option<Op>) -> bool
@@ -149,8 +155,26 @@ fn can_abort(op: &Option<Op>) -> bool
 {
     match op {
         None => false,
-        Some(op) => is_abortable(op.kind),
+        Some(op) => is_abortable(op.kind) && !op.rests,
     }
+}
+
+fn none_resting(alloc: Global, domain: &Domain, kind: OpKind) -> Result<Test, NoMemory>
+    ensures { IfOk result (λ test. test ≡ none_resting domain.now kind) }
+{
+    Ok(Test {
+        fails: !rests_as(kind, &domain.op),
+        refusal: invalid(alloc, &domain.live)?,
+    })
+}
+
+fn moved(alloc: Global, domain: &Domain) -> Result<Test, NoMemory>
+    ensures { IfOk result (λ test. test ≡ moved domain.now) }
+{
+    Ok(Test {
+        fails: has_moved(&domain.live),
+        refusal: invalid(alloc, &domain.live)?,
+    })
 }
 
 fn absent(alloc: Global, domain: &Domain, name: &Name) -> Result<Test, NoMemory>
@@ -323,6 +347,27 @@ fn kick_tests(alloc: Global, domain: &Domain, n: i32) -> Result<TestList, NoMemo
     pair(alloc, bad_number(alloc, n)?, inactive(alloc, domain)?)
 }
 
+fn suspend_tests(alloc: Global, domain: &Domain) -> Result<TestList, NoMemory>
+    ensures { IfOk result (λ tests. tests ≡ inactive domain.now ∷ crashed domain.now ∷ moved domain.now ∷ []) }
+{
+    let rest = pair(alloc, crashed(alloc, domain)?, moved(alloc, domain)?)?;
+    led_by(inactive(alloc, domain)?, rest)
+}
+
+// The greatest limit of a migration, in KiB.
+const MOST_LEFT: u64 = 1 << 40;
+
+fn limit_tests(alloc: Global, domain: &Domain, rest: u64) -> Result<TestList, NoMemory>
+    ensures { IfOk result (λ tests. tests ≡ inactive domain.now ∷ fails_if (not (can_limit domain.now.op)) (invalid domain.now.live) ∷ outside rest 0 (2 ^ 40) ∷ []) }
+{
+    let no_migration = Test {
+        fails: !can_limit(&domain.op),
+        refusal: invalid(alloc, &domain.live)?,
+    };
+    let others = pair(alloc, no_migration, outside(alloc, rest, 0, MOST_LEFT)?)?;
+    led_by(inactive(alloc, domain)?, others)
+}
+
 fn live_tests(alloc: Global, domain: &Domain, call: &Call) -> Result<TestList, NoMemory>
     ensures { IfOk result (λ tests. tests ≡ live_tests domain.now call.now) }
 {
@@ -337,6 +382,8 @@ fn live_tests(alloc: Global, domain: &Domain, call: &Call) -> Result<TestList, N
         Call::Detach(old) => detach_tests(alloc, domain, old),
         Call::Kick(n) => kick_tests(alloc, domain, *n),
         Call::Reboot | Call::MemoryStats => inactive_alone(alloc, domain),
+        Call::Suspend => suspend_tests(alloc, domain),
+        Call::Limit(rest) => limit_tests(alloc, domain, *rest),
         _ => inactive_or_crashed(alloc, domain),
     }
 }
@@ -373,7 +420,7 @@ fn operation_tests(alloc: Global, domain: &Domain, call: &Call) -> Result<TestLi
 {
     match call {
         Call::Create(_) => invalid_if(alloc, domain, true),
-        Call::Save(_) => inactive_or_crashed(alloc, domain),
+        Call::Save(_) | Call::Perform => inactive_or_crashed(alloc, domain),
         Call::Dump(_) => inactive_alone(alloc, domain),
         Call::Snapshot(info) => snapshot_tests(alloc, domain, &info.name),
         Call::Revert(name) => revert_tests(alloc, domain, name),
@@ -403,13 +450,19 @@ fn deletion_tests(alloc: Global, domain: &Domain, name: &Name) -> Result<TestLis
     single(alloc, absent(alloc, domain, name)?)
 }
 
-fn held_tests(
+fn resting_tests(alloc: Global, domain: &Domain, kind: OpKind) -> Result<TestList, NoMemory>
+    ensures { IfOk result (λ tests. tests ≡ none_resting domain.now kind ∷ []) }
+{
+    single(alloc, none_resting(alloc, domain, kind)?)
+}
+
+fn plain_tests(
     alloc: Global,
     domain: &Domain,
     boot: Option<u64>,
     call: &Call,
 ) -> Result<TestList, NoMemory>
-    ensures { IfOk result (λ tests. tests ≡ held_tests domain.now boot call.now) }
+    ensures { IfOk result (λ tests. tests ≡ plain_tests domain.now boot call.now) }
 {
     match call {
         Call::Define(_) => Ok(ListOf::new(alloc)),
@@ -418,14 +471,24 @@ fn held_tests(
         Call::SetAutostart(_) => stored_tests(alloc, domain),
         Call::Abort => invalid_if(alloc, domain, !can_abort(&domain.op)),
         Call::SnapDelete { name, .. } => deletion_tests(alloc, domain, name),
-        Call::Start
-        | Call::Create(_)
-        | Call::Restore { .. }
-        | Call::Save(_)
-        | Call::Dump(_)
-        | Call::Snapshot(_)
-        | Call::Revert(_) => operation_tests(alloc, domain, call),
+        Call::Confirm(_) => resting_tests(alloc, domain, OpKind::MigrateOut),
+        Call::Finish(_) => resting_tests(alloc, domain, OpKind::MigrateIn),
         _ => live_tests(alloc, domain, call),
+    }
+}
+
+fn held_tests(
+    alloc: Global,
+    domain: &Domain,
+    boot: Option<u64>,
+    call: &Call,
+) -> Result<TestList, NoMemory>
+    ensures { IfOk result (λ tests. tests ≡ held_tests domain.now boot call.now) }
+{
+    if operation_begun(call).is_some() {
+        operation_tests(alloc, domain, call)
+    } else {
+        plain_tests(alloc, domain, boot, call)
     }
 }
 
@@ -459,7 +522,9 @@ fn tests_of(
         State::Held(domain) => held_tests(alloc, domain, boot, call),
         State::Vacant { boots } => match call {
             Call::Define(_) => Ok(ListOf::new(alloc)),
-            Call::Create(_) | Call::Restore { .. } => spent_alone(alloc, *boots),
+            Call::Create(_) | Call::Restore { .. } | Call::Prepare { .. } => {
+                spent_alone(alloc, *boots)
+            }
             _ => none_there(alloc),
         },
     }

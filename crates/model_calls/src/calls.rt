@@ -1,8 +1,9 @@
 // A whole call at one place of a history, with all its answers given at once.
 ghost use Rattle.std.specs.Prelude.{◌≡◌, IfOk};
 ghost use Rattle.std.specs.Prelude.{[]};
+ghost use Rattle.domain_spec.specs.Asks.{first_bad};
 ghost use Rattle.domain_spec.specs.CallResult.{done};
-ghost use Rattle.domain_spec.specs.Sequential.{answered, asked, ended_step, goes_on_as_operation, makes_asks, meets_ended, seq, still_asked, tested_step};
+ghost use Rattle.domain_spec.specs.Sequential.{answered_step, asked, ended_step, goes_on_as_operation, makes_asks, meets_ended, seq, still_asked, tested_step};
 
 use crate::call_tests::refusal_of;
 use crate::plans::plan_of;
@@ -16,13 +17,13 @@ use model_domain::refusals::{failure_of, guest_ended};
 use std::alloc::Global;
 use virt_types::{Answer, AskList, Call, ListOf, NoMemory, Refusal, State, TryCopy};
 
-fn answered(
+fn answered_step(
     alloc: Global,
     state: &State,
     call: &Call,
     answers: &[Answer],
 ) -> Result<CallStep, NoMemory>
-    ensures { IfOk result (λ step. step ≡ answered state.now call.now answers.now) }
+    ensures { IfOk result (λ step. step ≡ answered_step state.now call.now answers.now (first_bad answers.now)) }
 {
     match first_bad(answers)? {
         None => step_of(alloc, state, call, answers),
@@ -40,7 +41,7 @@ fn tested_step(
     ensures { IfOk result (λ step. step ≡ tested_step state.now call.now answers.now refusal) }
 {
     match refusal {
-        None => answered(alloc, state, call, answers),
+        None => answered_step(alloc, state, call, answers),
         Some(refusal) => refused(alloc, state, refusal),
     }
 }

@@ -1,7 +1,7 @@
 // What a call leaves whose tests passed and whose answers are all Ok.
-ghost use Rattle.std.specs.Prelude.{◌≡◌, [], IfOk, if◌then◌else◌, replicate, unwrap_or};
+ghost use Rattle.std.specs.Prelude.{◌≡◌, [], IfOk, if◌then◌else◌, option_map, replicate, unwrap_or};
 ghost use Rattle.domain_spec.specs.Asks.{first_value};
-ghost use Rattle.domain_spec.specs.CallResult.{abort_asked, aborting, attached, autostart_set, defined, destroyed, detached, done, guest_step, held_step, live_step, memory_step, new_domain, rebooted, refused, resumed, snapshot_deleted, step_of, suspended, undefined, with_live, with_memory, with_vcpus};
+ghost use Rattle.domain_spec.specs.CallResult.{abort_asked, aborting, attached, autostart_set, defined, destroyed, detached, done, guest_step, held_step, limit_set, live_step, memory_step, new_domain, rebooted, refused, resumed, snapshot_deleted, step_of, suspended, undefined, with_limit, with_live, with_memory, with_vcpus};
 ghost use Rattle.domain_spec.specs.Devices.{device_like, free_slot};
 ghost use Rattle.domain_spec.specs.Reading.{is_crashed, with_run};
 ghost use Rattle.domain_spec.specs.Types.run;
@@ -12,7 +12,7 @@ use model_domain::answers::first_value;
 use model_domain::devices::{device_like, free_slot, with_device, without_slot};
 use model_domain::lists::single;
 use model_domain::reading::{
-    ended, is_crashed, is_paused, is_running, reference_of, settled, with_live, with_operation,
+    ended, is_crashed, is_paused, is_running, reference_of, unless_gone, with_live, with_operation,
     with_run,
 };
 use model_domain::refusals::failed;
@@ -313,7 +313,7 @@ fn undefined(alloc: Global, domain: &Domain) -> Result<CallStep, NoMemory>
     let mut next = domain.copy()?;
     next.stored = None;
     next.autostart = false;
-    Ok(done(settled(next), single(alloc, UNDEFINED_REMOVED)?))
+    Ok(done(unless_gone(next), single(alloc, UNDEFINED_REMOVED)?))
 }
 
 fn autostart_set(alloc: Global, domain: &Domain, on: bool) -> Result<CallStep, NoMemory>
@@ -328,6 +328,26 @@ fn abort_asked(alloc: Global, domain: &Domain) -> Result<CallStep, NoMemory>
     ensures { IfOk result (λ step. step ≡ abort_asked domain.now) }
 {
     let next = with_operation(domain, aborting(&domain.op)?)?;
+    Ok(done_quietly(alloc, State::Held(next)))
+}
+
+fn with_limit(op: &Option<Op>, rest: u64) -> Result<Option<Op>, NoMemory>
+    ensures { IfOk result (λ next. next ≡ option_map (with_limit rest) op.now) }
+{
+    match op {
+        None => Ok(None),
+        Some(op) => {
+            let mut next = op.copy()?;
+            next.limit = rest;
+            Ok(Some(next))
+        }
+    }
+}
+
+fn limit_set(alloc: Global, domain: &Domain, rest: u64) -> Result<CallStep, NoMemory>
+    ensures { IfOk result (λ step. step ≡ limit_set domain.now rest) }
+{
+    let next = with_operation(domain, with_limit(&domain.op, rest)?)?;
     Ok(done_quietly(alloc, State::Held(next)))
 }
 
@@ -361,6 +381,7 @@ fn held_step(
         Call::Undefine => undefined(alloc, domain),
         Call::SetAutostart(on) => autostart_set(alloc, domain, *on),
         Call::Abort => abort_asked(alloc, domain),
+        Call::Limit(rest) => limit_set(alloc, domain, *rest),
         Call::SnapDelete { name, children } => snapshot_deleted(alloc, domain, name, *children),
         _ => guest_step(alloc, domain, call, answers),
     }

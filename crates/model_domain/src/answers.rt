@@ -1,7 +1,7 @@
 // What answers say of the asks that they answer.
 ghost use Rattle.std.specs.Prelude.{◌≡◌, IfOk, Option, not, position};
 ghost use Rattle.std.specs.List.{list_any};
-ghost use Rattle.domain_spec.specs.Asks.{bad_place, first_bad, first_value, is_ended_answer, is_lost_answer, is_ok_answer, is_undone, value_of};
+ghost use Rattle.domain_spec.specs.Asks.{bad_place, first_bad, first_value, is_ended_answer, is_lost_answer, is_ok_answer, is_undone, last_value, value_of};
 
 use virt_types::{Answer, AnswerValue, NoMemory, TryCopy};
 
@@ -89,5 +89,16 @@ pub fn first_value(answers: &[Answer]) -> Result<Option<AnswerValue>, NoMemory>
     match answers {
         [] => Ok(None),
         [first, ..] => value_of(first),
+    }
+}
+
+/// The value that the last ask was answered.
+pub fn last_value(answers: &[Answer]) -> Result<Option<AnswerValue>, NoMemory>
+    ensures { IfOk result (λ value. value ≡ last_value answers.now) }
+{
+    match answers {
+        [] => Ok(None),
+        [last] => value_of(last),
+        [_first, rest @ ..] => last_value(rest),
     }
 }

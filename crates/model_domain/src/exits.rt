@@ -1,12 +1,12 @@
 // The end of a boot, and what a guest does by itself.
 ghost use Rattle.std.specs.Prelude.{◌≡◌, IfOk};
-ghost use Rattle.domain_spec.specs.Exit.{event_held, event_live, event_state, event_told, event_transitions, exit_event, exit_held, exit_state, exit_transitions, run_if, told_in};
+ghost use Rattle.domain_spec.specs.Exit.{can_resume, event_held, event_live, event_state, event_told, event_transitions, exit_event, exit_held, exit_state, exit_transitions, run_if, told_in};
 ghost use Rattle.domain_spec.specs.Types.guest;
 ghost use Rattle.domain_spec.specs.Types.state;
 
 use crate::devices::without_slot;
 use crate::lists::single;
-use crate::reading::{ended, is_crashed, is_paused, is_running, with_live, with_run};
+use crate::reading::{ended, is_crashed, is_moved, is_paused, is_running, with_live, with_run};
 use crate::told::{Told, tell_listeners};
 use std::alloc::Global;
 use virt_types::{
@@ -62,6 +62,12 @@ fn run_if(domain: &Domain, live: &Live, wanted: bool, run: RunState) -> Result<S
     }
 }
 
+fn can_resume(run: RunState) -> bool
+    ensures { result ≡ can_resume run }
+{
+    is_paused(run) && !is_moved(run)
+}
+
 fn device_deleted(domain: &Domain, live: &Live, slot: u32) -> Result<State, NoMemory>
     ensures { IfOk result (λ next. next ≡ event_live domain.now live.now (guest.DeviceDeleted slot)) }
 {
@@ -84,7 +90,7 @@ fn event_live(domain: &Domain, live: &Live, event: GuestEvent) -> Result<State, 
             is_running(live.run),
             RunState::Paused(Cause::User),
         ),
-        GuestEvent::Resume => run_if(domain, live, is_paused(live.run), RunState::Running),
+        GuestEvent::Resume => run_if(domain, live, can_resume(live.run), RunState::Running),
         GuestEvent::Panic => run_if(domain, live, true, RunState::Crashed),
         GuestEvent::DeviceDeleted(slot) => device_deleted(domain, live, slot),
         _ => as_before(domain),
@@ -116,7 +122,7 @@ fn event_told(alloc: Global, live: &Live, event: GuestEvent) -> Result<Told, NoM
     match event {
         GuestEvent::Shutdown => single(alloc, SHUTDOWN_FINISHED),
         GuestEvent::Stop => tell_listeners(alloc, is_running(live.run), SUSPENDED_PAUSED),
-        GuestEvent::Resume => tell_listeners(alloc, is_paused(live.run), RESUMED_UNPAUSED),
+        GuestEvent::Resume => tell_listeners(alloc, can_resume(live.run), RESUMED_UNPAUSED),
         GuestEvent::Panic => tell_listeners(alloc, !is_crashed(live.run), CRASHED_PANICKED),
         _ => Ok(ListOf::new(alloc)),
     }

@@ -1,7 +1,7 @@
 // What is read of a domain's cell.
 ghost use Rattle.std.specs.Prelude.{◌≡◌, IfOk, Some};
 ghost use Rattle.domain_spec.specs.CallResult.{ended, with_live};
-ghost use Rattle.domain_spec.specs.Reading.{boot_in, boots_of, carries_ended, has_crashed, id_of, is_boot_in, is_crashed, is_held_by_job, is_live, is_paused, is_running, live_boot, reference_of, settled, state_in, state_running, with_run};
+ghost use Rattle.domain_spec.specs.Reading.{boot_in, boots_of, carries_ended, has_crashed, has_moved, id_of, is_boot_in, is_crashed, is_held_by_job, is_live, is_moved, is_paused, is_running, live_boot, reference_of, unless_gone, state_in, state_running, with_run};
 
 use virt_types::{
     Cause, Domain, DomainRef, DomainState, EndReason, Live, NoMemory, Op, RunState, State, TryCopy,
@@ -67,8 +67,8 @@ pub fn carries_ended(state: &State, boot: Option<u64>) -> bool
 }
 
 /// A cell with this domain; vacant where the domain has neither a live nor a stored definition.
-pub fn settled(domain: Domain) -> State
-    ensures { result ≡ settled domain }
+pub fn unless_gone(domain: Domain) -> State
+    ensures { result ≡ unless_gone domain }
 {
     if domain.live.is_none() && domain.stored.is_none() {
         State::Vacant {
@@ -114,6 +114,23 @@ pub fn has_crashed(live: &Option<Live>) -> bool
     match live {
         None => false,
         Some(live) => is_crashed(live.run),
+    }
+}
+
+/// Whether a guest stands still between two hosts.
+pub fn is_moved(run: RunState) -> bool
+    ensures { result ≡ is_moved run }
+{
+    matches!(run, RunState::Paused(Cause::Moved))
+}
+
+/// Whether there is a guest, between two hosts.
+pub fn has_moved(live: &Option<Live>) -> bool
+    ensures { result ≡ has_moved live.now }
+{
+    match live {
+        None => false,
+        Some(live) => is_moved(live.run),
     }
 }
 
@@ -206,5 +223,5 @@ pub fn ended(domain: &Domain, live: &Live, why: EndReason) -> Result<State, NoMe
     let mut next = domain.copy()?;
     next.live = None;
     next.last = Some((live.boot, why));
-    Ok(settled(next))
+    Ok(unless_gone(next))
 }

@@ -3,10 +3,12 @@ ghost use Rattle.std.specs.Prelude.{◌≡◌, ◌↔◌, IsTrue, IfOk, [], Some
 ghost use Rattle.domain_spec.specs.declared.step.Outcome.TheVariants as outcome;
 ghost use Rattle.domain_spec.specs.Lawful.{AreUnsent, EndedFirst, IsDone, IsDoneAs, IsStarted, IsUnsent, IsUnsentUntilMade, UnsentBefore, WerePlanned, planned_in};
 ghost use Rattle.domain_spec.specs.Sequential as call;
+ghost use Rattle.domain_spec.specs.TakeUp.{step_at};
 
 use crate::jobs::is_open;
+use crate::take_up::{step_at, takes_it_up};
 use domain_spec::{OpenOperation, Outcome, Standing};
-use model_calls::{asked, goes_on_as_operation, meets_ended, seq, still_asked};
+use model_calls::{asked, goes_on_as_operation, meets_ended, still_asked};
 use model_domain::answers::has_ended;
 use same::Same;
 use std::alloc::Global;
@@ -98,14 +100,7 @@ fn unsent_of_boots(made: u64, boot: u64, phase: Phase, asks: &AskList, answers: 
 {
     match phase {
         Phase::Make => made != boot || are_unsent(asks.as_slice(), answers.as_slice()),
-        Phase::Nothing
-        | Phase::Run
-        | Phase::Load
-        | Phase::Copy
-        | Phase::Poll
-        | Phase::Take
-        | Phase::Quit
-        | Phase::Cancel => true,
+        _ => true,
     }
 }
 
@@ -124,7 +119,7 @@ fn unsent_before(
             None => true,
             Some(boot) => match outcome {
                 Outcome::On(phase) => unsent_of_boots(made, boot, *phase, asks, answers),
-                Outcome::Over(_) => true,
+                Outcome::Over(_) | Outcome::Rest(_) => true,
             },
         },
     }
@@ -152,10 +147,10 @@ fn is_through(alloc: Global, state: &State, mark: &DoneMark<'_>) -> Result<bool,
 }
 
 // Whether the driver leaves this reply and these transitions.
-fn leaves(alloc: Global, state: &State, mark: &DoneMark<'_>) -> Result<bool, NoMemory>
-    ensures { IfOk result (λ it. IsTrue it ↔ ((mark.now.reply.now ≡ (call.seq state.now mark.now.call.now mark.now.boot mark.now.answers.now).reply) × (mark.now.transitions.now ≡ (call.seq state.now mark.now.call.now mark.now.boot mark.now.answers.now).transitions))) }
+fn leaves(alloc: Global, s: &Standing, mark: &DoneMark<'_>) -> Result<bool, NoMemory>
+    ensures { IfOk result (λ it. IsTrue it ↔ ((mark.now.reply.now ≡ (step_at s.now mark.now.call.now mark.now.boot mark.now.answers.now).reply) × (mark.now.transitions.now ≡ (step_at s.now mark.now.call.now mark.now.boot mark.now.answers.now).transitions))) }
 {
-    let step = seq(alloc, state, mark.call, mark.boot, mark.answers.as_slice())?;
+    let step = step_at(alloc, s, mark.call, mark.boot, mark.answers.as_slice())?;
     Ok(mark.reply.same(&step.reply) && mark.transitions.same(&step.transitions))
 }
 
@@ -170,10 +165,11 @@ fn is_done_as(
     let planned = were_asked(alloc, &s.state, before, mark)?;
     let through = is_through(alloc, &s.state, mark)?;
     let begins = goes_on_as_operation(alloc, &s.state, mark.call, mark.boot)?;
-    let left = leaves(alloc, &s.state, mark)?;
+    let taken = takes_it_up(s, mark.call, mark.boot);
+    let left = leaves(alloc, s, mark)?;
     let ended = ended_first(meets_ended(&s.state, mark.call, mark.boot), mark.answers);
     let unsent = is_unsent_until_made(&s.operation, mark.boot, mark.asks, mark.answers);
-    Ok(planned && through && !begins && ended && unsent && left)
+    Ok(planned && through && !begins && !taken && ended && unsent && left)
 }
 
 /// Whether a call is done that is open.
@@ -204,7 +200,12 @@ pub fn is_started(
         None => Ok(false),
         Some(job) => {
             let begins = goes_on_as_operation(alloc, &s.state, c, boot)?;
-            Ok(is_open(job, number, who, c, boot) && s.is_fresh && s.operation.is_none() && begins)
+            Ok(
+                is_open(job, number, who, c, boot)
+                    && s.just_admitted
+                    && s.operation.is_none()
+                    && begins,
+            )
         }
     }
 }

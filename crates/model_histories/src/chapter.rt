@@ -59,7 +59,7 @@ pub fn at_base(alloc: Global, base: Base) -> Result<Standing, NoMemory>
     Ok(Standing {
         state: base.state,
         job: None,
-        is_fresh: false,
+        just_admitted: false,
         operation: base.operation,
         lost: None,
         clients,

@@ -18,6 +18,7 @@ pub fn transitions_of(mark: &Mark<u64>) -> &[Transition]
         Mark::Admit { .. }
         | Mark::Refused { .. }
         | Mark::Start { .. }
+        | Mark::TakeUp { .. }
         | Mark::End { .. }
         | Mark::Watch { .. }
         | Mark::Unwatch { .. }
@@ -25,8 +26,8 @@ pub fn transitions_of(mark: &Mark<u64>) -> &[Transition]
     }
 }
 
-fn hears(more: u64, client: Client) -> Result<Client, NoMemory>
-    ensures { IfOk result (λ it. it ≡ fold.hears more client) }
+fn with_more(more: u64, client: Client) -> Result<Client, NoMemory>
+    ensures { IfOk result (λ it. it ≡ fold.with_more more client) }
 {
     match client.total.checked_add(more) {
         Some(total) => Ok(Client {
@@ -39,19 +40,19 @@ fn hears(more: u64, client: Client) -> Result<Client, NoMemory>
     }
 }
 
-// These clients, and behind them those others, each of which hears this many more transitions.
+// These clients, and behind them those others, each of which with_more this many more transitions.
 fn with_heard(
     heard: ListOf<Client>,
     more: u64,
     clients: &[Client],
 ) -> Result<ListOf<Client>, NoMemory>
-    ensures { IfOk result (λ all. all ≡ heard ++ map (fold.hears more) clients.now) }
+    ensures { IfOk result (λ all. all ≡ heard ++ map (fold.with_more more) clients.now) }
 {
     match clients {
         [] => Ok(heard),
         [client, rest @ ..] => {
             let mut next = heard;
-            next.push(hears(more, *client)?)?;
+            next.push(with_more(more, *client)?)?;
             with_heard(next, more, rest)
         }
     }
@@ -84,7 +85,7 @@ fn with_new(
     number: u64,
     client: u32,
 ) -> Result<ListOf<Client>, NoMemory>
-    ensures { IfOk result (λ all. all ≡ map (fold.hears 0) clients.now ++ (record { number = number; client = client; before = 0; total = 0 }) ∷ []) }
+    ensures { IfOk result (λ all. all ≡ map (fold.with_more 0) clients.now ++ (record { number = number; client = client; before = 0; total = 0 }) ∷ []) }
 {
     let mut all = with_heard(ListOf::new(alloc), 0, clients)?;
     all.push(Client {
@@ -115,6 +116,7 @@ pub fn clients_after(
         | Mark::Done { .. }
         | Mark::Refused { .. }
         | Mark::Start { .. }
+        | Mark::TakeUp { .. }
         | Mark::Phase { .. }
         | Mark::End { .. }
         | Mark::Exit { .. }

@@ -1,11 +1,12 @@
 // What is open, and what may be let in beside it.
 ghost use Rattle.std.specs.Prelude.{◌≡◌, ◌↔◌, IsTrue};
-ghost use Rattle.domain_spec.specs.JobTable.{May};
 ghost use Rattle.domain_spec.specs.Lawful.{IsAdmitted, IsNested, IsOpen, IsRefused, NoneNested};
-ghost use Rattle.domain_spec.specs.Open.{Excludes, IsCarried, IsKnownBoot, IsOwnJob, IsRecord, IsRefusedAs, is_same_who, job_held, kind_begun, operation_held, others_waiting};
+ghost use Rattle.domain_spec.specs.Open.{AreDistinct, Excludes, GoesOn, IsCarried, IsCrowded, IsKnownBoot, IsOtherNumber, IsOwnJob, IsRecord, IsRefusedAs, MayAdmit, is_among, is_rest, is_same_who, job_held, kind_begun, operation_held};
 
-use domain_spec::{Looked, OpenJob, OpenOperation, Standing};
-use model_domain::jobs::{job_of, may, may_begin, operation_begun};
+use domain_spec::{HeldJobs, HeldOperation, OpenJob, OpenOperation, Outcome, Standing};
+use model_domain::jobs::{
+    job_of, kind_of_call, may, may_begin, may_take_up, operation_begun, takes_up,
+};
 use model_domain::reading::{boots_of, live_boot};
 use same::Same;
 use virt_types::{Call, Job, OpKind, RefusalCode, State, Who};
@@ -29,45 +30,77 @@ fn kind_begun(kind: Option<OpKind>) -> OpKind
     }
 }
 
-/// The operation that is open, and whose it is.
-pub fn operation_held(operation: &Option<OpenOperation>) -> Option<(OpKind, Who)>
+/// Whether an operation rests.
+pub fn is_rest(outcome: &Outcome) -> bool
+    ensures { result ≡ is_rest outcome.now }
+{
+    matches!(outcome, Outcome::Rest(_))
+}
+
+/// The operation that is open, whose it is, and whether it rests.
+pub fn operation_held(operation: &Option<OpenOperation>) -> Option<HeldOperation>
     ensures { result ≡ operation_held operation.now }
 {
     match operation {
         None => None,
-        Some(operation) => Some((kind_begun(operation_begun(&operation.call)), operation.who)),
+        Some(operation) => Some(HeldOperation {
+            kind: kind_begun(kind_of_call(&operation.call)),
+            who: operation.who,
+            rests: is_rest(&operation.outcome),
+        }),
+    }
+}
+
+fn goes_on(outcome: &Outcome) -> bool
+    ensures { IsTrue result ↔ GoesOn outcome.now }
+{
+    match outcome {
+        Outcome::On(_) => true,
+        Outcome::Over(_) | Outcome::Rest(_) => false,
+    }
+}
+
+fn is_other_number(outcome: &Outcome, number: u64, open_number: u64) -> bool
+    ensures { IsTrue result ↔ IsOtherNumber outcome.now number open_number }
+{
+    match outcome {
+        Outcome::Rest(_) => true,
+        Outcome::On(_) | Outcome::Over(_) => number != open_number,
     }
 }
 
 // Where an operation is open.
-fn is_own_beside(operation: &OpenOperation, number: u64, taken: Job, call: &Call) -> bool
-    ensures { IsTrue result ↔ IsOwnJob (Some operation.now) number taken call.now }
+fn is_own_beside(operation: &OpenOperation, number: u64, wanted: Job, call: &Call) -> bool
+    ensures { IsTrue result ↔ IsOwnJob (Some operation.now) number wanted call.now }
 {
-    match taken {
-        Job::Nested => number == operation.number && call.same(&operation.call),
-        Job::Query | Job::Destroy | Job::Suspend | Job::Modify | Job::Abort => {
-            taken == job_of(call) && number != operation.number && operation_begun(call).is_none()
+    match wanted {
+        Job::Nested => {
+            number == operation.number && call.same(&operation.call) && goes_on(&operation.outcome)
+        }
+        Job::Query | Job::Destroy | Job::Suspend | Job::Modify | Job::Abort | Job::MigrationOp => {
+            wanted == job_of(call)
+                && is_other_number(&operation.outcome, number, operation.number)
+                && operation_begun(call).is_none()
         }
     }
 }
 
-fn is_own_alone(taken: Job, number: u64, call: &Call) -> bool
-    ensures { IsTrue result ↔ IsOwnJob None number taken call.now }
+fn is_own_alone(wanted: Job, number: u64, call: &Call) -> bool
+    ensures { IsTrue result ↔ IsOwnJob None number wanted call.now }
 {
-    match taken {
+    match wanted {
         Job::Nested => false,
-        Job::Query | Job::Destroy | Job::Suspend | Job::Modify | Job::Abort => {
-            taken == job_of(call)
-        }
+        Job::Query | Job::Destroy | Job::Suspend | Job::Modify | Job::Abort | Job::MigrationOp =>
+            wanted == job_of(call),
     }
 }
 
-fn is_own_job(operation: &Option<OpenOperation>, number: u64, taken: Job, call: &Call) -> bool
-    ensures { IsTrue result ↔ IsOwnJob operation.now number taken call.now }
+fn is_own_job(operation: &Option<OpenOperation>, number: u64, wanted: Job, call: &Call) -> bool
+    ensures { IsTrue result ↔ IsOwnJob operation.now number wanted call.now }
 {
     match operation {
-        None => is_own_alone(taken, number, call),
-        Some(operation) => is_own_beside(operation, number, taken, call),
+        None => is_own_alone(wanted, number, call),
+        Some(operation) => is_own_beside(operation, number, wanted, call),
     }
 }
 
@@ -76,7 +109,7 @@ fn is_known_boot(boots: u64, boot: Option<u64>) -> bool
 {
     match boot {
         None => true,
-        Some(boot) => boot <= boots,
+        Some(boot) => 1 <= boot && boot <= boots,
     }
 }
 
@@ -89,19 +122,39 @@ fn is_carried(state: &State, call: &Call, boot: Option<u64>) -> bool
     }
 }
 
+fn may_admit(
+    active: Option<(Job, Who)>,
+    op: Option<HeldOperation>,
+    taking: Option<OpKind>,
+    wanted: Job,
+    who: Who,
+) -> bool
+    ensures { IsTrue result ↔ MayAdmit active op taking wanted who }
+{
+    match (taking, wanted) {
+        (Some(_), Job::MigrationOp) => may_take_up(active, op),
+        _ => may(active, op, wanted, who),
+    }
+}
+
 /// Whether a call is let in.
 pub fn is_admitted(
     s: &Standing,
     number: u64,
     who: Who,
-    taken: Job,
+    wanted: Job,
     call: &Call,
     boot: Option<u64>,
 ) -> bool
-    ensures { IsTrue result ↔ IsAdmitted s.now number who taken call.now boot }
+    ensures { IsTrue result ↔ IsAdmitted s.now number who wanted call.now boot }
 {
-    may(job_held(&s.job), operation_held(&s.operation), taken, who)
-        && is_own_job(&s.operation, number, taken, call)
+    may_admit(
+        job_held(&s.job),
+        operation_held(&s.operation),
+        takes_up(call),
+        wanted,
+        who,
+    ) && is_own_job(&s.operation, number, wanted, call)
         && is_carried(&s.state, call, boot)
 }
 
@@ -116,17 +169,11 @@ pub fn is_open(job: &OpenJob, number: u64, who: Who, call: &Call, boot: Option<u
         && job.job == job_of(call)
 }
 
-fn excludes(
-    active: Option<(Job, Who)>,
-    op: Option<(OpKind, Who)>,
-    begun: Option<OpKind>,
-    taken: Job,
-    who: Who,
-) -> bool
-    ensures { IsTrue result ↔ Excludes active op begun taken who }
+fn excludes(active: Option<(Job, Who)>, op: Option<HeldOperation>, call: &Call, who: Who) -> bool
+    ensures { IsTrue result ↔ Excludes active op call.now who }
 {
-    match begun {
-        None => !may(active, op, taken, who),
+    match operation_begun(call) {
+        None => !may_admit(active, op, takes_up(call), job_of(call), who),
         Some(_) => !may_begin(active, op),
     }
 }
@@ -137,41 +184,65 @@ fn is_same_who(one: Who, other: Who) -> bool
     one.session == other.session && one.lane == other.lane && one.count == other.count
 }
 
-fn others_waiting(waiting: &[Who], who: Who) -> usize
-    ensures { result ≡ others_waiting waiting.now who }
+fn is_among(callers: &[Who], who: Who) -> bool
+    ensures { result ≡ is_among callers.now who }
 {
-    waiting.iter().filter(|it| !is_same_who(**it, who)).count()
+    callers.iter().any(|it| is_same_who(who, *it))
 }
 
-fn is_refused_as(code: RefusalCode, looked: &Looked, who: Who) -> bool
-    ensures { IsTrue result ↔ IsRefusedAs code looked.now who }
+fn are_distinct(callers: &[Who]) -> bool
+    ensures { IsTrue result ↔ AreDistinct callers.now }
+{
+    match callers {
+        [] => true,
+        [first, rest @ ..] => !is_among(rest, *first) && are_distinct(rest),
+    }
+}
+
+// How many may wait for a domain.
+const MOST_WAITING: usize = 32;
+
+fn is_crowded(waiting: &[Who], who: Who) -> bool
+    ensures { IsTrue result ↔ IsCrowded waiting.now who }
+{
+    waiting.len() == MOST_WAITING && are_distinct(waiting) && !is_among(waiting, who)
+}
+
+fn is_refused_as(code: RefusalCode, held: &HeldJobs, who: Who) -> bool
+    ensures { IsTrue result ↔ IsRefusedAs code held.now who }
 {
     match code {
         RefusalCode::OperationTimeout => true,
-        RefusalCode::TooManyWaiting => others_waiting(looked.waiting.as_slice(), who) >= 32,
+        RefusalCode::TooManyWaiting => is_crowded(held.waiting.as_slice(), who),
         _ => false,
     }
 }
 
-fn is_record(s: &Standing, looked: &Looked) -> bool
-    ensures { IsTrue result ↔ IsRecord s.now looked.now }
+fn is_same_operation(one: Option<HeldOperation>, other: Option<HeldOperation>) -> bool
+    ensures { IsTrue result ↔ (one ≡ other) }
 {
-    looked.active.same(&job_held(&s.job)) && looked.op.same(&operation_held(&s.operation))
+    match (one, other) {
+        (None, None) => true,
+        (Some(one), Some(other)) => {
+            one.kind == other.kind && one.who.same(&other.who) && one.rests == other.rests
+        }
+        _ => false,
+    }
+}
+
+fn is_record(s: &Standing, held: &HeldJobs) -> bool
+    ensures { IsTrue result ↔ IsRecord s.now held.now }
+{
+    held.active.same(&job_held(&s.job)) && is_same_operation(held.op, operation_held(&s.operation))
 }
 
 /// Whether a call is refused since its job is excluded.
-pub fn is_refused(s: &Standing, who: Who, call: &Call, code: RefusalCode, looked: &Looked) -> bool
-    ensures { IsTrue result ↔ IsRefused s.now who call.now code looked.now }
+pub fn is_refused(s: &Standing, who: Who, call: &Call, code: RefusalCode, held: &HeldJobs) -> bool
+    ensures { IsTrue result ↔ IsRefused s.now who call.now code held.now }
 {
-    is_record(s, looked)
-        && excludes(
-            looked.active,
-            looked.op,
-            operation_begun(call),
-            job_of(call),
-            who,
-        )
-        && is_refused_as(code, looked, who)
+    is_record(s, held)
+        && excludes(held.active, held.op, call, who)
+        && is_refused_as(code, held, who)
 }
 
 /// Whether a nested job of this operation is open.
@@ -179,6 +250,7 @@ pub fn is_nested(job: &OpenJob, operation: &OpenOperation, number: u64, who: Who
     ensures { IsTrue result ↔ IsNested job.now operation.now number who }
 {
     job.job == Job::Nested
+        && number == job.number
         && job.who.same(&operation.who)
         && number == operation.number
         && who.same(&operation.who)

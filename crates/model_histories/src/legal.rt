@@ -9,6 +9,7 @@ ghost use Rattle.domain_spec.specs.Reading as reading;
 use crate::calls::{DoneMark, is_done, is_started};
 use crate::jobs::{is_admitted, is_refused};
 use crate::operations::{PhaseMark, is_ended, is_phased};
+use crate::take_up::is_taken_up;
 use domain_spec::{Client, Mark, Standing};
 use model_domain::exits::{event_transitions, exit_transitions};
 use model_domain::reading::is_live;
@@ -134,15 +135,16 @@ fn is_in_order(alloc: Global, s: &Standing, mark: &Mark<u64>) -> Result<bool, No
             who,
             call,
             code,
-            looked,
+            held,
             ..
-        } => Ok(is_refused(s, *who, call, *code, looked)),
+        } => Ok(is_refused(s, *who, call, *code, held)),
         Mark::Start {
             number,
             who,
             call,
             boot,
         } => is_started(alloc, s, *number, *who, call, *boot),
+        Mark::TakeUp { number, who, call } => Ok(is_taken_up(s, *number, *who, call)),
         Mark::Phase {
             number,
             who,
@@ -198,6 +200,7 @@ fn marks_one(lost: u64, mark: &Mark<u64>) -> bool
         | Mark::Done { .. }
         | Mark::Refused { .. }
         | Mark::Start { .. }
+        | Mark::TakeUp { .. }
         | Mark::Phase { .. }
         | Mark::End { .. }
         | Mark::Event { .. }

@@ -12,6 +12,7 @@ mod listener;
 mod one_mark;
 mod operations;
 mod outcome;
+mod take_up;
 
 pub use chapter::at_base;
 pub use history::{Verdict, judge, standing_after, state_after};

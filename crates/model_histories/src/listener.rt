@@ -75,6 +75,7 @@ fn owed_from(
             | Mark::Done { .. }
             | Mark::Refused { .. }
             | Mark::Start { .. }
+            | Mark::TakeUp { .. }
             | Mark::Phase { .. }
             | Mark::End { .. }
             | Mark::Exit { .. }
@@ -108,6 +109,7 @@ fn owed_after(
         | Mark::Done { .. }
         | Mark::Refused { .. }
         | Mark::Start { .. }
+        | Mark::TakeUp { .. }
         | Mark::Phase { .. }
         | Mark::End { .. }
         | Mark::Exit { .. }

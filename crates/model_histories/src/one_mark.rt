@@ -10,8 +10,9 @@ ghost use Rattle.domain_spec.specs.declared.step.Outcome.TheVariants as outcome;
 
 use crate::clients::clients_after;
 use domain_spec::{Mark, OpenJob, OpenOperation, Outcome, Standing};
-use model_calls::{begin_state, due_phase, seq};
+use model_calls::{begin_state, due_phase, named_call, seq, taken_up_state};
 use model_domain::exits::{event_state, exit_state};
+use model_domain::jobs::phase_taken_up;
 use model_domain::reading::live_boot;
 use model_phases::{lost_boot, phase_of, without_operation};
 use std::alloc::Global;
@@ -29,17 +30,17 @@ fn carries(carried: Option<u64>, boot: u64) -> bool
 // Each of these changes one thing that stands, and lets go what stood in its place.
 
 fn set_state(s: &mut Standing, state: State)
-    ensures { s.new ≡ record s.old { state = state; is_fresh = false } }
+    ensures { s.new ≡ record s.old { state = state; just_admitted = false } }
 {
     s.state = state;
-    s.is_fresh = false;
+    s.just_admitted = false;
 }
 
 fn open_job(s: &mut Standing, job: OpenJob)
-    ensures { s.new ≡ record s.old { job = Some job; is_fresh = true } }
+    ensures { s.new ≡ record s.old { job = Some job; just_admitted = true } }
 {
     s.job = Some(job);
-    s.is_fresh = true;
+    s.just_admitted = true;
 }
 
 fn close_job(s: &mut Standing)
@@ -81,7 +82,7 @@ fn admit(
     call: &Call,
     boot: Option<u64>,
 ) -> Result<(), NoMemory>
-    ensures { OnOk result (s.new ≡ record s.old { job = Some (record { number = number; who = who; job = job; call = call.now; boot = boot; before = None }); is_fresh = true }) }
+    ensures { OnOk result (s.new ≡ record s.old { job = Some (record { number = number; who = who; job = job; call = call.now; boot = boot; before = None }); just_admitted = true }) }
 {
     let call = call.copy()?;
     open_job(
@@ -119,7 +120,7 @@ fn finish_call(
     boot: Option<u64>,
     answers: &[Answer],
 ) -> Result<(), NoMemory>
-    ensures { OnOk result (let next = (calls.seq s.old.state call.now boot answers.now).state in s.new ≡ record s.old { state = next; job = None; is_fresh = false; lost = fold.lost_boot next boot answers.now }) }
+    ensures { OnOk result (let next = (calls.seq s.old.state call.now boot answers.now).state in s.new ≡ record s.old { state = next; job = None; just_admitted = false; lost = fold.lost_boot next boot answers.now }) }
 {
     let state = state_of_call(alloc, &s.state, call, boot, answers)?;
     s.lost = lost_boot(&state, boot, answers);
@@ -128,22 +129,16 @@ fn finish_call(
     Ok(())
 }
 
-fn new_operation(
-    number: u64,
-    who: Who,
-    call: &Call,
-    state: &State,
-) -> Result<OpenOperation, NoMemory>
-    ensures { IfOk result (λ it. it ≡ record { number = number; who = who; call = call.now; boot = reading.live_boot state.now; outcome = outcome.On (begins.due_phase state.now) }) }
+fn new_operation(number: u64, who: Who, call: Call, state: &State) -> OpenOperation
+    ensures { result ≡ record { number = number; who = who; call = call; boot = reading.live_boot state.now; outcome = outcome.On (begins.due_phase state.now) } }
 {
-    let call = call.copy()?;
-    Ok(OpenOperation {
+    OpenOperation {
         number,
         who,
         call,
         boot: live_boot(state),
         outcome: Outcome::On(due_phase(state)),
-    })
+    }
 }
 
 // An operation has begun.
@@ -157,11 +152,37 @@ fn start(
     ensures { OnOk result (s.new ≡ fold.after_start s.old number who call.now) }
 {
     let state = begin_state(alloc, &s.state, who, call)?;
-    let operation = new_operation(number, who, call, &state)?;
+    let call = named_call(alloc, &s.state, call)?;
+    let operation = new_operation(number, who, call, &state);
     open_operation(s, operation);
     set_state(s, state);
     close_job(s);
     Ok(())
+}
+
+fn taken_up(operation: &mut OpenOperation, number: u64, who: Who, call: Call)
+    ensures { operation.new ≡ fold.taken_up number who call operation.old }
+{
+    operation.outcome = Outcome::On(phase_taken_up(&call));
+    operation.number = number;
+    operation.who = who;
+    operation.call = call;
+}
+
+// The operation that rested goes on for the call that took it up.
+fn take_up(s: &mut Standing, number: u64, who: Who, call: &Call) -> Result<(), NoMemory>
+    ensures { OnOk result (s.new ≡ fold.after_take_up s.old s.old.operation number who call.now) }
+{
+    match &mut s.operation {
+        None => Ok(()),
+        Some(operation) => {
+            let state = taken_up_state(&s.state, who, call)?;
+            taken_up(operation, number, who, call.copy()?);
+            set_state(s, state);
+            close_job(s);
+            Ok(())
+        }
+    }
 }
 
 fn state_of_phase(
@@ -200,7 +221,7 @@ fn finish_phase(
 
 // The operation has ended.
 fn end_operation(s: &mut Standing) -> Result<(), NoMemory>
-    ensures { OnOk result (s.new ≡ record s.old { state = phases.without_operation s.old.state; operation = None; is_fresh = false }) }
+    ensures { OnOk result (s.new ≡ record s.old { state = phases.without_operation s.old.state; operation = None; just_admitted = false }) }
 {
     let state = without_operation(&s.state)?;
     set_state(s, state);
@@ -225,7 +246,7 @@ fn note_end(state: &State, boot: u64, job: &mut Option<OpenJob>) -> Result<(), N
 
 // A boot has ended.
 fn end_boot(s: &mut Standing, boot: u64, why: EndReason) -> Result<(), NoMemory>
-    ensures { OnOk result (s.new ≡ record s.old { state = exits.exit_state s.old.state why; job = fold.job_at_exit s.old.state boot s.old.job; is_fresh = false; lost = None }) }
+    ensures { OnOk result (s.new ≡ record s.old { state = exits.exit_state s.old.state why; job = fold.job_at_exit s.old.state boot s.old.job; just_admitted = false; lost = None }) }
 {
     let state = exit_state(&s.state, why)?;
     note_end(&s.state, boot, &mut s.job)?;
@@ -236,15 +257,15 @@ fn end_boot(s: &mut Standing, boot: u64, why: EndReason) -> Result<(), NoMemory>
 
 // A guest did something by itself.
 fn apply_event(s: &mut Standing, event: GuestEvent) -> Result<(), NoMemory>
-    ensures { OnOk result (s.new ≡ record s.old { state = exits.event_state s.old.state event; is_fresh = false }) }
+    ensures { OnOk result (s.new ≡ record s.old { state = exits.event_state s.old.state event; just_admitted = false }) }
 {
     let state = event_state(&s.state, event)?;
     set_state(s, state);
     Ok(())
 }
 
-fn happen(alloc: Global, s: &mut Standing, mark: &Mark<u64>) -> Result<(), NoMemory>
-    ensures { OnOk result (s.new ≡ fold.happened s.old mark.now) }
+fn apply(alloc: Global, s: &mut Standing, mark: &Mark<u64>) -> Result<(), NoMemory>
+    ensures { OnOk result (s.new ≡ fold.applied s.old mark.now) }
 {
     match mark {
         Mark::Admit {
@@ -266,6 +287,7 @@ fn happen(alloc: Global, s: &mut Standing, mark: &Mark<u64>) -> Result<(), NoMem
             call,
             ..
         } => start(alloc, s, *number, *who, call),
+        Mark::TakeUp { number, who, call } => take_up(s, *number, *who, call),
         Mark::Phase {
             answers,
             outcome,
@@ -275,7 +297,7 @@ fn happen(alloc: Global, s: &mut Standing, mark: &Mark<u64>) -> Result<(), NoMem
         Mark::Exit { boot, reason, .. } => end_boot(s, *boot, *reason),
         Mark::Event { event, .. } => apply_event(s, *event),
         Mark::Refused { .. } | Mark::Watch { .. } | Mark::Unwatch { .. } | Mark::Cut { .. } => {
-            s.is_fresh = false;
+            s.just_admitted = false;
             Ok(())
         }
     }
@@ -287,7 +309,7 @@ pub fn advance(alloc: Global, s: &mut Standing, mark: &Mark<u64>) -> Result<(), 
     ensures { OnOk result (s.new ≡ fold.after s.old mark.now) }
 {
     let clients = clients_after(alloc, s.clients.as_slice(), mark)?;
-    happen(alloc, s, mark)?;
+    apply(alloc, s, mark)?;
     s.clients = clients;
     Ok(())
 }

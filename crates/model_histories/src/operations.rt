@@ -98,7 +98,7 @@ fn is_due(before: &Outcome, phase: Phase) -> bool
 {
     match before {
         Outcome::On(due) => *due == phase,
-        Outcome::Over(_) => false,
+        Outcome::Over(_) | Outcome::Rest(_) => false,
     }
 }
 
@@ -140,7 +140,7 @@ fn is_over(before: &Outcome, reply: &Reply) -> bool
     ensures { IsTrue result ↔ (before.now ≡ outcome.Over reply.now) }
 {
     match before {
-        Outcome::On(_) => false,
+        Outcome::On(_) | Outcome::Rest(_) => false,
         Outcome::Over(due) => due.same(reply),
     }
 }

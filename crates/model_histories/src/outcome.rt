@@ -10,11 +10,15 @@ pub fn is_same_outcome(one: &Outcome, other: &Outcome) -> bool
     match one {
         Outcome::On(phase) => match other {
             Outcome::On(that) => *phase == *that,
-            Outcome::Over(_) => false,
+            Outcome::Over(_) | Outcome::Rest(_) => false,
         },
         Outcome::Over(reply) => match other {
-            Outcome::On(_) => false,
             Outcome::Over(that) => reply.same(that),
+            Outcome::On(_) | Outcome::Rest(_) => false,
+        },
+        Outcome::Rest(reply) => match other {
+            Outcome::Rest(that) => reply.same(that),
+            Outcome::On(_) | Outcome::Over(_) => false,
         },
     }
 }

@@ -2,6 +2,7 @@
 //! answers. A plain, slow program (see `model_domain`).
 #![tactic(auto)]
 
+mod migration;
 mod operations;
 mod phase_plans;
 mod phase_results;

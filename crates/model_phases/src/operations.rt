@@ -176,13 +176,13 @@ fn step(alloc: Global, at: &mut Progress) -> Result<(), NoMemory>
     ensures { OnOk result (at.new ≡ whole.stepped at.old) }
 {
     match at.operation.outcome {
-        Outcome::Over(_) => Ok(()),
+        Outcome::Over(_) | Outcome::Rest(_) => Ok(()),
         Outcome::On(phase) => step_through(alloc, at, phase),
     }
 }
 
-fn settle(alloc: Global, at: &mut Progress) -> Result<(), NoMemory>
-    ensures { OnOk result (at.new ≡ whole.settled at.old) }
+fn advance(alloc: Global, at: &mut Progress) -> Result<(), NoMemory>
+    ensures { OnOk result (at.new ≡ whole.advanced at.old) }
 {
     step(alloc, at)?;
     step(alloc, at)
@@ -192,7 +192,7 @@ fn take_answer(alloc: Global, at: &mut Progress, answer: &Answer) -> Result<(), 
     ensures { OnOk result (at.new ≡ whole.with_answer at.old answer.now) }
 {
     at.left.push(answer.copy()?)?;
-    settle(alloc, at)
+    advance(alloc, at)
 }
 
 fn take_answers(alloc: Global, at: &mut Progress, answers: &[Answer]) -> Result<(), NoMemory>
@@ -242,7 +242,7 @@ pub fn whole_operation(
     ensures { IfOk result (λ it. it ≡ whole.whole_operation state.now operation.now answers.now) }
 {
     let mut at = begin(alloc, state, operation)?;
-    settle(alloc, &mut at)?;
+    advance(alloc, &mut at)?;
     take_answers(alloc, &mut at, answers)?;
     Ok(at)
 }

@@ -1,8 +1,8 @@
 // What each phase of an operation asks, and what undoes it.
 ghost use Rattle.std.specs.Prelude.{◌≡◌, ◌++◌, IfOk, flat_map, option_map};
-ghost use Rattle.domain_spec.specs.Asks.{first_value};
+ghost use Rattle.domain_spec.specs.Asks.{first_value, plain, undone_by};
 ghost use Rattle.domain_spec.specs.Call.{lease_of, tell, tell_if};
-ghost use Rattle.domain_spec.specs.PhaseAsks.{cancel_asks, copy_asks, is_given_up, is_stalled, live_phase_asks, live_phase_undo, load_asks, loaded_from, loaded_of, make_asks, phase_plan, resumes, take_asks, taken, two, write_image};
+ghost use Rattle.domain_spec.specs.PhaseAsks.{cancel_asks, copy_asks, is_given_up, is_stalled, live_phase_asks, live_phase_plan, live_phase_undo, load_asks, loaded_from, loaded_of, make_asks, migrate_load_asks, migrate_take_plan, migration_asks, phase_plan, resumes, take_asks, copied_bytes, two, write_image};
 ghost use Rattle.domain_spec.specs.Types.call;
 ghost use Rattle.domain_spec.specs.Types.command;
 ghost use Rattle.domain_spec.specs.Types.given;
@@ -10,7 +10,7 @@ ghost use Rattle.domain_spec.specs.Types.phase;
 
 use domain_spec::Loaded;
 use model_domain::answers::first_value;
-use model_domain::asks::{Plan, undone_by};
+use model_domain::asks::{Plan, plain, undone_by};
 use model_domain::commands::{lease_of, tell, tell_if};
 use model_domain::lists::{joined, single};
 use model_domain::reading::{is_held_by_job, is_running};
@@ -57,6 +57,11 @@ pub fn loaded_of(domain: &Domain, call: &Call) -> Result<Option<Loaded>, NoMemor
 {
     match call {
         Call::Restore {
+            definition,
+            running,
+            saved,
+        } => image(definition, *running, saved),
+        Call::Prepare {
             definition,
             running,
             saved,
@@ -109,7 +114,7 @@ pub fn resumes(live: &Live, op: &Op) -> bool
 
 // The bytes, as far as they are a state.
 fn state_bytes(alloc: Global, bytes: &Bytes) -> Result<Bytes, NoMemory>
-    ensures { IfOk result (λ it. it ≡ taken (Some (given.Bytes bytes.now))) }
+    ensures { IfOk result (λ it. it ≡ copied_bytes (Some (given.Bytes bytes.now))) }
 {
     if bytes.len() <= 4096 {
         bytes.copy()
@@ -119,8 +124,8 @@ fn state_bytes(alloc: Global, bytes: &Bytes) -> Result<Bytes, NoMemory>
 }
 
 /// The bytes of a copy.
-pub fn taken(alloc: Global, value: &Option<AnswerValue>) -> Result<Bytes, NoMemory>
-    ensures { IfOk result (λ bytes. bytes ≡ taken value.now) }
+pub fn copied_bytes(alloc: Global, value: &Option<AnswerValue>) -> Result<Bytes, NoMemory>
+    ensures { IfOk result (λ bytes. bytes ≡ copied_bytes value.now) }
 {
     match value {
         Some(AnswerValue::Bytes(bytes)) => state_bytes(alloc, bytes),
@@ -138,7 +143,7 @@ fn write_image(
 ) -> Result<AskList, NoMemory>
     ensures { IfOk result (λ asks. asks ≡ write_image name.now kind live.now op.now answers.now) }
 {
-    let bytes = taken(alloc, &first_value(answers)?)?;
+    let bytes = copied_bytes(alloc, &first_value(answers)?)?;
     single(
         alloc,
         Ask::WriteImage {
@@ -265,6 +270,42 @@ fn load_asks_of(
     load_asks(alloc, live, op, &loaded_of(domain, call)?)
 }
 
+fn migrate_load_asks(alloc: Global, loaded: &Option<Loaded>) -> Result<AskList, NoMemory>
+    ensures { IfOk result (λ asks. asks ≡ migrate_load_asks loaded.now) }
+{
+    match loaded {
+        None => Ok(ListOf::new(alloc)),
+        Some(loaded) => tell(alloc, Command::LoadState(loaded.saved.copy()?)),
+    }
+}
+
+fn migrate_load_asks_of(alloc: Global, domain: &Domain, call: &Call) -> Result<AskList, NoMemory>
+    ensures { IfOk result (λ asks. asks ≡ migrate_load_asks (loaded_of domain.now call.now)) }
+{
+    migrate_load_asks(alloc, &loaded_of(domain, call)?)
+}
+
+fn migration_asks(
+    alloc: Global,
+    domain: &Domain,
+    op: &Op,
+    call: &Call,
+    phase: Phase,
+) -> Result<AskList, NoMemory>
+    ensures { IfOk result (λ asks. asks ≡ migration_asks domain.now op.now call.now phase) }
+{
+    match phase {
+        Phase::MigrateCopy => tell(alloc, Command::CopyBegin),
+        Phase::MigrateCancel => tell(alloc, Command::CopyCancel),
+        Phase::MigrateLoad => migrate_load_asks_of(alloc, domain, call),
+        Phase::MigrateQuit => tell(alloc, Command::Quit),
+        Phase::MigrateBack => tell_if(alloc, op.was_running, Command::Cont),
+        Phase::MigrateRun => tell_if(alloc, op.was_running, Command::Cont),
+        Phase::MigrateDrop => tell(alloc, Command::Quit),
+        _ => Ok(ListOf::new(alloc)),
+    }
+}
+
 fn live_phase_asks(
     alloc: Global,
     domain: &Domain,
@@ -286,6 +327,7 @@ fn live_phase_asks(
         Phase::Take => take_asks(alloc, live, op, call, answers),
         Phase::Quit => tell(alloc, Command::Quit),
         Phase::Cancel => cancel_asks(alloc, live, op),
+        _ => migration_asks(alloc, domain, op, call, phase),
     }
 }
 
@@ -303,10 +345,67 @@ fn live_phase_undo(alloc: Global, live: &Live, op: &Op, phase: Phase) -> Result<
     ensures { IfOk result (λ asks. asks ≡ live_phase_undo live.now op.now phase) }
 {
     match phase {
-        Phase::Run => tell(alloc, Command::Quit),
+        Phase::Run | Phase::MigrateLoad => tell(alloc, Command::Quit),
         Phase::Load => load_undo(alloc, live, op),
         Phase::Copy => tell_if(alloc, is_running(live.run), Command::Cont),
         _ => Ok(ListOf::new(alloc)),
+    }
+}
+
+// The asks of a guest that is to leave, before its state is taken.
+fn stop_plan(alloc: Global, live: &Live) -> Result<Plan, NoMemory>
+    ensures { IfOk result (λ made. made ≡ plain (tell_if (is_running live.now.run) command.Stop)) }
+{
+    plain(
+        alloc,
+        tell_if(alloc, is_running(live.run), Command::Stop)?.as_slice(),
+    )
+}
+
+fn take_plan(alloc: Global, live: &Live) -> Result<Plan, NoMemory>
+    ensures { IfOk result (λ made. made ≡ undone_by (tell_if (is_running live.now.run) command.Cont) (tell command.CopyTake)) }
+{
+    let undo = tell_if(alloc, is_running(live.run), Command::Cont)?;
+    undone_by(alloc, &undo, tell(alloc, Command::CopyTake)?.as_slice())
+}
+
+fn migrate_take_plan(alloc: Global, live: &Live) -> Result<Plan, NoMemory>
+    ensures { IfOk result (λ made. made ≡ migrate_take_plan live.now) }
+{
+    joined(stop_plan(alloc, live)?, take_plan(alloc, live)?)
+}
+
+// Any other phase's asks, each undone in one way.
+fn plan_undone(
+    alloc: Global,
+    domain: &Domain,
+    live: &Live,
+    op: &Op,
+    call: &Call,
+    answers: &[Answer],
+    phase: Phase,
+) -> Result<Plan, NoMemory>
+    ensures { IfOk result (λ made. made ≡ undone_by (live_phase_undo live.now op.now phase) (live_phase_asks domain.now live.now op.now call.now answers.now phase)) }
+{
+    let undo = live_phase_undo(alloc, live, op, phase)?;
+    let asks = live_phase_asks(alloc, domain, live, op, call, answers, phase)?;
+    undone_by(alloc, &undo, asks.as_slice())
+}
+
+fn live_phase_plan(
+    alloc: Global,
+    domain: &Domain,
+    live: &Live,
+    op: &Op,
+    call: &Call,
+    answers: &[Answer],
+    phase: Phase,
+) -> Result<Plan, NoMemory>
+    ensures { IfOk result (λ made. made ≡ live_phase_plan domain.now live.now op.now call.now answers.now phase) }
+{
+    match phase {
+        Phase::MigrateTake => migrate_take_plan(alloc, live),
+        _ => plan_undone(alloc, domain, live, op, call, answers, phase),
     }
 }
 
@@ -322,10 +421,6 @@ pub fn phase_plan(
 {
     match &domain.live {
         None => Ok(ListOf::new(alloc)),
-        Some(live) => {
-            let undo = live_phase_undo(alloc, live, op, op.phase)?;
-            let asks = live_phase_asks(alloc, domain, live, op, call, answers, op.phase)?;
-            undone_by(alloc, &undo, asks.as_slice())
-        }
+        Some(live) => live_phase_plan(alloc, domain, live, op, call, answers, op.phase),
     }
 }

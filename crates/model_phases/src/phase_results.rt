@@ -1,20 +1,24 @@
 // What a phase leaves where its answers are all Ok.
-ghost use Rattle.std.specs.Prelude.{◌≡◌, ◌∷◌, [], IfOk, if◌then◌else◌, unwrap_or};
+ghost use Rattle.std.specs.Prelude.{◌≡◌, ◌∷◌, [], IfOk, if◌then◌else◌, nat_le, unwrap_or};
 ghost use Rattle.domain_spec.specs.CallResult.{ended, tell_listeners};
 ghost use Rattle.domain_spec.specs.Devices.{slots_at_start};
 ghost use Rattle.domain_spec.specs.Asks.{first_value};
-ghost use Rattle.domain_spec.specs.CopyResult.{cancels, copy_done, current_after, goes_on, left_in, load_done, loaded_active, loaded_new, loaded_with, over, paused_unless, poll_done, poll_step, restored_as, run_as, start_value, still_after};
-ghost use Rattle.domain_spec.specs.Operation.{after_make, cancel_done, free_number, led_to, live_phase_done, live_taken, numbered_name, quit_done, resumed, resumed_events, run_done, snapshot_name, snapshot_taken, take_done};
-ghost use Rattle.domain_spec.specs.PhaseAsks.{taken};
+ghost use Rattle.domain_spec.specs.CopyResult.{cancel_phase, cancels, copy_done, current_after, goes_on, left_in, load_done, loaded_active, loaded_new, loaded_with, over, paused_unless, poll_done, poll_step, restored_as, run_as, start_value, still_after, take_phase};
+ghost use Rattle.domain_spec.specs.Migration.{migration_done};
+ghost use Rattle.domain_spec.specs.Operation.{after_make, cancel_done, led_to, live_phase_done, live_taken, quit_done, resume_events, run_done, snapshot_taken, take_done, with_guest_resumed};
+ghost use Rattle.domain_spec.specs.PhaseAsks.{copied_bytes};
 ghost use Rattle.domain_spec.specs.Reading.{is_running, with_run};
+ghost use Rattle.domain_spec.specs.Snapshots.{snapshot_name};
 ghost use Rattle.domain_spec.specs.Types.cause;
+ghost use Rattle.domain_spec.specs.Types.phase;
 ghost use Rattle.domain_spec.specs.Types.reason;
 ghost use Rattle.domain_spec.specs.Types.reply;
 ghost use Rattle.domain_spec.specs.Types.run;
 ghost use Rattle.domain_spec.specs.Types.state;
 ghost use Rattle.domain_spec.specs.Types.value;
 
-use crate::phase_plans::{is_given_up, loaded_of, resumes, taken};
+use crate::migration::migration_done;
+use crate::phase_plans::{copied_bytes, is_given_up, loaded_of, resumes};
 use domain_spec::{Loaded, Outcome, PhaseStep};
 use model_domain::answers::first_value;
 use model_domain::devices::{slots_at_start, text_or_empty, with_devices};
@@ -23,7 +27,8 @@ use model_domain::reading::{
     ended, is_running, reference_of, running_as, with_guest, with_operation, with_run,
 };
 use model_domain::refusals::{aborted, stalled};
-use model_domain::snapshots::{has_snapshot, with_snapshot};
+use model_domain::snapshot_names::snapshot_name;
+use model_domain::snapshots::with_snapshot;
 use model_domain::told::{Told, tell_listeners};
 use std::alloc::Global;
 use virt_types::{
@@ -63,7 +68,8 @@ pub fn over(state: State, told: Told, reply: Reply) -> PhaseStep
     }
 }
 
-fn run_as(ran: bool) -> RunState
+/// How a guest goes on that ran, or that did not.
+pub fn run_as(ran: bool) -> RunState
     ensures { result ≡ run_as ran }
 {
     if ran {
@@ -73,17 +79,19 @@ fn run_as(ran: bool) -> RunState
     }
 }
 
-fn paused_unless(alloc: Global, ran: bool) -> Result<Told, NoMemory>
+/// What is told of a guest that did not run.
+pub fn paused_unless(alloc: Global, ran: bool) -> Result<Told, NoMemory>
     ensures { IfOk result (λ told. told ≡ paused_unless ran) }
 {
     tell_listeners(alloc, !ran, SUSPENDED_PAUSED)
 }
 
-fn start_value(domain: &Domain, call: &Call) -> Result<Value, NoMemory>
+/// What a call is given that makes a guest.
+pub fn start_value(domain: &Domain, call: &Call) -> Result<Value, NoMemory>
     ensures { IfOk result (λ value. value ≡ start_value domain.now call.now) }
 {
     match call {
-        Call::Create(_) => Ok(Value::Domain(reference_of(domain)?)),
+        Call::Create(_) | Call::Prepare { .. } => Ok(Value::Domain(reference_of(domain)?)),
         _ => Ok(Value::Nothing),
     }
 }
@@ -219,8 +227,8 @@ fn held_still(domain: &Domain, live: &Live) -> Result<Domain, NoMemory>
     }
 }
 
-// The operation knows whether its guest ran.
-fn seen_running(op: &Op, live: &Live) -> Result<Op, NoMemory>
+/// The operation as it knows whether its guest ran.
+pub fn seen_running(op: &Op, live: &Live) -> Result<Op, NoMemory>
     ensures { IfOk result (λ next. next ≡ record op.now { was_running = is_running live.now.run }) }
 {
     let mut next = op.copy()?;
@@ -228,8 +236,8 @@ fn seen_running(op: &Op, live: &Live) -> Result<Op, NoMemory>
     Ok(next)
 }
 
-// A guest that ran stands still now.
-fn still_told(alloc: Global, live: &Live) -> Result<Told, NoMemory>
+/// What is told of a guest that stands still now, where it ran.
+pub fn still_told(alloc: Global, live: &Live) -> Result<Told, NoMemory>
     ensures { IfOk result (λ told. told ≡ tell_listeners (is_running live.now.run) SUSPENDED_PAUSED) }
 {
     tell_listeners(alloc, is_running(live.run), SUSPENDED_PAUSED)
@@ -244,6 +252,35 @@ fn copy_done(alloc: Global, domain: &Domain, live: &Live, op: &Op) -> Result<Pha
     goes_on(&still, &next, Phase::Poll, told)
 }
 
+fn cancel_phase(kind: OpKind) -> Phase
+    ensures { result ≡ cancel_phase kind }
+{
+    match kind {
+        OpKind::MigrateOut => Phase::MigrateCancel,
+        _ => Phase::Cancel,
+    }
+}
+
+fn take_phase(kind: OpKind) -> Phase
+    ensures { result ≡ take_phase kind }
+{
+    match kind {
+        OpKind::MigrateOut => Phase::MigrateTake,
+        _ => Phase::Take,
+    }
+}
+
+// The phase after a poll that saw so much left.
+fn after_poll(op: &Op, left: u64) -> Phase
+    ensures { result ≡ (if nat_le left op.now.limit then take_phase op.now.kind else phase.Poll) }
+{
+    if left <= op.limit {
+        take_phase(op.kind)
+    } else {
+        Phase::Poll
+    }
+}
+
 /// The operation is given up, and ends with this refusal.
 pub fn cancels(
     alloc: Global,
@@ -255,7 +292,7 @@ pub fn cancels(
 {
     let mut next = op.copy()?;
     next.refusal = Some(refusal);
-    goes_on(domain, &next, Phase::Cancel, ListOf::new(alloc))
+    goes_on(domain, &next, cancel_phase(op.kind), ListOf::new(alloc))
 }
 
 fn left_in(value: &Option<AnswerValue>) -> u64
@@ -291,7 +328,7 @@ fn poll_done(alloc: Global, domain: &Domain, op: &Op, left: u64) -> Result<Phase
     let mut next = op.copy()?;
     next.still = still_after(op, op.remaining, left)?;
     next.remaining = Some(left);
-    let phase = if left == 0 { Phase::Take } else { Phase::Poll };
+    let phase = after_poll(op, left);
     goes_on(domain, &next, phase, ListOf::new(alloc))
 }
 
@@ -319,8 +356,8 @@ fn poll_step(
     }
 }
 
-fn resumed(domain: &Domain, live: &Live, op: &Op) -> Result<Domain, NoMemory>
-    ensures { IfOk result (λ next. next ≡ resumed domain.now live.now op.now) }
+fn with_guest_resumed(domain: &Domain, live: &Live, op: &Op) -> Result<Domain, NoMemory>
+    ensures { IfOk result (λ next. next ≡ with_guest_resumed domain.now live.now op.now) }
 {
     if resumes(live, op) {
         with_run(domain, live, RunState::Running)
@@ -329,55 +366,10 @@ fn resumed(domain: &Domain, live: &Live, op: &Op) -> Result<Domain, NoMemory>
     }
 }
 
-fn resumed_events(alloc: Global, live: &Live, op: &Op) -> Result<Told, NoMemory>
-    ensures { IfOk result (λ told. told ≡ resumed_events live.now op.now) }
+fn resume_events(alloc: Global, live: &Live, op: &Op) -> Result<Told, NoMemory>
+    ensures { IfOk result (λ told. told ≡ resume_events live.now op.now) }
 {
     tell_listeners(alloc, resumes(live, op), RESUMED_UNPAUSED)
-}
-
-// snap1, snap2 and so on.
-fn numbered_name(alloc: Global, n: u64) -> Result<Name, NoMemory>
-    ensures { IfOk result (λ name. name ≡ numbered_name n) }
-{
-    let text = format!(in alloc; "snap{n}")?;
-    match Name::read(alloc, text.as_bytes()) {
-        Ok(name) => Ok(name),
-        Err(_) => Err(NoMemory),
-    }
-}
-
-fn free_number(alloc: Global, steps: &[Snap], snaps: &[Snap], n: u64) -> Result<u64, NoMemory>
-    ensures { IfOk result (λ free. free ≡ free_number steps.now snaps.now n) }
-{
-    match steps {
-        [] => Ok(n),
-        [_step, rest @ ..] => {
-            if has_snapshot(snaps, &numbered_name(alloc, n)?) {
-                match n.checked_add(1) {
-                    None => Err(NoMemory),
-                    Some(after) => free_number(alloc, rest, snaps, after),
-                }
-            } else {
-                Ok(n)
-            }
-        }
-    }
-}
-
-fn free_name(alloc: Global, snaps: &[Snap]) -> Result<Name, NoMemory>
-    ensures { IfOk result (λ name. name ≡ numbered_name (free_number snaps.now snaps.now 1)) }
-{
-    numbered_name(alloc, free_number(alloc, snaps, snaps, 1)?)
-}
-
-/// The name of a new snapshot.
-pub fn snapshot_name(alloc: Global, domain: &Domain, info: &SnapInfo) -> Result<Name, NoMemory>
-    ensures { IfOk result (λ name. name ≡ snapshot_name domain.now info.now) }
-{
-    match &info.name {
-        None => free_name(alloc, domain.snaps.as_slice()),
-        Some(name) => name.copy(),
-    }
 }
 
 // A new snapshot, before it is added.
@@ -439,10 +431,10 @@ fn live_taken(
 ) -> Result<PhaseStep, NoMemory>
     ensures { IfOk result (λ step. step ≡ live_taken domain.now live.now op.now info.now value.now) }
 {
-    let saved = taken(alloc, value)?;
+    let saved = copied_bytes(alloc, value)?;
     let next = snapshot_taken(
         alloc,
-        &resumed(domain, live, op)?,
+        &with_guest_resumed(domain, live, op)?,
         info,
         Some(run_as(op.was_running)),
         &live.def,
@@ -450,7 +442,7 @@ fn live_taken(
     )?;
     Ok(over(
         State::Held(next),
-        resumed_events(alloc, live, op)?,
+        resume_events(alloc, live, op)?,
         name_told(alloc, domain, info)?,
     ))
 }
@@ -463,11 +455,11 @@ fn resumed_over(
     op: &Op,
     reply: Reply,
 ) -> Result<PhaseStep, NoMemory>
-    ensures { IfOk result (λ step. step ≡ over (state.Held (resumed domain.now live.now op.now)) (resumed_events live.now op.now) reply) }
+    ensures { IfOk result (λ step. step ≡ over (state.Held (with_guest_resumed domain.now live.now op.now)) (resume_events live.now op.now) reply) }
 {
     Ok(over(
-        State::Held(resumed(domain, live, op)?),
-        resumed_events(alloc, live, op)?,
+        State::Held(with_guest_resumed(domain, live, op)?),
+        resume_events(alloc, live, op)?,
         reply,
     ))
 }
@@ -564,8 +556,24 @@ fn after_make(kind: OpKind) -> Phase
 {
     match kind {
         OpKind::Start => Phase::Run,
+        OpKind::MigrateIn => Phase::MigrateLoad,
         _ => Phase::Load,
     }
+}
+
+fn migration_done_of(
+    alloc: Global,
+    domain: &Domain,
+    live: &Live,
+    op: &Op,
+    call: &Call,
+    answers: &[Answer],
+    phase: Phase,
+) -> Result<PhaseStep, NoMemory>
+    ensures { IfOk result (λ step. step ≡ migration_done domain.now live.now op.now call.now answers.now (led_to op.now) phase) }
+{
+    let led = led_to(alloc, op)?;
+    migration_done(alloc, domain, live, op, call, answers, led, phase)
 }
 
 /// A phase on a guest, where each answer is Ok.
@@ -590,5 +598,6 @@ pub fn live_phase_done(
         Phase::Take => take_done(alloc, domain, live, op, call, answers),
         Phase::Quit => quit_done(alloc, domain, live, call),
         Phase::Cancel => cancel_done(alloc, domain, live, op),
+        _ => migration_done_of(alloc, domain, live, op, call, answers, phase),
     }
 }

@@ -1,13 +1,15 @@
 // A whole phase of an operation at one place of a history, with all its answers given at once.
 ghost use Rattle.std.specs.Prelude.{◌≡◌, [], IfOk};
 ghost use Rattle.domain_spec.specs.CopyResult.{over};
+ghost use Rattle.domain_spec.specs.Migration.{rests};
 ghost use Rattle.domain_spec.specs.Operation.{led_to};
-ghost use Rattle.domain_spec.specs.Phase.{answered, answered_phase, ended_reply, inactive_phase_done, inactive_phase_refused, inactive_take_done, inactive_taken, live_phase_refused, phase_asked, phase_done, phase_in, phase_of, phase_on, phase_refused, phase_still_asked, plan_in, plan_on, quit_was_done, reverted, start_failed, without_operation};
+ghost use Rattle.domain_spec.specs.Phase.{answered_phase, ended_reply, inactive_phase_done, inactive_phase_refused, inactive_take_done, inactive_taken, live_phase_refused, migration_refused, phase_asked, phase_done, phase_in, phase_of, phase_on, phase_refused, phase_still_asked, plan_in, plan_on, quit_was_done, reverted, start_failed, without_operation};
 ghost use Rattle.domain_spec.specs.Refusals.{no_domain};
 ghost use Rattle.domain_spec.specs.Types.phase;
 ghost use Rattle.domain_spec.specs.Types.reply;
 ghost use Rattle.domain_spec.specs.Types.state;
 
+use crate::migration::rests;
 use crate::phase_plans::phase_plan;
 use crate::phase_results::{
     cancels, current_after, led_to, live_phase_done, name_told, over, over_quietly, snapshot_taken,
@@ -132,6 +134,40 @@ fn load_refused(
     }
 }
 
+// The operation rests again, and the domain stays as it is.
+fn rests_refused(
+    alloc: Global,
+    domain: &Domain,
+    op: &Op,
+    refusal: Refusal,
+) -> Result<PhaseStep, NoMemory>
+    ensures { IfOk result (λ step. step ≡ rests domain.now op.now [] (reply.No refusal)) }
+{
+    rests(domain, op, ListOf::new(alloc), Reply::No(refusal))
+}
+
+fn migration_refused(
+    alloc: Global,
+    domain: &Domain,
+    live: &Live,
+    op: &Op,
+    refusal: Refusal,
+    phase: Phase,
+) -> Result<PhaseStep, NoMemory>
+    ensures { IfOk result (λ step. step ≡ migration_refused domain.now live.now op.now refusal phase) }
+{
+    match phase {
+        Phase::MigrateLoad => start_failed(alloc, domain, live, refusal),
+        Phase::MigrateTake => cancels(alloc, domain, op, refusal),
+        Phase::MigrateCancel => ended_as_led(alloc, domain, op),
+        Phase::MigrateQuit => rests_refused(alloc, domain, op, refusal),
+        Phase::MigrateBack => rests_refused(alloc, domain, op, refusal),
+        Phase::MigrateRun => rests_refused(alloc, domain, op, refusal),
+        Phase::MigrateDrop => rests_refused(alloc, domain, op, refusal),
+        _ => given_up(alloc, domain, refusal),
+    }
+}
+
 fn live_phase_refused(
     alloc: Global,
     domain: &Domain,
@@ -148,6 +184,7 @@ fn live_phase_refused(
         Phase::Load => load_refused(alloc, domain, live, op, refusal),
         Phase::Poll | Phase::Take | Phase::Quit => cancels(alloc, domain, op, refusal),
         Phase::Cancel => ended_as_led(alloc, domain, op),
+        _ => migration_refused(alloc, domain, live, op, refusal, phase),
     }
 }
 
@@ -218,18 +255,6 @@ fn answered_phase(
     }
 }
 
-fn answered(
-    alloc: Global,
-    domain: &Domain,
-    op: &Op,
-    call: &Call,
-    answers: &[Answer],
-) -> Result<PhaseStep, NoMemory>
-    ensures { IfOk result (λ step. step ≡ answered domain.now op.now call.now answers.now) }
-{
-    answered_phase(alloc, domain, op, call, answers, &first_bad(answers)?)
-}
-
 fn quit_was_done(call: &Call, outcome: &Outcome, answers: &[Answer]) -> Result<bool, NoMemory>
     ensures { IfOk result (λ was. was ≡ quit_was_done call.now outcome.now answers.now) }
 {
@@ -268,7 +293,7 @@ fn phase_on(
 {
     match &domain.op {
         None => given_up(alloc, domain, no_domain(alloc)?),
-        Some(op) => answered(alloc, domain, op, call, answers),
+        Some(op) => answered_phase(alloc, domain, op, call, answers, &first_bad(answers)?),
     }
 }
 

@@ -1,131 +1,89 @@
 // Copies of a guest's state that are given up, and one whose guest is suspended meanwhile.
-use crate::cell::{Cell, shows};
-use crate::deeds::Asked::{Abort, Dump, Save, Suspend};
-use crate::deeds::Deed::{Call, GoOn};
-use crate::deeds::Said::{Copied, Done, Number, Refused};
-use crate::deeds::row;
-use crate::fixtures::running;
-use std::alloc::Global;
-use std::process::Abort as MayAbort;
+use crate::steps::Asked::{Abort, Dump, Save, Suspend};
+use crate::steps::Said::{Copied, Done, Number, Refused};
+use crate::steps::Step::{Call, GoOn};
+use crate::stories::{Begins, Story, all_show};
 use std::test::Fail;
-use virt_types::NoMemory;
 
-// A script: `slow 5`.
-#[test]
-fn a_save_that_is_aborted_after_its_second_poll(rt: HostRuntime) -> Result<(), Fail> {
-    Ok(shows(
-        &rt,
-        rt.alloc(),
-        running(rt.alloc()),
-        &[
-            row(
+const COPIES: &[Story] = &[
+    // A script: `slow 5`.
+    Story {
+        name: "a save that is aborted after its second poll",
+        begins: Begins::Running,
+        rows: &[
+            (
                 Call(Save("s")),
                 &[Done, Done, Number(4), Number(3)],
                 "copy: Stop CopyBegin (3,0) | poll: CopyPoll | poll: CopyPoll | due poll | paused",
             ),
-            row(Call(Abort), &[], "| Ok | paused"),
-            row(
+            (Call(Abort), &[], "| Ok | paused"),
+            (
                 GoOn,
                 &[Done, Done],
                 "poll: | cancel: CopyCancel Cont (4,0) | 78 | running",
             ),
-            row(Call(Abort), &[], "| 55 running | running"),
+            (Call(Abort), &[], "| 55 running | running"),
         ],
-    )?)
-}
-
-const BEGUN: &str = "copy: Stop CopyBegin (3,0) | poll: CopyPoll | due poll | paused";
-
-// The save of a running `a` whose polls see 5 left and no less, after the first poll and so many more.
-fn stalling(rt: &impl MayAbort, alloc: Global, more: usize) -> Result<Cell, NoMemory> {
-    let mut a = running(alloc)?;
-    a.shows(
-        rt,
-        alloc,
-        &row(Call(Save("s")), &[Done, Done, Number(5)], BEGUN),
-    )?;
-    for _ in 0..more {
-        a.shows(
-            rt,
-            alloc,
-            &row(GoOn, &[Number(5)], "poll: CopyPoll | due poll | paused"),
-        )?;
-    }
-    Ok(a)
-}
-
-// A script: `slow 5; stall`. The first poll compares with nothing, and the next 64 see no less left.
-#[test]
-fn a_save_that_makes_no_headway_in_64_polls(rt: HostRuntime) -> Result<(), Fail> {
-    Ok(shows(
-        &rt,
-        rt.alloc(),
-        stalling(&rt, rt.alloc(), 63),
-        &[row(
+    },
+    // A script: `slow 5; stall`. The first poll compares with nothing, and the next 64 see no less left.
+    Story {
+        name: "a save that makes no headway in 64 polls",
+        begins: Begins::Stalling,
+        rows: &[(
             GoOn,
             &[Number(5), Done, Done],
             "poll: CopyPoll | poll: | cancel: CopyCancel Cont (4,0) | 207 5 | running",
         )],
-    )?)
-}
-
-#[test]
-fn a_save_that_makes_headway_at_last(rt: HostRuntime) -> Result<(), Fail> {
-    Ok(shows(
-        &rt,
-        rt.alloc(),
-        stalling(&rt, rt.alloc(), 63),
-        &[
-            row(GoOn, &[Number(4)], "poll: CopyPoll | due poll | paused"),
-            row(GoOn, &[Number(4)], "poll: CopyPoll | due poll | paused"),
+    },
+    Story {
+        name: "a save that makes headway at last",
+        begins: Begins::Stalling,
+        rows: &[
+            (GoOn, &[Number(4)], "poll: CopyPoll | due poll | paused"),
+            (GoOn, &[Number(4)], "poll: CopyPoll | due poll | paused"),
         ],
-    )?)
-}
-
-#[test]
-fn a_dump_whose_guest_is_suspended_meanwhile(rt: HostRuntime) -> Result<(), Fail> {
-    Ok(shows(
-        &rt,
-        rt.alloc(),
-        running(rt.alloc()),
-        &[
-            row(
+    },
+    Story {
+        name: "a dump whose guest is suspended meanwhile",
+        begins: Begins::Running,
+        rows: &[
+            (
                 Call(Dump("d")),
                 &[Done, Done, Number(0)],
                 "copy: Stop CopyBegin (3,0) | poll: CopyPoll | due take | paused",
             ),
-            row(Call(Suspend), &[], "| Ok | paused"),
-            row(
+            (Call(Suspend), &[], "| Ok | paused"),
+            (
                 GoOn,
                 &[Copied, Done],
                 "take: CopyTake WriteImage(running 8) | Ok | paused",
             ),
         ],
-    )?)
-}
-
-#[test]
-fn refusals_on_the_way_of_a_dump(rt: HostRuntime) -> Result<(), Fail> {
-    Ok(shows(
-        &rt,
-        rt.alloc(),
-        running(rt.alloc()),
-        &[
-            row(
+    },
+    Story {
+        name: "refusals on the way of a dump",
+        begins: Begins::Running,
+        rows: &[
+            (
                 Call(Dump("d")),
                 &[Done, Refused(1), Done],
                 "copy: Stop CopyBegin Cont | 9 class 1 | running",
             ),
-            row(
+            (
                 Call(Dump("d")),
                 &[Done, Done, Refused(1), Done, Done],
                 "copy: Stop CopyBegin (3,0) | poll: CopyPoll | cancel: CopyCancel Cont (4,0) | 9 class 1 | running",
             ),
-            row(
+            (
                 Call(Dump("d")),
                 &[Done, Done, Number(0), Copied, Refused(1), Refused(2)],
                 "copy: Stop CopyBegin (3,0) | poll: CopyPoll | take: CopyTake WriteImage(running 8) | cancel: CopyCancel | 9 class 1 | paused",
             ),
         ],
-    )?)
+    },
+];
+
+#[test]
+fn copies_are_given_up(rt: HostRuntime) -> Result<(), Fail> {
+    Ok(all_show(&rt, rt.alloc(), COPIES)?)
 }

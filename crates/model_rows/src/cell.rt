@@ -1,9 +1,13 @@
-// A cell of a domain, under one deed after the other. Each gives its row.
-use crate::deeds::{Deed, Wanted, answers_of, call_of};
+// A cell of a domain, at one step after the other. Each gives its row.
 use crate::notation::{call_row, operation_row, snapshot_row, told_row};
+use crate::steps::{Row, Step, answers_of, call_of};
 use domain_spec::{OpenOperation, Outcome, Progress};
-use model_calls::{asked, begin_state, due_phase, goes_on_as_operation, seq, still_asked};
+use model_calls::{
+    asked, begin_state, due_phase, goes_on_as_operation, named_call, seq, still_asked,
+    taken_up_state,
+};
 use model_domain::exits::{event_state, event_transitions, exit_state, exit_transitions};
+use model_domain::jobs::{kind_of_call, phase_taken_up, takes_up};
 use model_domain::reading::live_boot;
 use model_phases::{whole_operation, without_operation};
 use std::alloc::Global;
@@ -99,12 +103,16 @@ impl Cell {
         if goes_on_as_operation(alloc, &self.state, &call, boot)? {
             self.begin(alloc, call)?;
             self.go_on(alloc, answers)
+        } else if self.rests_for(&call) {
+            self.take_up(call)?;
+            self.go_on(alloc, answers)
         } else {
             self.call(alloc, &call, answers)
         }
     }
 
     fn begin(&mut self, alloc: Global, call: Call) -> Result<(), NoMemory> {
+        let call = named_call(alloc, &self.state, &call)?;
         self.state = begin_state(alloc, &self.state, CALLER, &call)?;
         self.operation = Some(OpenOperation {
             number: 1,
@@ -113,6 +121,26 @@ impl Cell {
             boot: live_boot(&self.state),
             outcome: Outcome::On(due_phase(&self.state)),
         });
+        Ok(())
+    }
+
+    // Whether the operation rests that a call takes up.
+    fn rests_for(&self, call: &Call) -> bool {
+        match (takes_up(call), &self.operation) {
+            (Some(kind), Some(operation)) => {
+                matches!(operation.outcome, Outcome::Rest(_))
+                    && kind_of_call(&operation.call) == Some(kind)
+            }
+            _ => false,
+        }
+    }
+
+    fn take_up(&mut self, call: Call) -> Result<(), NoMemory> {
+        self.state = taken_up_state(&self.state, CALLER, &call)?;
+        if let Some(operation) = &mut self.operation {
+            operation.outcome = Outcome::On(phase_taken_up(&call));
+            operation.call = call;
+        }
         Ok(())
     }
 
@@ -137,6 +165,12 @@ impl Cell {
                     operation.outcome = Outcome::On(*phase);
                 }
             }
+            Outcome::Rest(reply) => {
+                self.state = progress.state.copy()?;
+                if let Some(operation) = &mut self.operation {
+                    operation.outcome = Outcome::Rest(reply.copy()?);
+                }
+            }
             Outcome::Over(_) => {
                 self.state = without_operation(&progress.state)?;
                 self.operation = None;
@@ -159,51 +193,39 @@ impl Cell {
         told_row(alloc, told.as_slice(), &self.state)
     }
 
-    fn deed_row(
+    fn step_row(
         &mut self,
         alloc: Global,
-        deed: Deed,
+        step: Step,
         answers: &[Answer],
     ) -> Result<String, NoMemory> {
-        match deed {
-            Deed::Call(asked) => self.operate(alloc, call_of(alloc, asked)?, answers),
-            Deed::CallOn(boot, asked) => {
+        match step {
+            Step::Call(asked) => self.operate(alloc, call_of(alloc, asked)?, answers),
+            Step::CallOn(boot, asked) => {
                 self.call_on(alloc, &call_of(alloc, asked)?, boot, answers)
             }
-            Deed::MetByEnd(why, asked) => {
+            Step::MetByEnd(why, asked) => {
                 self.call_met_by_end(alloc, &call_of(alloc, asked)?, answers, why)
             }
-            Deed::GoOn => self.go_on(alloc, answers),
-            Deed::Exit(why) => self.exit(alloc, why),
-            Deed::Event(event) => self.event(alloc, event),
-            Deed::Snapshots => snapshot_row(alloc, &self.state),
+            Step::GoOn => self.go_on(alloc, answers),
+            Step::Exit(why) => self.exit(alloc, why),
+            Step::Event(event) => self.event(alloc, event),
+            Step::Snapshots => snapshot_row(alloc, &self.state),
         }
     }
 
-    /// The deed is done, and its row is that one.
+    /// The step is done, and its row is that one.
     pub(crate) fn shows(
         &mut self,
         rt: &impl Abort,
         alloc: Global,
-        wanted: &Wanted<'_>,
+        name: &str,
+        row: Row,
     ) -> Result<(), NoMemory> {
-        let answers = answers_of(alloc, wanted.said)?;
-        let row = self.deed_row(alloc, wanted.deed, answers.as_slice())?;
-        assert_eq!(rt; row.as_str(), wanted.row);
+        let (step, said, wanted) = row;
+        let answers = answers_of(alloc, said)?;
+        let shown = self.step_row(alloc, step, answers.as_slice())?;
+        assert_eq!(rt; shown.as_str(), wanted, "{}", name);
         Ok(())
     }
-}
-
-/// The deeds are done one after the other, and each has its row.
-pub(crate) fn shows(
-    rt: &impl Abort,
-    alloc: Global,
-    cell: Result<Cell, NoMemory>,
-    rows: &[Wanted<'_>],
-) -> Result<(), NoMemory> {
-    let mut cell = cell?;
-    for row in rows {
-        cell.shows(rt, alloc, row)?;
-    }
-    Ok(())
 }

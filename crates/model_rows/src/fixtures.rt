@@ -1,12 +1,11 @@
 // The domain `a` and what is asked and answered of it.
 use crate::cell::Cell;
 use std::alloc::Global;
-use std::process::Abort;
 use virt_types::{
-    Answer, AnswerValue, Bytes, Call, CrashAction, DeviceDef, Disk, DiskDevice, DiskTarget,
-    DiskType, Domain, DomainDef, DomainType, Interface, InterfaceSource, InterfaceType,
-    LifecycleAction, ListOf, Live, Mac, Name, NoMemory, Os, RunState, Script, Snap, SnapInfo,
-    State, Text, Uuid, both,
+    Answer, AnswerValue, Bytes, CrashAction, DeviceDef, Disk, DiskDevice, DiskTarget, DiskType,
+    Domain, DomainDef, DomainType, Interface, InterfaceSource, InterfaceType, LifecycleAction,
+    ListOf, Live, Mac, Name, NoMemory, Os, RunState, Script, Snap, SnapInfo, State, Text, Uuid,
+    both,
 };
 
 pub(crate) fn name(alloc: Global, text: &str) -> Result<Name, NoMemory> {
@@ -157,23 +156,6 @@ pub(crate) fn disk(alloc: Global, target: &str) -> Result<DeviceDef, NoMemory> {
         },
         readonly: false,
     }))
-}
-
-/// `a` runs, and thirty disks were attached: vd2 to vd31, each at the slot of its number.
-pub(crate) fn full_of_disks(rt: &impl Abort, alloc: Global) -> Result<Cell, NoMemory> {
-    let mut a = running(alloc)?;
-    for slot in 2..32 {
-        let target = format!(in alloc; "vd{slot}")?;
-        let attach = Call::Attach(disk(alloc, target.as_str())?);
-        let row = a.call_on(alloc, &attach, Some(1), &[done(), done()])?;
-        let wanted = format!(in alloc; "AddBackend({slot}) AddDevice({slot}) | Ok | running")?;
-        assert_eq!(rt; row.as_str(), wanted.as_str());
-    }
-    Ok(a)
-}
-
-fn done() -> Answer {
-    Answer::Ok(AnswerValue::Nothing)
 }
 
 /// A snapshot that is to have this name.

@@ -11,16 +11,20 @@ mod boots;
 #[cfg(test)]
 mod cell;
 #[cfg(test)]
-mod deeds;
-#[cfg(test)]
 mod fixtures;
 #[cfg(test)]
 mod hot_plug;
 #[cfg(test)]
 mod lost_guests;
 #[cfg(test)]
+mod migrations;
+#[cfg(test)]
 mod notation;
 #[cfg(test)]
 mod saves;
 #[cfg(test)]
 mod snapshots;
+#[cfg(test)]
+mod steps;
+#[cfg(test)]
+mod stories;

@@ -3,7 +3,8 @@ use crate::asks::{put, put_asks};
 use domain_spec::{CallStep, DonePhase, Outcome, Progress};
 use std::alloc::Global;
 use virt_types::{
-    Ask, Name, NoMemory, Phase, Refusal, Reply, RunState, Snap, State, Transition, Value,
+    Ask, MigratedGuest, Name, NoMemory, Phase, Refusal, Reply, RunState, Snap, State, Transition,
+    Value,
 };
 
 fn put_told(alloc: Global, text: &mut String, told: &[Transition]) -> Result<(), NoMemory> {
@@ -11,6 +12,22 @@ fn put_told(alloc: Global, text: &mut String, told: &[Transition]) -> Result<(),
         let event = transition.event;
         let detail = transition.detail;
         put(text, format!(in alloc; "({event},{detail}) ")?.as_str())?;
+    }
+    Ok(())
+}
+
+// Whether a guest that leaves ran, and its state in hexadecimal digits.
+fn put_leaving(alloc: Global, text: &mut String, guest: &MigratedGuest) -> Result<(), NoMemory> {
+    put(
+        text,
+        if guest.running {
+            " running "
+        } else {
+            " paused "
+        },
+    )?;
+    for byte in guest.state.as_slice() {
+        put(text, format!(in alloc; "{byte:02x}")?.as_str())?;
     }
     Ok(())
 }
@@ -25,6 +42,7 @@ fn put_value(alloc: Global, text: &mut String, value: &Value) -> Result<(), NoMe
             put(text, " ")?;
             put(text, name.as_str())
         }
+        Value::MigratedGuest(guest) => put_leaving(alloc, text, guest.as_ref()),
         Value::Memory(kib) => put(text, format!(in alloc; " {kib}")?.as_str()),
         _ => Ok(()),
     }
@@ -61,6 +79,15 @@ fn phase_word(phase: Phase) -> &'static str {
         Phase::Take => "take",
         Phase::Quit => "quit",
         Phase::Cancel => "cancel",
+        Phase::MigrateCopy => "mcopy",
+        Phase::MigrateTake => "mtake",
+        Phase::MigrateCancel => "mcancel",
+        Phase::MigrateLoad => "mload",
+        Phase::Resting => "resting",
+        Phase::MigrateQuit => "mquit",
+        Phase::MigrateBack => "mback",
+        Phase::MigrateRun => "mrun",
+        Phase::MigrateDrop => "mdrop",
     }
 }
 
@@ -86,6 +113,10 @@ fn put_outcome(alloc: Global, text: &mut String, outcome: &Outcome) -> Result<()
             put(text, phase_word(*phase))
         }
         Outcome::Over(reply) => put_reply(alloc, text, reply),
+        Outcome::Rest(reply) => {
+            put(text, "rests ")?;
+            put_reply(alloc, text, reply)
+        }
     }
 }
 

@@ -1,4 +1,4 @@
-use Rattle.model_domain.proofs.Masks.{admits_query, admits_destroy, admits_abort, admits_suspend, admits_no_modify, admits_no_nested}
+use Rattle.model_domain.proofs.Masks.{admits_query, admits_destroy, admits_abort, admits_suspend, admits_no_modify, admits_no_nested, admits_no_migration}
 use Rattle.model_domain.proofs.jobs.dump_admits.Goals as goal
 
 pub returns-in-Query : goal.returns-in-Query
@@ -18,3 +18,6 @@ returns-in-Modify c = rw c.in-Modify.is admits_no_modify
 
 pub returns-in-Nested : goal.returns-in-Nested
 returns-in-Nested c = rw c.in-Nested.is admits_no_nested
+
+pub returns-in-MigrationOp : goal.returns-in-MigrationOp
+returns-in-MigrationOp c = rw c.in-MigrationOp.is admits_no_migration

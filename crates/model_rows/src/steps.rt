@@ -1,4 +1,4 @@
-// What rows are made of, in words that can be copied: a deed, what is answered, and its row.
+// What rows are made of, in words that need no memory: a step, what is answered, and its row.
 use crate::fixtures::{copied, definition, disk, interface, name, saved, snapshot};
 use std::alloc::Global;
 use virt_types::{
@@ -35,13 +35,19 @@ pub(crate) enum Asked {
     Snapshot(&'static str),
     SnapshotUnnamed,
     Revert(&'static str),
+    Perform,
+    Confirm(bool),
+    PrepareRunning,
+    PreparePaused,
+    Finish(bool),
+    Limit(u64),
 }
 
 /// What happens to a cell.
 #[derive(Clone, Copy)]
-pub(crate) enum Deed {
-    /// A call that carries the live boot. Where it begins an operation, the phases follow as far as
-    /// the answers go.
+pub(crate) enum Step {
+    /// A call that carries the live boot. Where it begins an operation or takes one up, the phases follow
+    /// as far as the answers go.
     Call(Asked),
     /// A call that carries this boot.
     CallOn(Option<u64>, Asked),
@@ -66,6 +72,8 @@ pub(crate) enum Said {
     Number(u64),
     /// It was done and gives a copy of eight bytes.
     Copied,
+    /// It was done and gives a copy of a guest of 1048576 KiB.
+    CopiedLarge,
     /// It was done and gives a copy of so many bytes.
     CopiedLong(usize),
     /// It was refused, with this class.
@@ -80,18 +88,8 @@ pub(crate) enum Said {
     NoMemory,
 }
 
-/// A deed with its answers, and its row.
-#[derive(Clone, Copy)]
-pub(crate) struct Wanted<'a> {
-    pub(crate) deed: Deed,
-    pub(crate) said: &'a [Said],
-    pub(crate) row: &'a str,
-}
-
-/// A deed with its answers, and its row.
-pub(crate) fn row<'a>(deed: Deed, said: &'a [Said], row: &'a str) -> Wanted<'a> {
-    Wanted { deed, said, row }
-}
+/// A step with its answers, and its row.
+pub(crate) type Row = (Step, &'static [Said], &'static str);
 
 fn restore(alloc: Global, running: bool) -> Result<Call, NoMemory> {
     Ok(Call::Restore {
@@ -99,6 +97,19 @@ fn restore(alloc: Global, running: bool) -> Result<Call, NoMemory> {
         running,
         saved: saved(alloc)?,
     })
+}
+
+fn prepare(alloc: Global, running: bool) -> Result<Call, NoMemory> {
+    Ok(Call::Prepare {
+        definition: definition(alloc)?,
+        running,
+        saved: saved(alloc)?,
+    })
+}
+
+fn large(alloc: Global) -> Result<Answer, NoMemory> {
+    let bytes = Bytes::copy_of(alloc, &[0, 0, 0, 0, 0, 0x10, 0, 0])?;
+    Ok(Answer::Ok(AnswerValue::Bytes(bytes)))
 }
 
 fn delete(alloc: Global, text: &str, children: bool) -> Result<Call, NoMemory> {
@@ -144,6 +155,12 @@ pub(crate) fn call_of(alloc: Global, asked: Asked) -> Result<Call, NoMemory> {
         Asked::Snapshot(text) => Ok(Call::Snapshot(snapshot(alloc, text)?)),
         Asked::SnapshotUnnamed => Ok(unnamed()),
         Asked::Revert(text) => Ok(Call::Revert(name(alloc, text)?)),
+        Asked::Perform => Ok(Call::Perform),
+        Asked::Confirm(verdict) => Ok(Call::Confirm(verdict)),
+        Asked::PrepareRunning => prepare(alloc, true),
+        Asked::PreparePaused => prepare(alloc, false),
+        Asked::Finish(go) => Ok(Call::Finish(go)),
+        Asked::Limit(rest) => Ok(Call::Limit(rest)),
     }
 }
 
@@ -160,6 +177,7 @@ fn answer_of(alloc: Global, said: Said) -> Result<Answer, NoMemory> {
         Said::Done => Ok(Answer::Ok(AnswerValue::Nothing)),
         Said::Number(n) => Ok(Answer::Ok(AnswerValue::Number(n))),
         Said::Copied => copied(alloc),
+        Said::CopiedLarge => large(alloc),
         Said::CopiedLong(length) => of_length(alloc, length),
         Said::Refused(class) => Ok(Answer::Refused(class)),
         Said::Crashed => Ok(Answer::Ended(EndReason::Crashed)),
