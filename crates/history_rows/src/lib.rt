@@ -7,6 +7,10 @@ mod bases;
 #[cfg(test)]
 mod calls;
 #[cfg(test)]
+mod chapters;
+#[cfg(test)]
+mod destroys;
+#[cfg(test)]
 mod ends;
 #[cfg(test)]
 mod fixtures;

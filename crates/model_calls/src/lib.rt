@@ -11,4 +11,4 @@ mod results;
 pub use begin::{begin_state, due_phase, named_call, taken_up_state};
 pub use call_tests::refusal_of;
 pub use calls::{asked, goes_on_as_operation, meets_ended, seq, still_asked};
-pub use results::refused;
+pub use results::{new_domain, refused};

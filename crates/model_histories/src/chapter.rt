@@ -1,10 +1,13 @@
-// What stands at the beginning of a chapter.
-ghost use Rattle.std.specs.Prelude.{◌≡◌, ◌+◌, ◌++◌, IfOk, length};
+// What chapters begin with, and what stands there.
+ghost use Rattle.std.specs.Prelude.{◌≡◌, ◌+◌, ◌++◌, IfOk, Some, length};
+ghost use Rattle.domain_spec.specs.Chapter as chapter;
 ghost use Rattle.domain_spec.specs.Fold as fold;
 
-use domain_spec::{Base, Client, Registration, Standing};
+use domain_spec::{Base, Client, OpenOperation, Registration, Standing};
+use model_calls::new_domain;
+use model_phases::copy_of_operation;
 use std::alloc::Global;
-use virt_types::{ListOf, NoMemory};
+use virt_types::{DomainDef, ListOf, NoMemory, State, TryCopy};
 
 // How many transitions a registration was given, as far as they can be counted.
 fn given(registration: &Registration) -> Result<u64, NoMemory>
@@ -51,7 +54,7 @@ fn with_registered(
     }
 }
 
-/// What stands at the beginning of a chapter.
+/// What chapters begin with, and what stands there.
 pub fn at_base(alloc: Global, base: Base) -> Result<Standing, NoMemory>
     ensures { IfOk result (λ standing. standing ≡ fold.at_base base) }
 {
@@ -63,5 +66,62 @@ pub fn at_base(alloc: Global, base: Base) -> Result<Standing, NoMemory>
         operation: base.operation,
         lost: None,
         clients,
+    })
+}
+
+fn stored_domain(alloc: Global, def: DomainDef, autostart: bool) -> Result<State, NoMemory>
+    ensures { IfOk result (λ state. state ≡ chapter.opened_state (Some def) autostart) }
+{
+    let mut domain = new_domain(alloc, &def, 0)?;
+    domain.stored = Some(def);
+    domain.autostart = autostart;
+    Ok(State::Held(domain))
+}
+
+fn opened_state(
+    alloc: Global,
+    stored: Option<DomainDef>,
+    autostart: bool,
+) -> Result<State, NoMemory>
+    ensures { IfOk result (λ state. state ≡ chapter.opened_state stored autostart) }
+{
+    match stored {
+        None => Ok(State::Vacant { boots: 0 }),
+        Some(def) => stored_domain(alloc, def, autostart),
+    }
+}
+
+/// What the first chapter begins with, by what the store was opened with.
+pub fn first_base(
+    alloc: Global,
+    stored: Option<DomainDef>,
+    autostart: bool,
+) -> Result<Base, NoMemory>
+    ensures { IfOk result (λ base. base ≡ chapter.first_base stored autostart) }
+{
+    Ok(Base {
+        state: opened_state(alloc, stored, autostart)?,
+        operation: None,
+        registrations: ListOf::new(alloc),
+    })
+}
+
+fn copied_operation(operation: &Option<OpenOperation>) -> Result<Option<OpenOperation>, NoMemory>
+    ensures { IfOk result (λ it. it ≡ operation.now) }
+{
+    match operation {
+        None => Ok(None),
+        Some(operation) => Ok(Some(copy_of_operation(operation)?)),
+    }
+}
+
+/// What the next chapter begins with, where one ends that left this.
+pub fn next_base(s: &Standing, registrations: ListOf<Registration>) -> Result<Base, NoMemory>
+    ensures { IfOk result (λ base. base ≡ chapter.next_base s.now registrations) }
+{
+    Ok(Base {
+        state: s.state.copy()?,
+        operation: copied_operation(&s.operation)?,
+        registrations,
     })
 }

@@ -104,7 +104,8 @@ fn is_own_job(operation: &Option<OpenOperation>, number: u64, wanted: Job, call:
     }
 }
 
-fn is_known_boot(boots: u64, boot: Option<u64>) -> bool
+/// Whether a boot was numbered, where the cell has had so many.
+pub fn is_known_boot(boots: u64, boot: Option<u64>) -> bool
     ensures { IsTrue result ↔ IsKnownBoot boots boot }
 {
     match boot {

@@ -3,6 +3,7 @@
 #![tactic(auto)]
 
 mod calls;
+mod carried;
 mod chapter;
 mod clients;
 mod history;
@@ -14,7 +15,8 @@ mod operations;
 mod outcome;
 mod take_up;
 
-pub use chapter::at_base;
+pub use carried::{is_boot_or_before, is_boot_since};
+pub use chapter::{at_base, first_base, next_base};
 pub use history::{Verdict, judge, standing_after, state_after};
 pub use legal::is_lawful;
 pub use listener::{owed, owed_at_base, owed_since};

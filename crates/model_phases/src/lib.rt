@@ -8,5 +8,5 @@ mod phase_plans;
 mod phase_results;
 mod phases;
 
-pub use operations::{lost_boot, whole_operation};
+pub use operations::{copy_of_operation, lost_boot, whole_operation};
 pub use phases::{phase_asked, phase_of, phase_still_asked, without_operation};

@@ -207,7 +207,8 @@ fn take_answers(alloc: Global, at: &mut Progress, answers: &[Answer]) -> Result<
     }
 }
 
-fn copy_of_operation(operation: &OpenOperation) -> Result<OpenOperation, NoMemory>
+/// A copy of an open operation.
+pub fn copy_of_operation(operation: &OpenOperation) -> Result<OpenOperation, NoMemory>
     ensures { IfOk result (λ it. it ≡ operation.now) }
 {
     let (call, outcome) = both(operation.call.copy(), operation.outcome.copy())?;
