@@ -1,3 +1,5 @@
+pub mod WholeMoveProofs
+pub mod TurnProofs
 pub mod ChapterProofs
 pub mod WholeLifeProofs
 pub mod AskedProofs

@@ -1,3 +1,8 @@
+pub mod WholeMove
+pub mod Cell
+pub mod CanTake
+pub mod Steps
+pub mod Turns
 pub mod ChapterLaws
 pub mod Registrations
 pub mod Chapter

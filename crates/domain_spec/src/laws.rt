@@ -2,6 +2,8 @@
 ghost use Rattle.domain_spec.specs.CallLaws.{DestroyEnds, EndedOnlyWhereNotLive};
 ghost use Rattle.domain_spec.specs.ChapterLaws.{BaseKeeps, RegistrationsAgree, RisingGoesOn};
 ghost use Rattle.domain_spec.specs.HistoryLaws.{AskedStays, ClosedUnderItsNumber, OwedExactly, PhaseAskedStays};
+ghost use Rattle.domain_spec.specs.Turns.{EveryRunIsLegal};
+ghost use Rattle.domain_spec.specs.WholeMove.{MovesAreMade};
 ghost use Rattle.domain_spec.specs.WholeLife.{HasWholeLife};
 ghost use Rattle.domain_spec.specs.Laws.{BootsAreNew, BootsNeverFall, EachEndsOnce, OneJobAtATime, OneOperationAtATime, OperationsGoOn};
 
@@ -83,4 +85,14 @@ pub fn registrations_agree()
 /// The number that no mark lowers goes on from chapter to chapter.
 pub fn rising_goes_on()
     ensures { RisingGoesOn }
+{}
+
+/// Every list of steps ends in a legal history.
+pub fn every_run_is_legal()
+    ensures { EveryRunIsLegal }
+{}
+
+/// The rows of migrations hold for each domain and each caller.
+pub fn moves_are_made()
+    ensures { MovesAreMade }
 {}
