@@ -12,8 +12,8 @@ use Rattle.domain_spec.specs.Types.state
 use Rattle.domain_spec.specs.declared.step.CallStep.{CallStep}
 use Rattle.domain_spec.specs.Asks.{first_bad, first_value}
 use Rattle.domain_spec.specs.Devices.{device_like, free_slot, without_placed, without_slot}
-use Rattle.domain_spec.specs.Exit.{event_held, event_state, exit_held, exit_state}
-use Rattle.domain_spec.specs.Reading.{boot_in, is_crashed, is_paused, is_running, live_boot, settled_by, with_run}
+use Rattle.domain_spec.specs.Exit.{can_resume, event_held, event_state, exit_held, exit_state}
+use Rattle.domain_spec.specs.Reading.{boot_in, is_crashed, is_running, live_boot, unless_gone_by, with_run}
 use Rattle.domain_spec.specs.CallResult.{attached, detached, ended, guest_step, held_step, live_step, memory_step, step_of}
 use Rattle.domain_spec.specs.Sequential.{answered_step, ended_step, meets_ended, seq, tested_step}
 use Rattle.domain_spec.specs.Tests.{refusal_of}
@@ -22,14 +22,14 @@ use Rattle.domain_spec.specs.Tests.{refusal_of}
 abbrev pub Stays : Option ℕ → State → Type 0
 Stays boot s = (live_boot s ≡ boot) ⊎ (live_boot s ≡ None)
 
-gone : (d : Domain) (l : Live) (why : EndReason) (stored : Option DomainDef) → live_boot (settled_by (record d { live = None; last = Some (l.boot, why) }) None stored) ≡ None
+pub gone : (d : Domain) (l : Live) (why : EndReason) (stored : Option DomainDef) → live_boot (unless_gone_by (record d { live = None; last = Some (l.boot, why) }) None stored) ≡ None
 gone d l why None = refl
 gone d l why (Some def) = refl
 
 pub ended_stays : (d : Domain) (l : Live) (why : EndReason) (boot : Option ℕ) → Stays boot (ended d l why)
 ended_stays d l why boot = inr (gone d l why d.stored)
 
-undefined_stays : (d : Domain) (live : Option Live) → Stays (boot_in d.live) (settled_by d live None)
+undefined_stays : (d : Domain) (live : Option Live) → Stays (boot_in d.live) (unless_gone_by d live None)
 undefined_stays d None = inr refl
 undefined_stays d (Some l) = inl refl
 
@@ -79,6 +79,7 @@ held_stays d (call.Define def) answers = inl refl
 held_stays d call.Undefine answers = undefined_stays (record d { stored = None; autostart = false }) d.live
 held_stays d (call.SetAutostart on) answers = inl refl
 held_stays d call.Abort answers = inl refl
+held_stays d (call.Limit rest) answers = inl refl
 held_stays d (call.SnapDelete name children) answers = inl refl
 held_stays d other answers = guest_stays d d.live other answers refl
 
@@ -121,7 +122,7 @@ live_boot-exit (state.Held d) why = exit_gone d d.live why refl
 event_stays : (d : Domain) (live : Option Live) (e : GuestEvent) → d.live ≡ live → Stays (boot_in live) (event_held d live e)
 event_stays d None e h = inl (ap boot_in h)
 event_stays d (Some l) guest.Stop h = choice_stays (is_running l.run) (state.Held (with_run d l (run.Paused cause.User))) (state.Held d) (Some l.boot) (inl refl) (inl (ap boot_in h))
-event_stays d (Some l) guest.Resume h = choice_stays (is_paused l.run) (state.Held (with_run d l run.Running)) (state.Held d) (Some l.boot) (inl refl) (inl (ap boot_in h))
+event_stays d (Some l) guest.Resume h = choice_stays (can_resume l.run) (state.Held (with_run d l run.Running)) (state.Held d) (Some l.boot) (inl refl) (inl (ap boot_in h))
 event_stays d (Some l) guest.Panic h = inl refl
 event_stays d (Some l) (guest.DeviceDeleted slot) h = inl (ap (λ (n : ℕ). Some n) (slot_boot l slot))
 event_stays d (Some l) other h = inl (ap boot_in h)

@@ -1,21 +1,21 @@
--- Why the laws hold.
-use Rattle.std.proofs.Common.{[], ◌∷◌, Option, refl, ap}
-use Rattle.domain_spec.specs.Types.{Refusal}
-use Rattle.domain_spec.specs.Fold.{after}
-use Rattle.domain_spec.specs.Laws.{BeginningIsLegal, PartsAreLegal, PartsFollow, RefusalChangesNothing}
-use Rattle.domain_spec.specs.Sequential.{tested_step}
+-- Histories are taken apart and put together.
+use Rattle.std.proofs.Common.{◌≡◌, ℕ, List, [], ◌∷◌, ◌++◌, refl}
+use Rattle.domain_spec.specs.declared.mark.Mark.{Mark}
+use Rattle.domain_spec.specs.declared.standing.Standing.{Standing}
+use Rattle.domain_spec.specs.Fold.{after, standing}
+use Rattle.domain_spec.specs.Legal.{IsLegal}
 
-pub standing-append : PartsFollow
+-- the state of a history is that of its parts, one after the other
+pub standing-append : (s : Standing) (first then : List (Mark ℕ)) → standing s (first ++ then) ≡ standing (standing s first) then
 standing-append s [] then = refl
 standing-append s (m ∷ first) then = standing-append (after s m) first then
 
-pub legal-append : PartsAreLegal
+-- a history is legal where its parts are, one after the other
+pub legal-append : (s : Standing) (first then : List (Mark ℕ)) → IsLegal s first → IsLegal (standing s first) then → IsLegal s (first ++ then)
 legal-append s [] then legal more = more
 legal-append s (m ∷ first) then legal more = (legal.0, legal-append (after s m) first then legal.1 more)
 
-pub legal_beginning : BeginningIsLegal
+-- the beginning of a legal history is legal
+pub legal_beginning : (s : Standing) (first then : List (Mark ℕ)) → IsLegal s (first ++ then) → IsLegal s first
 legal_beginning s [] then legal = tt
 legal_beginning s (m ∷ first) then legal = (legal.0, legal_beginning (after s m) first then legal.1)
-
-pub refusal_refuses : RefusalChangesNothing
-refusal_refuses s c boot answers r live fails = rw live (ap (λ (o : Option Refusal). tested_step s c answers o) fails)

@@ -1,4 +1,11 @@
+pub mod WholeMoveProofs
+pub mod TurnProofs
+pub mod ChapterProofs
+pub mod WholeLifeProofs
+pub mod AskedProofs
+pub mod ClosedProofs
 pub mod BootsProofs
+pub mod CallLawProofs
 pub mod EndsOnce
 pub mod ExitProofs
 pub mod LawProofs

@@ -1,26 +1,31 @@
 -- Why at most one normal job and one operation are open in a legal history.
-use Rattle.std.proofs.Common.{◌≡◌, ℕ, ◌+◌, List, [], ◌∷◌, Bool, cond, Option, None, Some, refl, ap, arith, count_by}
+use Rattle.std.proofs.Common.{◌≡◌, ℕ, ◌+◌, List, [], ◌∷◌, Bool, true, false, not, ◌&&◌, cond, Option, None, Some, refl, ap, arith, count_by}
 use Rattle.std.proofs.lemmas.List.Sums.{sum_by-cons}
 use Rattle.domain_spec.specs.Types.{Answer, Ask, Call, Job, OpKind, Phase, Reply, State, Transition, Who}
+use Rattle.domain_spec.specs.Types.job
+use Rattle.domain_spec.specs.declared.mark.HeldOperation.{HeldOperation}
 use Rattle.domain_spec.specs.declared.mark.Mark.{Mark}
 use Rattle.domain_spec.specs.declared.mark.Mark.TheVariants as mark
 use Rattle.domain_spec.specs.declared.open.OpenJob.{OpenJob}
 use Rattle.domain_spec.specs.declared.open.OpenOperation.{OpenOperation}
 use Rattle.domain_spec.specs.declared.standing.Standing.{Standing}
 use Rattle.domain_spec.specs.declared.step.Outcome.{Outcome}
-use Rattle.domain_spec.specs.Fold.{after, after_phase, at_base, job_at_exit, standing}
-use Rattle.domain_spec.specs.JobTable.{May}
-use Rattle.domain_spec.specs.Lawful.{IsDone, IsEnded, IsPhased, IsStarted}
+use Rattle.domain_spec.specs.Fold.{after, after_phase, after_take_up, at_base, job_at_exit, standing}
+use Rattle.domain_spec.specs.Call.{takes_up}
+use Rattle.domain_spec.specs.Lawful.{IsDone, IsEnded, IsPhased, IsStarted, IsTakenUp}
 use Rattle.domain_spec.specs.Laws.{OneJobAtATime, OneOperationAtATime, begins_operation, closes, ends_operation, lets_in, one_if_open}
 use Rattle.domain_spec.specs.Legal.{IsLawful, IsLegal}
-use Rattle.domain_spec.specs.Open.{job_held}
+use Rattle.domain_spec.specs.Open.{MayAdmit, job_held, operation_held}
+use Rattle.domain_spec.specs.Sequential.{meets_ended}
+use Rattle.domain_spec.specs.TakeUp.{rests_for}
 
 abbrev pub one_if : Bool → ℕ
 one_if b = cond b 1 0
 
-none_held : (j : Option OpenJob) (op : Option (OpKind × Who)) (taken : Job) (who : Who) → May (job_held j) op taken who → one_if_open j ≡ 0
-none_held None op taken who may = refl
-none_held (Some j) op taken who may = absurd may
+none_held : (j : Option OpenJob) (op : Option HeldOperation) (taking : Option OpKind) (wanted : Job) (who : Who) → MayAdmit (job_held j) op taking wanted who → one_if_open j ≡ 0
+none_held None op taking wanted who may = refl
+none_held (Some j) op (Some k) job.MigrationOp who may = absurd may
+none_held (Some j) op taking wanted who may = absurd may
 
 one_done : (s : Standing) (j : Option OpenJob) (n : ℕ) (who : Who) (c : Call) (boot : Option ℕ) (asks : List Ask) (answers : List Answer) (r : Reply) (events : List Transition)
     → IsDone s j n who c boot asks answers r events → one_if_open j ≡ 1
@@ -30,6 +35,31 @@ one_done s (Some j) n who c boot asks answers r events h = refl
 one_started : (s : Standing) (j : Option OpenJob) (n : ℕ) (who : Who) (c : Call) (boot : Option ℕ) → IsStarted s j n who c boot → one_if_open j ≡ 1
 one_started s None n who c boot h = absurd h
 one_started s (Some j) n who c boot h = refl
+
+one_taken : (s : Standing) (j : Option OpenJob) (n : ℕ) (who : Who) (c : Call) → IsTakenUp s j n who c → one_if_open j ≡ 1
+one_taken s None n who c h = absurd h
+one_taken s (Some j) n who c h = refl
+
+none_rests : (wanted : Option OpKind) → rests_for wanted None ≡ true → ⊥
+none_rests None e = cc
+none_rests (Some k) e = cc
+
+second_of : (a b : Bool) → (a && b) ≡ true → b ≡ true
+second_of true b e = e
+second_of false b e = cc
+
+rests_where : (s : Standing) (j : Option OpenJob) (n : ℕ) (who : Who) (c : Call) → IsTakenUp s j n who c → rests_for (takes_up c) (operation_held s.operation) ≡ true
+rests_where s None n who c h = absurd h
+rests_where s (Some j) n who c h = second_of (not (meets_ended s.state c j.boot)) (rests_for (takes_up c) (operation_held s.operation)) h.takes
+
+-- a call that takes an operation up is closed, and the operation stays
+taken_closes : (s : Standing) (o : Option OpenOperation) (n : ℕ) (who : Who) (c : Call) → rests_for (takes_up c) (operation_held o) ≡ true → one_if_open (after_take_up s o n who c).job ≡ 0
+taken_closes s None n who c e = absurd (none_rests (takes_up c) e)
+taken_closes s (Some o) n who c e = refl
+
+taken_keeps : (s : Standing) (o : Option OpenOperation) (n : ℕ) (who : Who) (c : Call) → s.operation ≡ o → one_if_open (after_take_up s o n who c).operation ≡ one_if_open o
+taken_keeps s None n who c e = ap one_if_open e
+taken_keeps s (Some o) n who c e = refl
 
 at_exit : (s : State) (boot : ℕ) (j : Option OpenJob) → one_if_open (job_at_exit s boot j) ≡ one_if_open j
 at_exit s boot None = refl
@@ -44,10 +74,14 @@ phase_closes s (Some j) None n who p asks answers next events h = absurd h
 phase_closes s (Some j) (Some o) n who p asks answers next events h = refl
 
 job_step : (s : Standing) (m : Mark ℕ) → IsLawful s m → one_if_open s.job + one_if (lets_in m) ≡ one_if (closes m) + one_if_open (after s m).job
-job_step s (mark.Admit n who taken c boot) h = ap (λ (k : ℕ). k + 1) (none_held s.job _ taken who h.in_order.may)
+job_step s (mark.Admit n who taken c boot) h = ap (λ (k : ℕ). k + 1) (none_held s.job _ (takes_up c) taken who h.in_order.may)
 job_step s (mark.Done n who c boot asks answers r events) h = ap (λ (k : ℕ). k + 0) (one_done s s.job n who c boot asks answers r events h.in_order)
 job_step s (mark.Refused n who c why looked) h = omega arith
 job_step s (mark.Start n who c boot) h = ap (λ (k : ℕ). k + 0) (one_started s s.job n who c boot h.in_order)
+job_step s (mark.TakeUp n who c) h =
+    let one = one_taken s s.job n who c h.in_order in
+    let none = taken_closes s s.operation n who c (rests_where s s.job n who c h.in_order) in
+    omega arith
 job_step s (mark.Phase n who p asks answers next events) h =
     let e = phase_closes s s.job s.operation n who p asks answers next events h.in_order in omega arith
 job_step s (mark.End n who r) h = omega arith
@@ -86,6 +120,7 @@ operation_step s (mark.Admit n who taken c boot) h = omega arith
 operation_step s (mark.Done n who c boot asks answers r events) h = omega arith
 operation_step s (mark.Refused n who c why looked) h = omega arith
 operation_step s (mark.Start n who c boot) h = ap (λ (k : ℕ). k + 1) (none_open s s.job n who c boot h.in_order)
+operation_step s (mark.TakeUp n who c) h = let e = taken_keeps s s.operation n who c refl in omega arith
 operation_step s (mark.Phase n who p asks answers next events) h =
     let e = phase_keeps s s.operation answers next refl in omega arith
 operation_step s (mark.End n who r) h = ap (λ (k : ℕ). k + 0) (one_ended s s.operation n who r h.in_order)

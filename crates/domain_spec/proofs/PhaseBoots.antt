@@ -1,6 +1,6 @@
 -- Why a phase leaves the number of boots as it is.
 use Rattle.std.proofs.Common.{◌≡◌, ℕ, ◌≤◌, List, [], ◌∷◌, Bool, true, false, if◌then◌else◌, Option, None, Some, refl, arith, unwrap_or}
-use Rattle.domain_spec.specs.Types.{Answer, AnswerValue, Call, Domain, DomainDef, Live, Op, Phase, Refusal, SnapInfo, State}
+use Rattle.domain_spec.specs.Types.{Answer, AnswerValue, Call, Domain, DomainDef, Live, Op, Phase, Refusal, Reply, SnapInfo, State, Who}
 use Rattle.domain_spec.specs.Types.call
 use Rattle.domain_spec.specs.Types.cause
 use Rattle.domain_spec.specs.Types.phase
@@ -16,15 +16,16 @@ use Rattle.domain_spec.specs.declared.standing.Standing.{Standing}
 use Rattle.domain_spec.specs.declared.step.Outcome.{Outcome}
 use Rattle.domain_spec.specs.declared.step.PhaseStep.{PhaseStep}
 use Rattle.domain_spec.specs.Asks.{first_bad, first_value, is_undone}
-use Rattle.domain_spec.specs.Fold.{after, after_phase}
+use Rattle.domain_spec.specs.Fold.{after, after_phase, after_take_up}
 use Rattle.domain_spec.specs.Laws.{BootsNeverFall}
 use Rattle.domain_spec.specs.CopyResult.{cancels, current_after, left_in, loaded_active, loaded_new, loaded_with, over, poll_done, poll_step}
-use Rattle.domain_spec.specs.Operation.{live_phase_done, quit_done, take_done}
+use Rattle.domain_spec.specs.Migration.{migration_done}
+use Rattle.domain_spec.specs.Operation.{led_to, live_phase_done, quit_done, take_done}
 use Rattle.domain_spec.specs.Phase.{answered_phase, ended_reply, inactive_phase_done, inactive_phase_refused, inactive_take_done, inactive_taken, live_phase_refused, phase_done, phase_in, phase_of, phase_on, phase_refused, start_failed, without_operation}
 use Rattle.domain_spec.specs.PhaseAsks.{is_given_up, loaded_of, resumes}
 use Rattle.domain_spec.specs.Reading.{boots_of, carries_ended, is_running, with_run}
 use Rattle.domain_spec.specs.Refusals.{aborted, failure_of, monitor_lost, stalled}
-use Rattle.domain_spec.proofs.BootsProofs.{boots_of-begin, boots_of-event, boots_of-exit, boots_of-seq, ended_keeps_boots}
+use Rattle.domain_spec.proofs.BootsProofs.{boots_of-begin, boots_of-event, boots_of-exit, boots_of-seq, boots_of-taken_up, ended_keeps_boots}
 
 -- a phase leaves this number of boots
 abbrev pub Leaves : ℕ → PhaseStep → Type 0
@@ -62,6 +63,11 @@ copy_keeps : (b : Bool) (x y : Domain) (n : ℕ) → x.boots ≡ n → y.boots �
 copy_keeps true x y n hx hy = hx
 copy_keeps false x y n hx hy = hy
 
+migration_keeps : (d : Domain) (l : Live) (op : Op) (c : Call) (answers : List Answer) (led : Reply) (p : Phase) → Leaves d.boots (migration_done d l op c answers led p)
+migration_keeps d l op c answers led phase.MigrateQuit = ended_keeps_boots d l reason.Migrated
+migration_keeps d l op c answers led phase.MigrateDrop = ended_keeps_boots d l reason.Failed
+migration_keeps d l op c answers led other = refl
+
 live_done_keeps : (d : Domain) (l : Live) (op : Op) (c : Call) (answers : List Answer) (p : Phase) → Leaves d.boots (live_phase_done d l op c answers p)
 live_done_keeps d l op c answers phase.Nothing = refl
 live_done_keeps d l op c answers phase.Make = refl
@@ -72,6 +78,7 @@ live_done_keeps d l op c answers phase.Poll = poll_keeps d op (first_value answe
 live_done_keeps d l op c answers phase.Take = take_keeps d l op c answers
 live_done_keeps d l op c answers phase.Quit = quit_keeps d l c
 live_done_keeps d l op c answers phase.Cancel = resumed_keeps (resumes l op) (with_run d l run.Running) d d.boots refl refl
+live_done_keeps d l op c answers other = migration_keeps d l op c answers (led_to op) other
 
 taken_keeps : (d : Domain) (info : SnapInfo) (def : Option DomainDef) → Leaves d.boots (inactive_taken d info def)
 taken_keeps d info None = refl
@@ -93,6 +100,7 @@ live_refused_keeps : (d : Domain) (l : Live) (op : Op) (r : Refusal) (p : Phase)
 live_refused_keeps d l op r phase.Make = ended_keeps_boots d l reason.Failed
 live_refused_keeps d l op r phase.Run = ended_keeps_boots d l reason.Failed
 live_refused_keeps d l op r phase.Load = one_of op.new_boot (start_failed d l r) (over (state.Held d) [] (reply.No r)) d.boots (ended_keeps_boots d l reason.Failed) refl
+live_refused_keeps d l op r phase.MigrateLoad = ended_keeps_boots d l reason.Failed
 live_refused_keeps d l op r other = refl
 
 inactive_refused_keeps : (d : Domain) (op : Op) (r : Refusal) (p : Phase) → Leaves d.boots (inactive_phase_refused d op r p)
@@ -127,9 +135,14 @@ pub after_phase_keeps : (s : Standing) (o : Option OpenOperation) (answers : Lis
 after_phase_keeps s None answers next = refl
 after_phase_keeps s (Some o) answers next = boots_of-phase s.state o answers
 
+pub after_take_up_keeps : (s : Standing) (o : Option OpenOperation) (n : ℕ) (who : Who) (c : Call) → boots_of (after_take_up s o n who c).state ≡ boots_of s.state
+after_take_up_keeps s None n who c = refl
+after_take_up_keeps s (Some o) n who c = boots_of-taken_up s.state who c
+
 after_raises : (s : Standing) (m : Mark ℕ) → boots_of s.state ≤ boots_of (after s m).state
 after_raises s (mark.Done n who c boot asks answers r events) = let e = boots_of-seq s.state c boot answers in omega arith
 after_raises s (mark.Start n who c boot) = boots_of-begin s.state who c
+after_raises s (mark.TakeUp n who c) = let e = after_take_up_keeps s s.operation n who c in omega arith
 after_raises s (mark.Phase n who p asks answers next events) = let e = after_phase_keeps s s.operation answers next in omega arith
 after_raises s (mark.End n who r) = let e = without_keeps s.state in omega arith
 after_raises s (mark.Exit boot why events) = let e = boots_of-exit s.state why in omega arith

@@ -1,6 +1,6 @@
 -- A phase leaves the live boot as it is, or ends it; a Start makes the next one.
 use Rattle.std.proofs.Common.{◌≡◌, ℕ, ◌+◌, ◌⊎◌, inl, inr, List, [], Bool, true, false, if◌then◌else◌, Option, None, Some, refl, ap, unwrap_or}
-use Rattle.domain_spec.specs.Types.{Answer, AnswerValue, Call, Domain, DomainDef, Live, Op, OpKind, Phase, Refusal, SnapInfo, State, Who}
+use Rattle.domain_spec.specs.Types.{Answer, AnswerValue, Call, Domain, DomainDef, Live, Op, OpKind, Phase, Refusal, Reply, SnapInfo, State, Who}
 use Rattle.domain_spec.specs.Types.call
 use Rattle.domain_spec.specs.Types.cause
 use Rattle.domain_spec.specs.Types.kind
@@ -13,10 +13,11 @@ use Rattle.domain_spec.specs.declared.loaded.Loaded.{Loaded}
 use Rattle.domain_spec.specs.declared.open.OpenOperation.{OpenOperation}
 use Rattle.domain_spec.specs.declared.step.PhaseStep.{PhaseStep}
 use Rattle.domain_spec.specs.Asks.{first_bad, first_value, is_undone}
-use Rattle.domain_spec.specs.Begin.{begin_state, begun, begun_with, boot_definition, first_phase}
+use Rattle.domain_spec.specs.Begin.{begin_state, begun, begun_with, boot_definition, first_phase, ran_there, taken_up_state}
 use Rattle.domain_spec.specs.Call.{begins}
 use Rattle.domain_spec.specs.CopyResult.{cancels, current_after, left_in, loaded_active, loaded_new, loaded_with, over, poll_done, poll_step}
-use Rattle.domain_spec.specs.Operation.{live_phase_done, quit_done, take_done}
+use Rattle.domain_spec.specs.Migration.{migration_done}
+use Rattle.domain_spec.specs.Operation.{led_to, live_phase_done, quit_done, take_done}
 use Rattle.domain_spec.specs.Phase.{answered_phase, ended_reply, inactive_phase_done, inactive_phase_refused, inactive_take_done, inactive_taken, live_phase_refused, phase_done, phase_in, phase_of, phase_on, phase_refused, start_failed, without_operation}
 use Rattle.domain_spec.specs.PhaseAsks.{is_given_up, loaded_of, resumes}
 use Rattle.domain_spec.specs.Reading.{boot_in, boots_of, carries_ended, is_running, live_boot, with_run}
@@ -52,6 +53,14 @@ quit_stays : (d : Domain) (l : Live) (c : Call) (boot : Option ℕ) → Stays bo
 quit_stays d l (call.Save name) boot = ended_stays d l reason.Saved boot
 quit_stays d l other boot = ended_stays (record d { current = current_after d other }) l reason.FromSnapshot boot
 
+migration_stays : (d : Domain) (l : Live) (op : Op) (c : Call) (answers : List Answer) (led : Reply) (p : Phase) → boot_in d.live ≡ Some l.boot → Stays (Some l.boot) (migration_done d l op c answers led p).state
+migration_stays d l op c answers led phase.MigrateTake e = inl refl
+migration_stays d l op c answers led phase.MigrateQuit e = ended_stays d l reason.Migrated (Some l.boot)
+migration_stays d l op c answers led phase.MigrateDrop e = ended_stays d l reason.Failed (Some l.boot)
+migration_stays d l op c answers led phase.MigrateBack e = inl refl
+migration_stays d l op c answers led phase.MigrateRun e = inl refl
+migration_stays d l op c answers led other e = inl e
+
 live_done_stays : (d : Domain) (l : Live) (op : Op) (c : Call) (answers : List Answer) (p : Phase) → boot_in d.live ≡ Some l.boot → Stays (Some l.boot) (live_phase_done d l op c answers p).state
 live_done_stays d l op c answers phase.Nothing e = inl e
 live_done_stays d l op c answers phase.Make e = inl e
@@ -62,6 +71,7 @@ live_done_stays d l op c answers phase.Poll e = poll_stays d op (first_value ans
 live_done_stays d l op c answers phase.Take e = take_stays d l op c answers e
 live_done_stays d l op c answers phase.Quit e = quit_stays d l c (Some l.boot)
 live_done_stays d l op c answers phase.Cancel e = inl (domain_of (resumes l op) (with_run d l run.Running) d (Some l.boot) refl e)
+live_done_stays d l op c answers other e = migration_stays d l op c answers (led_to op) other e
 
 taken_stays : (d : Domain) (info : SnapInfo) (def : Option DomainDef) (boot : Option ℕ) → boot_in d.live ≡ boot → Stays boot (inactive_taken d info def).state
 taken_stays d info None boot e = inl e
@@ -84,6 +94,7 @@ live_refused_stays : (d : Domain) (l : Live) (op : Op) (r : Refusal) (p : Phase)
 live_refused_stays d l op r phase.Make e = ended_stays d l reason.Failed (Some l.boot)
 live_refused_stays d l op r phase.Run e = ended_stays d l reason.Failed (Some l.boot)
 live_refused_stays d l op r phase.Load e = one_of op.new_boot (start_failed d l r) (over (state.Held d) [] (reply.No r)) (Some l.boot) (ended_stays d l reason.Failed (Some l.boot)) (inl e)
+live_refused_stays d l op r phase.MigrateLoad e = ended_stays d l reason.Failed (Some l.boot)
 live_refused_stays d l op r other e = inl e
 
 inactive_refused_stays : (d : Domain) (op : Op) (r : Refusal) (p : Phase) (boot : Option ℕ) → boot_in d.live ≡ boot → Stays boot (inactive_phase_refused d op r p).state
@@ -118,19 +129,24 @@ pub live_boot-without : (s : State) → live_boot (without_operation s) ≡ live
 live_boot-without (state.Vacant boots) = refl
 live_boot-without (state.Held d) = refl
 
+pub live_boot-taken_up : (s : State) (who : Who) (c : Call) → live_boot (taken_up_state s who c) ≡ live_boot s
+live_boot-taken_up (state.Vacant boots) who c = refl
+live_boot-taken_up (state.Held d) who c = refl
+
 -- the guest is the one before, or a new one with the next number
 abbrev pub Begins : State → State → Type 0
 Begins s next = ((live_boot next ≡ live_boot s) × (boots_of next ≡ boots_of s)) ⊎ ((live_boot next ≡ Some (boots_of s + 1)) × (boots_of next ≡ boots_of s + 1))
 
-begun_begins : (d : Domain) (k : OpKind) (who : Who) (first : Phase) (def : Option DomainDef) → Begins (state.Held d) (state.Held (begun_with d k who first def))
-begun_begins d k who first None = inl (refl, refl)
-begun_begins d k who first (Some def) = inr (refl, refl)
+begun_begins : (d : Domain) (k : OpKind) (who : Who) (ran : Bool) (first : Phase) (def : Option DomainDef) → Begins (state.Held d) (state.Held (begun_with d k who ran first def))
+begun_begins d k who ran first None = inl (refl, refl)
+begun_begins d k who ran first (Some def) = inr (refl, refl)
 
 begun_domain : (d : Domain) (who : Who) (c : Call) → Begins (state.Held d) (state.Held (begun d who c))
-begun_domain d who c = begun_begins d (unwrap_or (begins c) kind.Start) who (first_phase d c) (boot_definition d c)
+begun_domain d who c = begun_begins d (unwrap_or (begins c) kind.Start) who (ran_there c) (first_phase d c) (boot_definition d c)
 
 pub live_boot-begin : (s : State) (who : Who) (c : Call) → Begins s (begin_state s who c)
 live_boot-begin (state.Held d) who c = begun_domain d who c
 live_boot-begin (state.Vacant boots) who (call.Create def) = begun_domain (new_domain def boots) who (call.Create def)
 live_boot-begin (state.Vacant boots) who (call.Restore def running saved) = begun_domain (new_domain def boots) who (call.Restore def running saved)
+live_boot-begin (state.Vacant boots) who (call.Prepare def running saved) = begun_domain (new_domain def boots) who (call.Prepare def running saved)
 live_boot-begin (state.Vacant boots) who other = inl (refl, refl)

@@ -1,5 +1,5 @@
 -- A list of asks, made one after the other until an answer is not Ok, and what undoes it then.
-use Rattle.std.specs.Prelude.{ℕ, ◌+◌, List, [], ◌++◌, length, map, take, drop, find, position, slice_get, Bool, true, false, not, Option, None, Some, if◌then◌else◌}
+use Rattle.std.specs.Prelude.{ℕ, ◌+◌, List, [], ◌∷◌, ◌++◌, length, map, take, drop, find, position, slice_get, Bool, true, false, not, Option, None, Some, if◌then◌else◌}
 use Rattle.domain_spec.specs.Types.{Answer, Ask, AnswerValue}
 use Rattle.domain_spec.specs.Types.answer
 use Rattle.domain_spec.specs.declared.planned.PlannedAsk.{PlannedAsk}
@@ -67,6 +67,12 @@ value_of other = None
 abbrev pub value_in : Option Answer → Option AnswerValue
 value_in None = None
 value_in (Some a) = value_of a
+
+-- the value that the last ask was answered
+abbrev pub last_value : List Answer → Option AnswerValue
+last_value [] = None
+last_value (a ∷ []) = value_of a
+last_value (a ∷ b ∷ answers) = last_value (b ∷ answers)
 
 -- the value that the first ask was answered
 abbrev pub first_value : List Answer → Option AnswerValue

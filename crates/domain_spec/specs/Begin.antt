@@ -1,18 +1,18 @@
 -- How an operation begins (an asynchronous job of libvirt's THREADS.txt): where its call's tests
 -- passed, in the turn that judged them.
-use Rattle.std.specs.Prelude.{ℕ, ◌+◌, Bool, true, false, is_some, Option, None, Some, if◌then◌else◌, unwrap_or}
-use Rattle.domain_spec.specs.Types.{Call, Domain, DomainDef, Live, Op, OpKind, Phase, Snap, State, Who}
+use Rattle.std.specs.Prelude.{ℕ, ◌+◌, Bool, true, false, is_some, option_map, Option, None, Some, if◌then◌else◌, unwrap_or}
+use Rattle.domain_spec.specs.Types.{Call, Cause, Domain, DomainDef, Live, Op, OpKind, Phase, Snap, State, Who}
 use Rattle.domain_spec.specs.Types.call
 use Rattle.domain_spec.specs.Types.cause
 use Rattle.domain_spec.specs.Types.kind
 use Rattle.domain_spec.specs.Types.phase
 use Rattle.domain_spec.specs.Types.run
 use Rattle.domain_spec.specs.Types.state
-use Rattle.domain_spec.specs.Call.{begins}
+use Rattle.domain_spec.specs.Call.{begins, phase_taken_up}
 use Rattle.domain_spec.specs.Devices.{slots_at_start}
 use Rattle.domain_spec.specs.Reading.{boot_in}
 use Rattle.domain_spec.specs.CallResult.{new_domain}
-use Rattle.domain_spec.specs.Snapshots.{has_state, snapshot_named}
+use Rattle.domain_spec.specs.Snapshots.{has_state, snapshot_name, snapshot_named}
 use Rattle.domain_spec.specs.Tests.{state_kept}
 
 -- a snapshot's definition, where it has a guest's state
@@ -31,6 +31,7 @@ abbrev pub boot_definition : Domain → Call → Option DomainDef
 boot_definition d call.Start = d.stored
 boot_definition d (call.Create def) = Some def
 boot_definition d (call.Restore def running saved) = Some def
+boot_definition d (call.Prepare def running saved) = Some def
 boot_definition d (call.Revert name) = revert_definition d.live (snapshot_named d.snaps name)
 boot_definition d other = None
 
@@ -46,40 +47,53 @@ revert_phase false false = phase.Nothing
 abbrev pub first_phase : Domain → Call → Phase
 first_phase d (call.Save name) = phase.Copy
 first_phase d (call.Dump name) = phase.Copy
+first_phase d call.Perform = phase.MigrateCopy
 first_phase d (call.Snapshot info) = if is_some d.live then phase.Copy else phase.Take
 first_phase d (call.Revert name) = revert_phase (is_some d.live) (state_kept (snapshot_named d.snaps name))
 first_phase d other = phase.Make
 
 -- a new operation, before its first phase
-abbrev pub new_op : OpKind → Who → Option ℕ → Bool → Phase → Op
-new_op k who boot new_boot first = record {
+abbrev pub new_op : OpKind → Who → Option ℕ → Bool → Bool → Phase → Op
+new_op k who boot new_boot ran first = record {
   kind = k;
   who = who;
   boot = boot;
   new_boot = new_boot;
   phase = first;
-  was_running = false;
+  was_running = ran;
   abort = false;
   still = 0;
   remaining = None;
   refusal = None;
+  limit = 0;
+  rests = false;
 }
 
--- the live part of a new boot: it stands still until the operation lets it run
-abbrev pub new_live : DomainDef → ℕ → Live
-new_live def boot = record { boot = boot; run = run.Paused cause.Starting; def = def; slots = slots_at_start def }
+-- a guest that comes from another host is between the two
+abbrev pub cause_at_start : OpKind → Cause
+cause_at_start kind.MigrateIn = cause.Moved
+cause_at_start other = cause.Starting
 
-abbrev pub begun_with : Domain → OpKind → Who → Phase → Option DomainDef → Domain
-begun_with d k who first None = record d { op = Some (new_op k who (boot_in d.live) false first) }
-begun_with d k who first (Some def) = record d {
-  live = Some (new_live def (d.boots + 1));
+-- the live part of a new boot: it stands still until the operation lets it run
+abbrev pub new_live : OpKind → DomainDef → ℕ → Live
+new_live k def boot = record { boot = boot; run = run.Paused (cause_at_start k); def = def; slots = slots_at_start def }
+
+-- whether a guest that comes from another host ran there
+abbrev pub ran_there : Call → Bool
+ran_there (call.Prepare def running saved) = running
+ran_there other = false
+
+abbrev pub begun_with : Domain → OpKind → Who → Bool → Phase → Option DomainDef → Domain
+begun_with d k who ran first None = record d { op = Some (new_op k who (boot_in d.live) false ran first) }
+begun_with d k who ran first (Some def) = record d {
+  live = Some (new_live k def (d.boots + 1));
   boots = d.boots + 1;
-  op = Some (new_op k who (Some (d.boots + 1)) true first);
+  op = Some (new_op k who (Some (d.boots + 1)) true ran first);
 }
 
 -- the domain as its operation has begun
 abbrev pub begun : Domain → Who → Call → Domain
-begun d who c = begun_with d (unwrap_or (begins c) kind.Start) who (first_phase d c) (boot_definition d c)
+begun d who c = begun_with d (unwrap_or (begins c) kind.Start) who (ran_there c) (first_phase d c) (boot_definition d c)
 
 -- the state as the call's operation has begun; a vacant cell gets a domain without a stored
 -- definition
@@ -88,7 +102,23 @@ begin_state (state.Held d) who c = state.Held (begun d who c)
 begin_state (state.Vacant boots) who (call.Create def) = state.Held (begun (new_domain def boots) who (call.Create def))
 begin_state (state.Vacant boots) who (call.Restore def running saved) =
     state.Held (begun (new_domain def boots) who (call.Restore def running saved))
+begin_state (state.Vacant boots) who (call.Prepare def running saved) =
+    state.Held (begun (new_domain def boots) who (call.Prepare def running saved))
 begin_state (state.Vacant boots) who c = state.Vacant boots
+
+-- the call as its operation keeps it: a snapshot without a name gets one where its operation begins
+abbrev pub named_call : State → Call → Call
+named_call (state.Held d) (call.Snapshot info) = call.Snapshot (record info { name = Some (snapshot_name d info) })
+named_call s c = c
+
+-- the operation as this call has taken it up
+abbrev pub op_taken_up : Who → Call → Op → Op
+op_taken_up who c op = record op { who = who; phase = phase_taken_up c; rests = false }
+
+-- the state where this call has taken up the operation that rested
+abbrev pub taken_up_state : State → Who → Call → State
+taken_up_state (state.Vacant boots) who c = state.Vacant boots
+taken_up_state (state.Held d) who c = state.Held (record d { op = option_map (op_taken_up who c) d.op })
 
 -- the first phase of the operation that has begun in a state
 abbrev pub due_in : Option Op → Phase

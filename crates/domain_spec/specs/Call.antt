@@ -1,12 +1,13 @@
 -- The calls on a domain: which job each takes, and what it asks of the guest or of the store.
 use Rattle.std.specs.Prelude.{ℕ, List, [], ◌∷◌, ◌++◌, Bool, true, false, Option, None, Some, unsigned_abs}
-use Rattle.domain_spec.specs.Types.{Ask, Call, Command, DeviceDef, Domain, DomainDef, Interface, Job, Live, Mac, OpKind, State}
+use Rattle.domain_spec.specs.Types.{Ask, Call, Command, DeviceDef, Domain, DomainDef, Interface, Job, Live, Mac, OpKind, Phase, State}
 use Rattle.domain_spec.specs.Types.ask
 use Rattle.domain_spec.specs.Types.call
 use Rattle.domain_spec.specs.Types.command
 use Rattle.domain_spec.specs.Types.device
 use Rattle.domain_spec.specs.Types.job
 use Rattle.domain_spec.specs.Types.kind
+use Rattle.domain_spec.specs.Types.phase
 use Rattle.domain_spec.specs.Types.state
 use Rattle.domain_spec.specs.declared.planned.PlannedAsk.{PlannedAsk}
 use Rattle.domain_spec.specs.Asks.{plain, undone_by}
@@ -20,6 +21,9 @@ job_of call.Destroy = job.Destroy
 job_of call.MemoryStats = job.Query
 job_of (call.Kick n) = job.Query
 job_of call.Abort = job.Abort
+job_of (call.Limit rest) = job.MigrationOp
+job_of (call.Confirm verdict) = job.MigrationOp
+job_of (call.Finish go) = job.MigrationOp
 job_of other = job.Modify
 
 -- the operation that a call begins
@@ -31,7 +35,29 @@ begins (call.Save name) = Some kind.Save
 begins (call.Dump name) = Some kind.Dump
 begins (call.Snapshot info) = Some kind.Snapshot
 begins (call.Revert name) = Some kind.Revert
+begins call.Perform = Some kind.MigrateOut
+begins (call.Prepare def running saved) = Some kind.MigrateIn
 begins other = None
+
+-- the kind of operation that a call takes up where one rests
+abbrev pub takes_up : Call → Option OpKind
+takes_up (call.Confirm verdict) = Some kind.MigrateOut
+takes_up (call.Finish go) = Some kind.MigrateIn
+takes_up other = None
+
+-- the kind of operation that a call begins or takes up
+abbrev pub kind_of_call : Call → Option OpKind
+kind_of_call (call.Confirm verdict) = Some kind.MigrateOut
+kind_of_call (call.Finish go) = Some kind.MigrateIn
+kind_of_call other = begins other
+
+-- the phase that is due where a call has taken an operation up
+abbrev pub phase_taken_up : Call → Phase
+phase_taken_up (call.Confirm true) = phase.MigrateQuit
+phase_taken_up (call.Confirm false) = phase.MigrateBack
+phase_taken_up (call.Finish true) = phase.MigrateRun
+phase_taken_up (call.Finish false) = phase.MigrateDrop
+phase_taken_up other = phase.Nothing
 
 -- calls on the stored definition, which go on where the boot that they carry has ended
 abbrev pub is_on_stored : Call → Bool

@@ -1,5 +1,5 @@
 -- What a call leaves whose tests passed and whose answers are all Ok.
-use Rattle.std.specs.Prelude.{ℕ, List, [], ◌∷◌, Bool, true, false, replicate, is_some, Option, None, Some, unwrap_or, if◌then◌else◌}
+use Rattle.std.specs.Prelude.{ℕ, List, [], ◌∷◌, Bool, true, false, replicate, is_some, option_map, Option, None, Some, unwrap_or, if◌then◌else◌}
 use Rattle.domain_spec.specs.Types.{Answer, AnswerValue, Call, DeviceDef, Domain, DomainDef, EndReason, Live, Op, Refusal, State, Transition}
 use Rattle.domain_spec.specs.Types.call
 use Rattle.domain_spec.specs.Types.cause
@@ -13,7 +13,7 @@ use Rattle.domain_spec.specs.Types.value
 use Rattle.domain_spec.specs.declared.step.CallStep.{CallStep}
 use Rattle.domain_spec.specs.Asks.{first_value}
 use Rattle.domain_spec.specs.Devices.{device_like, free_slot, with_device, without_slot}
-use Rattle.domain_spec.specs.Reading.{is_crashed, is_paused, is_running, reference_of, settled, with_run}
+use Rattle.domain_spec.specs.Reading.{is_crashed, is_paused, is_running, reference_of, unless_gone, with_run}
 use Rattle.domain_spec.specs.Refusals.{failed}
 use Rattle.domain_spec.specs.Snapshots.{current_without, without_snapshot}
 
@@ -72,7 +72,7 @@ with_live d l = state.Held (record d { live = Some l })
 
 -- the domain without its guest, which ended so
 abbrev pub ended : Domain → Live → EndReason → State
-ended d l why = settled (record d { live = None; last = Some (l.boot, why) })
+ended d l why = unless_gone (record d { live = None; last = Some (l.boot, why) })
 
 abbrev pub suspended : Domain → Live → CallStep
 suspended d l = done (state.Held (with_run d l (run.Paused cause.User))) (tell_listeners (is_running l.run) told.SUSPENDED_PAUSED)
@@ -117,7 +117,7 @@ aborting None = None
 aborting (Some op) = Some (record op { abort = true })
 
 abbrev pub undefined : Domain → CallStep
-undefined d = done (settled (record d { stored = None; autostart = false })) (told.UNDEFINED_REMOVED ∷ [])
+undefined d = done (unless_gone (record d { stored = None; autostart = false })) (told.UNDEFINED_REMOVED ∷ [])
 
 abbrev pub autostart_set : Domain → Bool → CallStep
 autostart_set d on = done (state.Held (record d { autostart = on })) []
@@ -130,12 +130,20 @@ abbrev pub snapshot_deleted : Domain → List ℕ → Bool → CallStep
 snapshot_deleted d name children =
     done (state.Held (record d { snaps = without_snapshot d.snaps name children; current = current_without d.snaps d.current name children })) []
 
+-- how much of a copy may be left when the guest is stopped
+abbrev pub with_limit : ℕ → Op → Op
+with_limit rest op = record op { limit = rest }
+
+abbrev pub limit_set : Domain → ℕ → CallStep
+limit_set d rest = done (state.Held (record d { op = option_map (with_limit rest) d.op })) []
+
 -- a call whose tests passed, where each answer is Ok
 abbrev pub held_step : Domain → Call → List Answer → CallStep
 held_step d (call.Define def) answers = defined d def
 held_step d call.Undefine answers = undefined d
 held_step d (call.SetAutostart on) answers = autostart_set d on
 held_step d call.Abort answers = abort_asked d
+held_step d (call.Limit rest) answers = limit_set d rest
 held_step d (call.SnapDelete name children) answers = snapshot_deleted d name children
 held_step d c answers = guest_step d d.live c answers
 

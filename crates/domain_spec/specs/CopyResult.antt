@@ -1,8 +1,9 @@
 -- What a phase leaves that loads a state, or begins or polls a copy, where its answers are all Ok.
-use Rattle.std.specs.Prelude.{ℕ, ◌+◌, ◌==◌, List, [], ◌∷◌, Bool, true, false, not, nat_le, Option, None, Some, unwrap_or, if◌then◌else◌}
-use Rattle.domain_spec.specs.Types.{AnswerValue, Call, Domain, Live, Op, Phase, Refusal, Reply, RunState, State, Transition, Value}
+use Rattle.std.specs.Prelude.{ℕ, ◌+◌, List, [], ◌∷◌, Bool, true, false, not, nat_le, Option, None, Some, unwrap_or, if◌then◌else◌}
+use Rattle.domain_spec.specs.Types.{AnswerValue, Call, Domain, Live, Op, OpKind, Phase, Refusal, Reply, RunState, State, Transition, Value}
 use Rattle.domain_spec.specs.Types.call
 use Rattle.domain_spec.specs.Types.cause
+use Rattle.domain_spec.specs.Types.kind
 use Rattle.domain_spec.specs.Types.phase
 use Rattle.domain_spec.specs.Types.reply
 use Rattle.domain_spec.specs.Types.run
@@ -41,6 +42,7 @@ paused_unless ran = tell_listeners (not ran) told.SUSPENDED_PAUSED
 
 abbrev pub start_value : Domain → Call → Value
 start_value d (call.Create def) = value.Domain (reference_of d)
+start_value d (call.Prepare def running saved) = value.Domain (reference_of d)
 start_value d other = value.Nothing
 
 -- what a revert makes the current snapshot
@@ -80,9 +82,18 @@ copy_done d l op =
     goes_on (if is_running l.run then with_run d l (run.Paused cause.Job) else d) (record op { was_running = is_running l.run }) phase.Poll
     (tell_listeners (is_running l.run) told.SUSPENDED_PAUSED)
 
+-- the phase that gives a copy up, and the one that takes it
+abbrev pub cancel_phase : OpKind → Phase
+cancel_phase kind.MigrateOut = phase.MigrateCancel
+cancel_phase other = phase.Cancel
+
+abbrev pub take_phase : OpKind → Phase
+take_phase kind.MigrateOut = phase.MigrateTake
+take_phase other = phase.Take
+
 -- the operation is given up, and ends with this refusal
 abbrev pub cancels : Domain → Op → Refusal → PhaseStep
-cancels d op r = goes_on d (record op { refusal = Some r }) phase.Cancel []
+cancels d op r = goes_on d (record op { refusal = Some r }) (cancel_phase op.kind) []
 
 -- how much a poll saw left; no number is nothing left
 abbrev pub left_in : Option AnswerValue → ℕ
@@ -94,9 +105,10 @@ abbrev pub still_after : Op → Option ℕ → ℕ → ℕ
 still_after op None left = 0
 still_after op (Some before) left = if nat_le before left then op.still + 1 else 0
 
+-- no more is left than may be: the limit is 0 but where a migration was given another
 abbrev pub poll_done : Domain → Op → ℕ → PhaseStep
 poll_done d op left =
-    goes_on d (record op { still = still_after op op.remaining left; remaining = Some left }) (if left == 0 then phase.Take else phase.Poll) []
+    goes_on d (record op { still = still_after op op.remaining left; remaining = Some left }) (if nat_le left op.limit then take_phase op.kind else phase.Poll) []
 
 -- before each poll: a caller asked that it be given up, or 64 polls made no headway
 abbrev pub poll_step : Domain → Op → Option AnswerValue → PhaseStep

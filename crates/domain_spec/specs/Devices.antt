@@ -26,7 +26,7 @@ all_slots =
     ∷ 17 ∷ 18 ∷ 19 ∷ 20 ∷ 21 ∷ 22 ∷ 23 ∷ 24 ∷ 25 ∷ 26 ∷ 27 ∷ 28 ∷ 29 ∷ 30 ∷ 31 ∷ []
 
 abbrev pub is_taken : List ℕ → ℕ → Bool
-is_taken slots slot = list_any (λ taken. taken == slot) slots
+is_taken slots slot = list_any (λ used. used == slot) slots
 
 -- the least slot that no device has
 abbrev pub free_slot : List ℕ → Option ℕ
@@ -84,7 +84,7 @@ without_placed l (Some place) = record l { def = without_place l.def place; slot
 
 -- the guest without the device at this slot
 abbrev pub without_slot : Live → ℕ → Live
-without_slot l slot = without_placed l (position (λ taken. taken == slot) l.slots)
+without_slot l slot = without_placed l (position (λ used. used == slot) l.slots)
 
 abbrev pub network_in : Option InterfaceSource → List ℕ
 network_in None = []

@@ -1,5 +1,5 @@
 -- The end of a boot, and what a guest does by itself (QEMU's events of the same names).
-use Rattle.std.specs.Prelude.{List, [], ◌∷◌, Bool, true, not, Option, None, Some, if◌then◌else◌}
+use Rattle.std.specs.Prelude.{List, [], ◌∷◌, Bool, true, not, ◌&&◌, Option, None, Some, if◌then◌else◌}
 use Rattle.domain_spec.specs.Types.{Domain, EndReason, GuestEvent, Live, RunState, State, Transition}
 use Rattle.domain_spec.specs.Types.cause
 use Rattle.domain_spec.specs.Types.guest
@@ -8,7 +8,7 @@ use Rattle.domain_spec.specs.Types.run
 use Rattle.domain_spec.specs.Types.state
 use Rattle.domain_spec.specs.Types.told
 use Rattle.domain_spec.specs.Devices.{without_slot}
-use Rattle.domain_spec.specs.Reading.{is_crashed, is_paused, is_running, with_run}
+use Rattle.domain_spec.specs.Reading.{is_crashed, is_moved, is_paused, is_running, with_run}
 use Rattle.domain_spec.specs.CallResult.{ended, tell_listeners, with_live}
 
 -- a guest is gone, by what ended it
@@ -33,10 +33,14 @@ exit_state (state.Held d) why = exit_held d d.live why
 abbrev pub run_if : Domain → Live → Bool → RunState → State
 run_if d l wanted r = if wanted then state.Held (with_run d l r) else state.Held d
 
+-- a guest that goes on by itself is paused, and not between two hosts
+abbrev pub can_resume : RunState → Bool
+can_resume r = is_paused r && not (is_moved r)
+
 -- what a guest's event makes of the domain
 abbrev pub event_live : Domain → Live → GuestEvent → State
 event_live d l guest.Stop = run_if d l (is_running l.run) (run.Paused cause.User)
-event_live d l guest.Resume = run_if d l (is_paused l.run) run.Running
+event_live d l guest.Resume = run_if d l (can_resume l.run) run.Running
 event_live d l guest.Panic = run_if d l true run.Crashed
 event_live d l (guest.DeviceDeleted slot) = with_live d (without_slot l slot)
 event_live d l other = state.Held d
@@ -45,7 +49,7 @@ event_live d l other = state.Held d
 abbrev pub event_told : Live → GuestEvent → List Transition
 event_told l guest.Shutdown = told.SHUTDOWN_FINISHED ∷ []
 event_told l guest.Stop = tell_listeners (is_running l.run) told.SUSPENDED_PAUSED
-event_told l guest.Resume = tell_listeners (is_paused l.run) told.RESUMED_UNPAUSED
+event_told l guest.Resume = tell_listeners (can_resume l.run) told.RESUMED_UNPAUSED
 event_told l guest.Panic = tell_listeners (not (is_crashed l.run)) told.CRASHED_PANICKED
 event_told l other = []
 

@@ -14,7 +14,8 @@ use Rattle.domain_spec.specs.declared.standing.Standing.{Standing}
 use Rattle.domain_spec.specs.declared.step.Outcome.{Outcome}
 use Rattle.domain_spec.specs.declared.step.Outcome.TheVariants as outcome
 use Rattle.domain_spec.specs.Asks.{is_lost_answer}
-use Rattle.domain_spec.specs.Begin.{begin_state, due_phase}
+use Rattle.domain_spec.specs.Call.{phase_taken_up}
+use Rattle.domain_spec.specs.Begin.{begin_state, due_phase, named_call, taken_up_state}
 use Rattle.domain_spec.specs.Exit.{event_state, exit_state}
 use Rattle.domain_spec.specs.Phase.{phase_of, without_operation}
 use Rattle.domain_spec.specs.Reading.{is_live, live_boot}
@@ -28,29 +29,32 @@ transitions_of (mark.Exit boot why events) = events
 transitions_of (mark.Event boot e events) = events
 transitions_of other = []
 
--- a client hears n more transitions
-abbrev pub hears : ℕ → Client → Client
-hears n c = record c { before = c.total; total = c.total + n }
+-- a client to whom n more transitions came
+abbrev pub with_more : ℕ → Client → Client
+with_more n c = record c { before = c.total; total = c.total + n }
 
+-- this is the registration of this number
 abbrev pub is_client : ℕ → Client → Bool
 is_client client c = c.client == client
 
+-- the registrations but this one
 abbrev pub without_client : List Client → ℕ → List Client
 without_client clients client = filter (λ c. not (is_client client c)) clients
 
 -- the clients after a mark
 abbrev pub clients_after : List Client → Mark ℕ → List Client
 clients_after clients (mark.Watch number client) =
-    map (hears 0) clients ++ (record { number = number; client = client; before = 0; total = 0 }) ∷ []
-clients_after clients (mark.Unwatch number client) = map (hears 0) (without_client clients client)
+    map (with_more 0) clients ++ (record { number = number; client = client; before = 0; total = 0 }) ∷ []
+clients_after clients (mark.Unwatch number client) = map (with_more 0) (without_client clients client)
 clients_after clients (mark.Cut client total taken) = without_client clients client
-clients_after clients m = map (hears (length (transitions_of m))) clients
+clients_after clients m = map (with_more (length (transitions_of m))) clients
 
 -- the boot whose end has to be marked next: its monitor was lost, and it is live still
 abbrev pub lost_boot : State → Option ℕ → List Answer → Option ℕ
 lost_boot s None answers = None
 lost_boot s (Some boot) answers = if list_any is_lost_answer answers && is_live s boot then Some boot else None
 
+-- a call that carries this boot
 abbrev pub carries : Option ℕ → ℕ → Bool
 carries None boot = false
 carries (Some carried) boot = carried == boot
@@ -60,6 +64,7 @@ abbrev pub job_at_exit : State → ℕ → Option OpenJob → Option OpenJob
 job_at_exit s boot None = None
 job_at_exit s boot (Some j) = Some (if carries j.boot boot then record j { before = Some s } else j)
 
+-- the operation where its last phase led to this
 abbrev pub with_outcome : Outcome → OpenOperation → OpenOperation
 with_outcome o operation = record operation { outcome = o }
 
@@ -71,47 +76,61 @@ after_phase s (Some operation) answers o =
     record s {
       state = next;
       job = None;
-      is_fresh = false;
+      just_admitted = false;
       operation = Some (record operation { outcome = o });
       lost = lost_boot next operation.boot answers;
     }
 
--- the operation has begun; its boot is the one that is live then
+-- the operation has begun; its boot is the one that is live then, and its snapshot has its name
 abbrev pub after_start : Standing → ℕ → Who → Call → Standing
 after_start s number who c =
     let next = begin_state s.state who c in
     record s {
       state = next;
       job = None;
-      is_fresh = false;
-      operation = Some (record { number = number; who = who; call = c; boot = live_boot next; outcome = outcome.On (due_phase next) });
+      just_admitted = false;
+      operation = Some (record { number = number; who = who; call = named_call s.state c; boot = live_boot next; outcome = outcome.On (due_phase next) });
     }
 
+-- the operation goes on for the call that took it up
+abbrev pub taken_up : ℕ → Who → Call → OpenOperation → OpenOperation
+taken_up number who c o = record o { number = number; who = who; call = c; outcome = outcome.On (phase_taken_up c) }
+
+abbrev pub after_take_up : Standing → Option OpenOperation → ℕ → Who → Call → Standing
+after_take_up s None number who c = s
+after_take_up s (Some o) number who c = record s {
+  state = taken_up_state s.state who c;
+  job = None;
+  just_admitted = false;
+  operation = Some (taken_up number who c o);
+}
+
 -- what stands after one more mark, but for the clients
-abbrev pub happened : Standing → Mark ℕ → Standing
-happened s (mark.Admit number who j c boot) =
-    record s { job = Some (record { number = number; who = who; job = j; call = c; boot = boot; before = None }); is_fresh = true }
-happened s (mark.Done number who c boot asks answers r events) =
+abbrev pub applied : Standing → Mark ℕ → Standing
+applied s (mark.Admit number who j c boot) =
+    record s { job = Some (record { number = number; who = who; job = j; call = c; boot = boot; before = None }); just_admitted = true }
+applied s (mark.Done number who c boot asks answers r events) =
     let next = (seq s.state c boot answers).state in
-    record s { state = next; job = None; is_fresh = false; lost = lost_boot next boot answers }
-happened s (mark.Start number who c boot) = after_start s number who c
-happened s (mark.Phase number who p asks answers o events) = after_phase s s.operation answers o
-happened s (mark.End number who r) = record s { state = without_operation s.state; operation = None; is_fresh = false }
-happened s (mark.Exit boot why events) =
-    record s { state = exit_state s.state why; job = job_at_exit s.state boot s.job; is_fresh = false; lost = None }
-happened s (mark.Event boot e events) = record s { state = event_state s.state e; is_fresh = false }
-happened s other = record s { is_fresh = false }
+    record s { state = next; job = None; just_admitted = false; lost = lost_boot next boot answers }
+applied s (mark.Start number who c boot) = after_start s number who c
+applied s (mark.TakeUp number who c) = after_take_up s s.operation number who c
+applied s (mark.Phase number who p asks answers o events) = after_phase s s.operation answers o
+applied s (mark.End number who r) = record s { state = without_operation s.state; operation = None; just_admitted = false }
+applied s (mark.Exit boot why events) =
+    record s { state = exit_state s.state why; job = job_at_exit s.state boot s.job; just_admitted = false; lost = None }
+applied s (mark.Event boot e events) = record s { state = event_state s.state e; just_admitted = false }
+applied s other = record s { just_admitted = false }
 
 -- what stands after one more mark
 abbrev pub after : Standing → Mark ℕ → Standing
-after s m = record (happened s m) { clients = clients_after s.clients m }
+after s m = record (applied s m) { clients = clients_after s.clients m }
 
 -- what stands after these marks
 abbrev pub standing : Standing → List (Mark ℕ) → Standing
 standing s [] = s
 standing s (m ∷ marks) = standing (after s m) marks
 
--- a registration that was cut hears no more
+-- a registration that was cut with_more no more
 abbrev pub registered : List Registration → List Client
 registered [] = []
 registered (r ∷ rs) =
@@ -123,7 +142,7 @@ abbrev pub at_base : Base → Standing
 at_base b = record {
   state = b.state;
   job = None;
-  is_fresh = false;
+  just_admitted = false;
   operation = b.operation;
   lost = None;
   clients = registered b.registrations;

@@ -7,24 +7,24 @@ use Rattle.domain_spec.specs.Types.ask
 use Rattle.domain_spec.specs.Types.job
 use Rattle.domain_spec.specs.Types.phase
 use Rattle.domain_spec.specs.Types.given
-use Rattle.domain_spec.specs.declared.mark.Looked.{Looked}
+use Rattle.domain_spec.specs.declared.mark.HeldJobs.{HeldJobs}
 use Rattle.domain_spec.specs.declared.open.OpenJob.{OpenJob}
 use Rattle.domain_spec.specs.declared.open.OpenOperation.{OpenOperation}
 use Rattle.domain_spec.specs.declared.standing.Standing.{Standing}
 use Rattle.domain_spec.specs.declared.step.Outcome.{Outcome}
 use Rattle.domain_spec.specs.declared.step.Outcome.TheVariants as outcome
 use Rattle.domain_spec.specs.Asks.{is_ended_answer}
-use Rattle.domain_spec.specs.Call.{begins, job_of}
-use Rattle.domain_spec.specs.JobTable.{May}
-use Rattle.domain_spec.specs.Open.{Excludes, IsCarried, IsOwnJob, IsRecord, IsRefusedAs, job_held, operation_held}
+use Rattle.domain_spec.specs.Call.{job_of, takes_up}
+use Rattle.domain_spec.specs.Open.{Excludes, MayAdmit, IsCarried, IsOwnJob, IsRecord, IsRefusedAs, job_held, operation_held}
 use Rattle.domain_spec.specs.Phase.{phase_asked, phase_of, phase_still_asked}
 use Rattle.domain_spec.specs.Reading.{carries_ended}
-use Rattle.domain_spec.specs.Sequential.{asked, goes_on_as_operation, meets_ended, seq, still_asked}
+use Rattle.domain_spec.specs.Sequential.{asked, goes_on_as_operation, meets_ended, still_asked}
+use Rattle.domain_spec.specs.TakeUp.{step_at, takes_it_up}
 
 -- a call is let in
-pub record IsAdmitted (s : Standing) (number : ℕ) (who : Who) (taken : Job) (c : Call) (boot : Option ℕ) : Type 0 where
-  pub may : May (job_held s.job) (operation_held s.operation) taken who
-  pub own : IsOwnJob s.operation number taken c
+pub record IsAdmitted (s : Standing) (number : ℕ) (who : Who) (wanted : Job) (c : Call) (boot : Option ℕ) : Type 0 where
+  pub may : MayAdmit (job_held s.job) (operation_held s.operation) (takes_up c) wanted who
+  pub own : IsOwnJob s.operation number wanted c
   pub carried : IsCarried s.state c boot
 
 -- this call is open under this number
@@ -76,25 +76,26 @@ pub record IsDoneAs (s : Standing) (before : Option State) (c : Call) (boot : Op
   pub planned : WerePlanned (planned_in (meets_ended s.state c boot) s.state before) (λ at. asked at c boot answers) asks answers
   pub through : still_asked s.state c boot answers ≡ []
   pub no_operation : goes_on_as_operation s.state c boot ≡ false
+  pub not_taken_up : takes_it_up s c boot ≡ false
   pub ended_first : EndedFirst (meets_ended s.state c boot) answers
   pub unsent : IsUnsentUntilMade s.operation boot asks answers
-  pub reply : r ≡ (seq s.state c boot answers).reply
-  pub told : events ≡ (seq s.state c boot answers).transitions
+  pub reply : r ≡ (step_at s c boot answers).reply
+  pub told : events ≡ (step_at s c boot answers).transitions
 
 abbrev pub IsDone : Standing → Option OpenJob → ℕ → Who → Call → Option ℕ → List Ask → List Answer → Reply → List Transition → Type 0
 IsDone s None number who c boot asks answers r events = ⊥
 IsDone s (Some j) number who c boot asks answers r events = IsOpen j number who c boot × IsDoneAs s j.before c boot asks answers r events
 
 -- a call is refused since its job is excluded
-pub record IsRefused (s : Standing) (who : Who) (c : Call) (why : RefusalCode) (looked : Looked) : Type 0 where
-  pub looked_at : IsRecord s looked
-  pub excluded : Excludes looked.active looked.op (begins c) (job_of c) who
-  pub code : IsRefusedAs why looked who
+pub record IsRefused (s : Standing) (who : Who) (c : Call) (why : RefusalCode) (held : HeldJobs) : Type 0 where
+  pub held_then : IsRecord s held
+  pub excluded : Excludes held.active held.op c who
+  pub code : IsRefusedAs why held who
 
 -- an operation begins where none is open: its call was let in right before, and its tests pass
 pub record IsStartOf (s : Standing) (j : OpenJob) (number : ℕ) (who : Who) (c : Call) (boot : Option ℕ) : Type 0 where
   pub call : IsOpen j number who c boot
-  pub right_before : s.is_fresh ≡ true
+  pub right_before : s.just_admitted ≡ true
   pub alone : s.operation ≡ None
   pub begins : goes_on_as_operation s.state c boot ≡ true
 
@@ -102,9 +103,20 @@ abbrev pub IsStarted : Standing → Option OpenJob → ℕ → Who → Call → 
 IsStarted s None number who c boot = ⊥
 IsStarted s (Some j) number who c boot = IsStartOf s j number who c boot
 
--- a nested job of this operation is open
+-- an operation that rests is taken up: the call was let in right before
+pub record IsTakeUpOf (s : Standing) (j : OpenJob) (number : ℕ) (who : Who) (c : Call) : Type 0 where
+  pub call : IsOpen j number who c j.boot
+  pub right_before : s.just_admitted ≡ true
+  pub takes : takes_it_up s c j.boot ≡ true
+
+abbrev pub IsTakenUp : Standing → Option OpenJob → ℕ → Who → Call → Type 0
+IsTakenUp s None number who c = ⊥
+IsTakenUp s (Some j) number who c = IsTakeUpOf s j number who c
+
+-- a nested job of this operation is open under this number
 pub record IsNested (j : OpenJob) (o : OpenOperation) (number : ℕ) (who : Who) : Type 0 where
   pub nested : j.job ≡ job.Nested
+  pub job_number : number ≡ j.number
   pub job_caller : j.who ≡ o.who
   pub numbered : number ≡ o.number
   pub caller : who ≡ o.who

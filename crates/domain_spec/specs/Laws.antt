@@ -1,6 +1,6 @@
 -- Laws of the definitions, in their subject's own words.
 use Rattle.std.specs.Prelude.{◌≡◌, ℕ, ◌+◌, ◌<◌, ◌≤◌, List, [], ◌∷◌, ◌++◌, count_by, Bool, true, false, Option, None, Some}
-use Rattle.domain_spec.specs.Types.{Answer, Call, Refusal, State, Transition}
+use Rattle.domain_spec.specs.Types.{Answer, State}
 use Rattle.domain_spec.specs.declared.mark.Mark.{Mark}
 use Rattle.domain_spec.specs.declared.mark.Mark.TheVariants as mark
 use Rattle.domain_spec.specs.declared.open.OpenOperation.{OpenOperation}
@@ -11,47 +11,20 @@ use Rattle.domain_spec.specs.declared.step.Outcome.{Outcome}
 use Rattle.domain_spec.specs.declared.step.Outcome.TheVariants as outcome
 use Rattle.domain_spec.specs.Fold.{after, at_base, standing}
 use Rattle.domain_spec.specs.Legal.{IsLegal}
-use Rattle.domain_spec.specs.Owed.{all_transitions, owed}
 use Rattle.domain_spec.specs.Open.{IsKnownBoot}
 use Rattle.domain_spec.specs.Reading.{boots_of, is_live, live_boot}
-use Rattle.domain_spec.specs.CallResult.{refused}
-use Rattle.domain_spec.specs.Sequential.{meets_ended, seq}
-use Rattle.domain_spec.specs.Tests.{refusal_of}
 use Rattle.domain_spec.specs.WholeOperation.{is_through, whole_operation}
-
--- the state of a history is that of its parts, one after the other
-abbrev pub PartsFollow : Type 0
-PartsFollow = (s : Standing) (first then : List (Mark ℕ)) → standing s (first ++ then) ≡ standing (standing s first) then
-
--- a history is legal where its parts are, one after the other
-abbrev pub PartsAreLegal : Type 0
-PartsAreLegal =
-    (s : Standing) (first then : List (Mark ℕ)) → IsLegal s first → IsLegal (standing s first) then → IsLegal s (first ++ then)
-
--- the beginning of a legal history is legal
-abbrev pub BeginningIsLegal : Type 0
-BeginningIsLegal = (s : Standing) (first then : List (Mark ℕ)) → IsLegal s (first ++ then) → IsLegal s first
-
--- a refused test changes no state, and nobody is told
-abbrev pub RefusalChangesNothing : Type 0
-RefusalChangesNothing =
-    (s : State) (c : Call) (boot : Option ℕ) (answers : List Answer) (r : Refusal)
-    → meets_ended s c boot ≡ false → refusal_of s boot c ≡ Some r → seq s c boot answers ≡ refused s r
-
--- what is owed to a registration are the first of the transitions after it, in order
-abbrev pub OwedInOrder : Type 0
-OwedInOrder =
-    (client : ℕ) (marks : List (Mark ℕ)) → (rest : List Transition) × (all_transitions marks ≡ (owed client marks).events ++ rest)
 
 -- a mark that lets a call in
 abbrev pub lets_in : Mark ℕ → Bool
-lets_in (mark.Admit number who taken c boot) = true
+lets_in (mark.Admit number who wanted c boot) = true
 lets_in other = false
 
 -- a mark by which a call that was let in is no more open
 abbrev pub closes : Mark ℕ → Bool
 closes (mark.Done number who c boot asks answers r events) = true
 closes (mark.Start number who c boot) = true
+closes (mark.TakeUp number who c) = true
 closes (mark.Phase number who p asks answers next events) = true
 closes other = false
 
@@ -129,6 +102,7 @@ BootsAreNew = (s : Standing) (marks : List (Mark ℕ)) → IsCounted s → RiseA
 -- the due phase waits for an answer
 abbrev pub WaitsAt : Progress → Outcome → Type 0
 WaitsAt at (outcome.Over r) = Unit {0}
+WaitsAt at (outcome.Rest r) = Unit {0}
 WaitsAt at (outcome.On p) = is_through at ≡ false
 
 -- the operation is over, or its due phase waits for an answer

@@ -1,7 +1,7 @@
 -- A whole phase of an operation at one place of a history, with all its answers given at once: the
 -- state, the transitions and the outcome that it leaves, and the asks that it makes.
-use Rattle.std.specs.Prelude.{ℕ, ◌+◌, List, [], ◌∷◌, ◌++◌, codes, decimal, is_some, Option, Some, unwrap_or, if◌then◌else◌}
-use Rattle.domain_spec.specs.Types.{Answer, AnswerValue, Call, Domain, DomainDef, Live, Op, OpKind, Phase, Reply, RunState, Snap, SnapInfo, Transition}
+use Rattle.std.specs.Prelude.{ℕ, List, [], ◌∷◌, Option, Some, unwrap_or, if◌then◌else◌}
+use Rattle.domain_spec.specs.Types.{Answer, AnswerValue, Call, Domain, DomainDef, Live, Op, OpKind, Phase, Reply, RunState, SnapInfo, Transition}
 use Rattle.domain_spec.specs.Types.call
 use Rattle.domain_spec.specs.Types.kind
 use Rattle.domain_spec.specs.Types.phase
@@ -13,32 +13,20 @@ use Rattle.domain_spec.specs.Types.told
 use Rattle.domain_spec.specs.Types.value
 use Rattle.domain_spec.specs.declared.step.PhaseStep.{PhaseStep}
 use Rattle.domain_spec.specs.Asks.{first_value}
-use Rattle.domain_spec.specs.PhaseAsks.{resumes, taken}
+use Rattle.domain_spec.specs.PhaseAsks.{copied_bytes, resumes}
 use Rattle.domain_spec.specs.Reading.{with_run}
 use Rattle.domain_spec.specs.Refusals.{aborted}
 use Rattle.domain_spec.specs.CallResult.{ended, tell_listeners}
-use Rattle.domain_spec.specs.Snapshots.{snapshot_named, with_snapshot}
+use Rattle.domain_spec.specs.Snapshots.{snapshot_name, with_snapshot}
+use Rattle.domain_spec.specs.Migration.{migration_done}
 use Rattle.domain_spec.specs.CopyResult.{goes_on, over, run_as, start_value, current_after, load_done, copy_done, poll_step}
 
 -- the domain as its guest goes on, where it is to
-abbrev pub resumed : Domain → Live → Op → Domain
-resumed d l op = if resumes l op then with_run d l run.Running else d
+abbrev pub with_guest_resumed : Domain → Live → Op → Domain
+with_guest_resumed d l op = if resumes l op then with_run d l run.Running else d
 
-abbrev pub resumed_events : Live → Op → List Transition
-resumed_events l op = tell_listeners (resumes l op) told.RESUMED_UNPAUSED
-
--- snap1, snap2 and so on
-abbrev pub numbered_name : ℕ → List ℕ
-numbered_name n = codes "snap" ++ decimal n
-
--- the least number from n on that no snapshot's name has; there are no more steps than snapshots
-abbrev pub free_number : List Snap → List Snap → ℕ → ℕ
-free_number [] snaps n = n
-free_number (step ∷ steps) snaps n = if is_some (snapshot_named snaps (numbered_name n)) then free_number steps snaps (n + 1) else n
-
--- the name of a new snapshot: the given one, or the first free one of snap1, snap2 and so on
-abbrev pub snapshot_name : Domain → SnapInfo → List ℕ
-snapshot_name d info = unwrap_or info.name (numbered_name (free_number d.snaps d.snaps 1))
+abbrev pub resume_events : Live → Op → List Transition
+resume_events l op = tell_listeners (resumes l op) told.RESUMED_UNPAUSED
 
 -- a new snapshot has the current one as its parent, and becomes the current one
 abbrev pub snapshot_taken : Domain → SnapInfo → Option RunState → DomainDef → List ℕ → Domain
@@ -57,13 +45,13 @@ snapshot_taken d info ran def saved = record d {
 -- a snapshot of a guest is taken
 abbrev pub live_taken : Domain → Live → Op → SnapInfo → Option AnswerValue → PhaseStep
 live_taken d l op info v =
-    over (state.Held (snapshot_taken (resumed d l op) info (Some (run_as op.was_running)) l.def (taken v)))
-    (resumed_events l op) (reply.Ok (value.Name (snapshot_name d info)))
+    over (state.Held (snapshot_taken (with_guest_resumed d l op) info (Some (run_as op.was_running)) l.def (copied_bytes v)))
+    (resume_events l op) (reply.Ok (value.Name (snapshot_name d info)))
 
 abbrev pub take_done : Domain → Live → Op → Call → List Answer → PhaseStep
 take_done d l op (call.Save name) answers = goes_on d op phase.Quit []
 take_done d l op (call.Snapshot info) answers = live_taken d l op info (first_value answers)
-take_done d l op c answers = over (state.Held (resumed d l op)) (resumed_events l op) (reply.Ok value.Nothing)
+take_done d l op c answers = over (state.Held (with_guest_resumed d l op)) (resume_events l op) (reply.Ok value.Nothing)
 
 -- a guest that was saved is gone, and so is one whose place a snapshot without state takes
 abbrev pub quit_done : Domain → Live → Call → PhaseStep
@@ -75,7 +63,7 @@ abbrev pub led_to : Op → Reply
 led_to op = reply.No (unwrap_or op.refusal aborted)
 
 abbrev pub cancel_done : Domain → Live → Op → PhaseStep
-cancel_done d l op = over (state.Held (resumed d l op)) (resumed_events l op) (led_to op)
+cancel_done d l op = over (state.Held (with_guest_resumed d l op)) (resume_events l op) (led_to op)
 
 abbrev pub run_done : Domain → Live → Call → PhaseStep
 run_done d l c = over (state.Held (with_run d l run.Running)) (told.STARTED_BOOTED ∷ []) (reply.Ok (start_value d c))
@@ -83,6 +71,7 @@ run_done d l c = over (state.Held (with_run d l run.Running)) (told.STARTED_BOOT
 -- a start lets the guest run, any other loads its state first
 abbrev pub after_make : OpKind → Phase
 after_make kind.Start = phase.Run
+after_make kind.MigrateIn = phase.MigrateLoad
 after_make other = phase.Load
 
 -- a phase on a guest, where each answer is Ok
@@ -96,3 +85,4 @@ live_phase_done d l op c answers phase.Poll = poll_step d op (first_value answer
 live_phase_done d l op c answers phase.Take = take_done d l op c answers
 live_phase_done d l op c answers phase.Quit = quit_done d l c
 live_phase_done d l op c answers phase.Cancel = cancel_done d l op
+live_phase_done d l op c answers other = migration_done d l op c answers (led_to op) other

@@ -16,11 +16,13 @@ use Rattle.domain_spec.specs.declared.step.PhaseStep.{PhaseStep}
 use Rattle.domain_spec.specs.declared.planned.PlannedAsk.{PlannedAsk}
 use Rattle.domain_spec.specs.Asks.{asks_left, asks_made, first_bad, first_value, is_undone}
 use Rattle.domain_spec.specs.CopyResult.{cancels, current_after, over}
-use Rattle.domain_spec.specs.Operation.{led_to, live_phase_done, snapshot_name, snapshot_taken}
+use Rattle.domain_spec.specs.Migration.{rests}
+use Rattle.domain_spec.specs.Operation.{led_to, live_phase_done, snapshot_taken}
 use Rattle.domain_spec.specs.PhaseAsks.{phase_plan}
 use Rattle.domain_spec.specs.Reading.{carries_ended}
 use Rattle.domain_spec.specs.Refusals.{failure_of, guest_ended, monitor_lost, no_domain}
 use Rattle.domain_spec.specs.CallResult.{ended}
+use Rattle.domain_spec.specs.Snapshots.{snapshot_name}
 
 -- a snapshot of a domain without a guest is taken of its stored definition, without commands
 abbrev pub inactive_taken : Domain → SnapInfo → Option DomainDef → PhaseStep
@@ -46,6 +48,18 @@ inactive_phase_done d op c other = over (state.Held d) [] (led_to op)
 abbrev pub start_failed : Domain → Live → Refusal → PhaseStep
 start_failed d l r = over (ended d l reason.Failed) (told.STOPPED_FAILED ∷ []) (reply.No r)
 
+-- a phase of a migration that was refused: a new boot is gone, a copy is given up, and one that was
+-- taken up rests again with that refusal
+abbrev pub migration_refused : Domain → Live → Op → Refusal → Phase → PhaseStep
+migration_refused d l op r phase.MigrateLoad = start_failed d l r
+migration_refused d l op r phase.MigrateTake = cancels d op r
+migration_refused d l op r phase.MigrateCancel = over (state.Held d) [] (led_to op)
+migration_refused d l op r phase.MigrateQuit = rests d op [] (reply.No r)
+migration_refused d l op r phase.MigrateBack = rests d op [] (reply.No r)
+migration_refused d l op r phase.MigrateRun = rests d op [] (reply.No r)
+migration_refused d l op r phase.MigrateDrop = rests d op [] (reply.No r)
+migration_refused d l op r other = over (state.Held d) [] (reply.No r)
+
 -- a phase on a guest that was refused, or met a fault of the store or want of memory
 abbrev pub live_phase_refused : Domain → Live → Op → Refusal → Phase → PhaseStep
 live_phase_refused d l op r phase.Nothing = over (state.Held d) [] (reply.No r)
@@ -57,6 +71,7 @@ live_phase_refused d l op r phase.Poll = cancels d op r
 live_phase_refused d l op r phase.Take = cancels d op r
 live_phase_refused d l op r phase.Quit = cancels d op r
 live_phase_refused d l op r phase.Cancel = over (state.Held d) [] (led_to op)
+live_phase_refused d l op r other = migration_refused d l op r other
 
 abbrev pub inactive_phase_refused : Domain → Op → Refusal → Phase → PhaseStep
 inactive_phase_refused d op r phase.Take = cancels d op r
@@ -77,9 +92,6 @@ answered_phase d op c answers None = phase_done d d.live op c answers
 answered_phase d op c answers (Some bad) =
     if is_undone bad then phase_refused d d.live op (failure_of bad) else over (state.Held d) [] (reply.No monitor_lost)
 
-abbrev pub answered : Domain → Op → Call → List Answer → PhaseStep
-answered d op c answers = answered_phase d op c answers (first_bad answers)
-
 -- a save whose guest was told to quit has what it wanted
 abbrev pub quit_was_done : Call → Outcome → List Answer → Bool
 quit_was_done (call.Save name) (outcome.On phase.Quit) answers = is_some (first_value answers)
@@ -92,7 +104,7 @@ ended_reply o (Some boot) answers = if quit_was_done o.call o.outcome answers th
 
 abbrev pub phase_on : Domain → Option Op → Call → List Answer → PhaseStep
 phase_on d None c answers = over (state.Held d) [] (reply.No no_domain)
-phase_on d (Some op) c answers = answered d op c answers
+phase_on d (Some op) c answers = answered_phase d op c answers (first_bad answers)
 
 abbrev pub phase_in : State → Call → List Answer → PhaseStep
 phase_in (state.Vacant boots) c answers = over (state.Vacant boots) [] (reply.No no_domain)

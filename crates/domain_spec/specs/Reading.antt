@@ -40,14 +40,14 @@ abbrev pub boots_of : State → ℕ
 boots_of (state.Vacant boots) = boots
 boots_of (state.Held d) = d.boots
 
-abbrev pub settled_by : Domain → Option Live → Option DomainDef → State
-settled_by d None None = state.Vacant d.boots
-settled_by d live stored = state.Held d
+abbrev pub unless_gone_by : Domain → Option Live → Option DomainDef → State
+unless_gone_by d None None = state.Vacant d.boots
+unless_gone_by d live stored = state.Held d
 
 -- a domain that has neither a live nor a stored definition is gone, and its snapshots with it; the
 -- number of boots stays with the cell
-abbrev pub settled : Domain → State
-settled d = settled_by d d.live d.stored
+abbrev pub unless_gone : Domain → State
+unless_gone d = unless_gone_by d d.live d.stored
 
 abbrev pub is_running : RunState → Bool
 is_running run.Running = true
@@ -62,6 +62,11 @@ abbrev pub is_held_by_job : RunState → Bool
 is_held_by_job (run.Paused cause.Job) = true
 is_held_by_job other = false
 
+-- it stands still between two hosts
+abbrev pub is_moved : RunState → Bool
+is_moved (run.Paused cause.Moved) = true
+is_moved other = false
+
 abbrev pub is_crashed : RunState → Bool
 is_crashed run.Crashed = true
 is_crashed other = false
@@ -70,6 +75,11 @@ is_crashed other = false
 abbrev pub has_crashed : Option Live → Bool
 has_crashed None = false
 has_crashed (Some l) = is_crashed l.run
+
+-- there is a guest, and it is between two hosts
+abbrev pub has_moved : Option Live → Bool
+has_moved None = false
+has_moved (Some l) = is_moved l.run
 
 -- the domain with its guest in this state
 abbrev pub with_run : Domain → Live → RunState → Domain

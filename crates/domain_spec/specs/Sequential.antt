@@ -16,11 +16,8 @@ abbrev pub answered_step : State → Call → List Answer → Option Answer → 
 answered_step s c answers None = step_of s c answers
 answered_step s c answers (Some bad) = refused s (failure_of bad)
 
-abbrev pub answered : State → Call → List Answer → CallStep
-answered s c answers = answered_step s c answers (first_bad answers)
-
 abbrev pub tested_step : State → Call → List Answer → Option Refusal → CallStep
-tested_step s c answers None = answered s c answers
+tested_step s c answers None = answered_step s c answers (first_bad answers)
 tested_step s c answers (Some r) = refused s r
 
 -- the boot that the call carries is not live: a Destroy has what it wanted

@@ -1,10 +1,10 @@
 -- The snapshots of a domain: a list by rising name, in which each names its parent (libvirt's
 -- snapshot XML format, `name` and `parent`).
-use Rattle.std.specs.Prelude.{ℕ, List, [], ◌∷◌, Bool, true, false, not, ◌||◌, map, filter, find, insert, bytes_eq, Option, None, Some, is_some, if◌then◌else◌}
+use Rattle.std.specs.Prelude.{ℕ, ◌+◌, List, [], ◌∷◌, ◌++◌, codes, decimal, unwrap_or, Bool, true, false, not, ◌||◌, map, filter, find, insert, bytes_eq, Option, None, Some, is_some, if◌then◌else◌}
 use Rattle.std.specs.List.{position_or_len}
 use Rattle.std.specs.Ordering.{nat_cmp, is_lt}
 use Rattle.std.specs.Cmp.Lexicographic.{slice_cmp}
-use Rattle.domain_spec.specs.Types.{RunState, Snap}
+use Rattle.domain_spec.specs.Types.{Domain, RunState, Snap, SnapInfo}
 use Rattle.domain_spec.specs.Reading.{is_running}
 
 abbrev pub is_named : List ℕ → Snap → Bool
@@ -74,3 +74,16 @@ current_in left (Some current) parent = if is_some (snapshot_named left current)
 abbrev pub current_without : List Snap → Option (List ℕ) → List ℕ → Bool → Option (List ℕ)
 current_without snaps current name children =
     current_in (without_snapshot snaps name children) current (parent_of (snapshot_named snaps name))
+
+-- snap1, snap2 and so on
+abbrev pub numbered_name : ℕ → List ℕ
+numbered_name n = codes "snap" ++ decimal n
+
+-- the least number from n on that no snapshot's name has; there are no more steps than snapshots
+abbrev pub free_number : List Snap → List Snap → ℕ → ℕ
+free_number [] snaps n = n
+free_number (step ∷ steps) snaps n = if is_some (snapshot_named snaps (numbered_name n)) then free_number steps snaps (n + 1) else n
+
+-- the name of a new snapshot: the given one, or the first free one of snap1, snap2 and so on
+abbrev pub snapshot_name : Domain → SnapInfo → List ℕ
+snapshot_name d info = unwrap_or info.name (numbered_name (free_number d.snaps d.snaps 1))

@@ -1,12 +1,14 @@
 -- The tests of each call, in their order. The first that fails gives the refusal, and no command
 -- is sent.
-use Rattle.std.specs.Prelude.{ℕ, ◌^◌, List, [], ◌∷◌, Bool, true, false, ◌&&◌, ◌||◌, not, length, nat_lt, nat_le, int_lt, ℤ, pos, is_none, is_some, option_map, find, Option, None, Some}
+use Rattle.std.specs.Prelude.{ℕ, ◌^◌, List, [], ◌∷◌, Bool, true, false, ◌&&◌, ◌||◌, not, length, nat_lt, nat_le, int_lt, ℤ, pos, is_none, is_some, option_map, find, Option, None, Some, if◌then◌else◌}
 use Rattle.domain_spec.specs.Types.{Call, DeviceDef, Domain, Live, Op, OpKind, Refusal, Snap, State}
 use Rattle.domain_spec.specs.Types.call
 use Rattle.domain_spec.specs.Types.kind
 use Rattle.domain_spec.specs.Types.state
 use Rattle.domain_spec.specs.declared.testing.Test.{Test}
-use Rattle.domain_spec.specs.Reading.{has_crashed}
+use Rattle.domain_spec.specs.Call.{begins}
+use Rattle.domain_spec.specs.Migrating.{can_limit, rests_as}
+use Rattle.domain_spec.specs.Reading.{has_crashed, has_moved}
 use Rattle.domain_spec.specs.Refusals.{bad_kick, boots_spent, invalid, list_full, no_device, no_domain, no_slot, no_snapshot, out_of_range, snapshot_exists}
 use Rattle.domain_spec.specs.Devices.{device_like, free_slot, key_of}
 use Rattle.domain_spec.specs.Snapshots.{has_state, snapshot_named}
@@ -64,11 +66,20 @@ abbrev pub is_abortable : OpKind → Bool
 is_abortable kind.Save = true
 is_abortable kind.Dump = true
 is_abortable kind.Snapshot = true
+is_abortable kind.MigrateOut = true
 is_abortable other = false
 
 abbrev pub can_abort : Option Op → Bool
 can_abort None = false
-can_abort (Some op) = is_abortable op.kind
+can_abort (Some op) = is_abortable op.kind && not op.rests
+
+-- no operation of this kind rests
+abbrev pub none_resting : Domain → OpKind → Test
+none_resting d k = fails_if (not (rests_as k d.op)) (invalid d.live)
+
+-- the guest stands still between two hosts
+abbrev pub moved : Domain → Test
+moved d = fails_if (has_moved d.live) (invalid d.live)
 
 abbrev pub absent : Domain → List ℕ → Test
 absent d name = fails_if (is_none (snapshot_named d.snaps name)) (no_snapshot name)
@@ -117,41 +128,42 @@ live_tests d (call.Detach old) = inactive d ∷ key_absent d old ∷ []
 live_tests d (call.Kick n) = bad_number n ∷ inactive d ∷ []
 live_tests d call.Reboot = inactive d ∷ []
 live_tests d call.MemoryStats = inactive d ∷ []
+live_tests d call.Suspend = inactive d ∷ crashed d ∷ moved d ∷ []
+live_tests d (call.Limit rest) = inactive d ∷ fails_if (not (can_limit d.op)) (invalid d.live) ∷ outside rest 0 (2 ^ 40) ∷ []
 live_tests d other = inactive d ∷ crashed d ∷ []
 
--- the calls that begin an operation
+-- the calls that begin an operation; Start, Restore and Prepare are the other ones
 abbrev pub operation_tests : Domain → Call → List Test
 operation_tests d (call.Create def) = fails_if true (invalid d.live) ∷ []
 operation_tests d (call.Save name) = inactive d ∷ crashed d ∷ []
 operation_tests d (call.Dump name) = inactive d ∷ []
 operation_tests d (call.Snapshot info) = name_there d info.name ∷ snapshots_full d ∷ crashed d ∷ []
+operation_tests d call.Perform = inactive d ∷ crashed d ∷ []
 operation_tests d (call.Revert name) = absent d name ∷ spent_at_revert d name ∷ []
 operation_tests d other = active d ∷ spent d.boots ∷ []
 
--- Suspend, Resume and Shutdown are the other calls on a guest, Start and Restore the other ones that
--- begin an operation
-abbrev pub held_tests : Domain → Option ℕ → Call → List Test
-held_tests d boot (call.Define def) = []
-held_tests d boot call.Destroy = fails_if (is_none boot) (invalid d.live) ∷ []
-held_tests d boot call.Undefine = none_stored d ∷ has_snapshots d boot ∷ []
-held_tests d boot (call.SetAutostart on) = none_stored d ∷ []
-held_tests d boot call.Abort = fails_if (not (can_abort d.op)) (invalid d.live) ∷ []
-held_tests d boot (call.SnapDelete name children) = absent d name ∷ []
-held_tests d boot call.Start = operation_tests d call.Start
-held_tests d boot (call.Create def) = operation_tests d (call.Create def)
-held_tests d boot (call.Restore def running saved) = operation_tests d (call.Restore def running saved)
-held_tests d boot (call.Save name) = operation_tests d (call.Save name)
-held_tests d boot (call.Dump name) = operation_tests d (call.Dump name)
-held_tests d boot (call.Snapshot info) = operation_tests d (call.Snapshot info)
-held_tests d boot (call.Revert name) = operation_tests d (call.Revert name)
-held_tests d boot other = live_tests d other
+-- the calls that begin no operation; Resume and Shutdown are the other ones on a guest
+abbrev pub plain_tests : Domain → Option ℕ → Call → List Test
+plain_tests d boot (call.Define def) = []
+plain_tests d boot call.Destroy = fails_if (is_none boot) (invalid d.live) ∷ []
+plain_tests d boot call.Undefine = none_stored d ∷ has_snapshots d boot ∷ []
+plain_tests d boot (call.SetAutostart on) = none_stored d ∷ []
+plain_tests d boot call.Abort = fails_if (not (can_abort d.op)) (invalid d.live) ∷ []
+plain_tests d boot (call.SnapDelete name children) = absent d name ∷ []
+plain_tests d boot (call.Confirm verdict) = none_resting d kind.MigrateOut ∷ []
+plain_tests d boot (call.Finish go) = none_resting d kind.MigrateIn ∷ []
+plain_tests d boot other = live_tests d other
 
--- a vacant cell answers 42 to all but Define, Create and Restore
+abbrev pub held_tests : Domain → Option ℕ → Call → List Test
+held_tests d boot c = if is_some (begins c) then operation_tests d c else plain_tests d boot c
+
+-- a vacant cell answers 42 to all but Define, Create, Restore and Prepare
 abbrev pub tests_of : State → Option ℕ → Call → List Test
 tests_of (state.Held d) boot c = held_tests d boot c
 tests_of (state.Vacant boots) boot (call.Define def) = []
 tests_of (state.Vacant boots) boot (call.Create def) = spent boots ∷ []
 tests_of (state.Vacant boots) boot (call.Restore def running saved) = spent boots ∷ []
+tests_of (state.Vacant boots) boot (call.Prepare def running saved) = spent boots ∷ []
 tests_of (state.Vacant boots) boot c = fails_if true no_domain ∷ []
 
 -- the refusal of the tests, if one fails

@@ -60,6 +60,7 @@ is_through at = length (phase_still_asked at.state at.operation at.left) == 0
 
 abbrev pub stepped_by : Progress → Outcome → Progress
 stepped_by at (outcome.Over r) = at
+stepped_by at (outcome.Rest r) = at
 stepped_by at (outcome.On p) = if is_through at then with_phase at p (due_step at) else at
 
 -- the due phase is done, if it is through
@@ -67,12 +68,12 @@ abbrev pub stepped : Progress → Progress
 stepped at = stepped_by at at.operation.outcome
 
 -- and so is the next one, if it asks nothing: a poll that gives up. The cancel behind that one asks.
-abbrev pub settled : Progress → Progress
-settled at = stepped (stepped at)
+abbrev pub advanced : Progress → Progress
+advanced at = stepped (stepped at)
 
 -- the operation gets one more answer
 abbrev pub with_answer : Progress → Answer → Progress
-with_answer at a = settled (record at { left = at.left ++ a ∷ [] })
+with_answer at a = advanced (record at { left = at.left ++ a ∷ [] })
 
 abbrev pub with_answers : Progress → List Answer → Progress
 with_answers at [] = at
@@ -80,4 +81,4 @@ with_answers at (a ∷ answers) = with_answers (with_answer at a) answers
 
 -- how far an operation comes that is open in this state, where these answers come
 abbrev pub whole_operation : State → OpenOperation → List Answer → Progress
-whole_operation s o answers = with_answers (settled (record { phases = []; state = s; operation = o; left = [] })) answers
+whole_operation s o answers = with_answers (advanced (record { phases = []; state = s; operation = o; left = [] })) answers

@@ -20,7 +20,7 @@ pub enum CoreStep<N> {
         number: N,
         /// Its caller.
         who: Who,
-        /// The call, which begins no operation.
+        /// The call, which neither begins an operation nor takes one up.
         call: Call,
         /// What it knows of its boot.
         first: First,
@@ -48,6 +48,15 @@ pub enum CoreStep<N> {
         /// Its caller.
         who: Who,
         /// The call, which begins an operation.
+        call: Call,
+    },
+    /// A call looks whether it may take up the operation that rests.
+    TakeUp {
+        /// The number of its pass.
+        number: N,
+        /// Its caller.
+        who: Who,
+        /// The call, which takes an operation up.
         call: Call,
     },
     /// An operation goes on with the phase that is due.

@@ -15,12 +15,13 @@ mod testing;
 
 pub use core_step::{CoreStep, First};
 pub use laws::{
-    beginning_is_legal, boots_are_new, boots_never_fall, each_boot_ends_once, one_job_at_a_time,
-    one_operation_at_a_time, operations_go_on, owed_in_order, parts_are_legal, parts_follow,
-    refusal_changes_nothing,
+    asked_stays, base_keeps, boots_are_new, boots_never_fall, closed_under_its_number,
+    destroy_ends, each_boot_ends_once, ended_only_where_not_live, every_run_is_legal,
+    has_whole_life, moves_are_made, one_job_at_a_time, one_operation_at_a_time, operations_go_on,
+    owed_exactly, phase_asked_stays, registrations_agree, rising_goes_on,
 };
 pub use loaded::Loaded;
-pub use mark::{Looked, Mark};
+pub use mark::{HeldJobs, HeldOperation, Mark};
 pub use open::{OpenJob, OpenOperation};
 pub use owed::Owed;
 pub use planned::PlannedAsk;

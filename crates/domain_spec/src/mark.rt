@@ -4,18 +4,29 @@ use virt_types::{
     Reply, Transition, Who, WhoList,
 };
 
-/// A domain's job record, as a call looked at it.
+/// The operation that is held for a domain.
+#[derive(Clone, Copy, Debug, PartialEq, Eq)]
+pub struct HeldOperation {
+    /// What kind it is.
+    pub kind: OpKind,
+    /// Who holds it.
+    pub who: Who,
+    /// Whether it rests until a call takes it up.
+    pub rests: bool,
+}
+
+/// The jobs that were held for a domain where a call looked whether it might be let in.
 #[derive(Drop)]
-pub struct Looked {
+pub struct HeldJobs {
     /// The normal job that was held, and who held it.
     pub active: Option<(Job, Who)>,
-    /// The operation that was held, and who held it.
-    pub op: Option<(OpKind, Who)>,
+    /// The operation that was held.
+    pub op: Option<HeldOperation>,
     /// Who waited.
     pub waiting: WhoList,
 }
 
-/// One thing that happened to a domain. `number`, of whatever type `N`, is the number of the pass in
+/// One thing that applied to a domain. `number`, of whatever type `N`, is the number of the pass in
 /// whose turn a call's mark was made; a boot's end, a guest's event and a cut belong to nobody.
 #[derive(Drop)]
 pub enum Mark<N> {
@@ -61,8 +72,8 @@ pub enum Mark<N> {
         call: Call,
         /// Whether it looked often enough, or too many others waited.
         code: RefusalCode,
-        /// The record as it was looked at.
-        looked: Looked,
+        /// The jobs that it found held.
+        held: HeldJobs,
     },
     /// An operation began.
     Start {
@@ -74,6 +85,15 @@ pub enum Mark<N> {
         call: Call,
         /// The boot that the call carries.
         boot: Option<u64>,
+    },
+    /// A call took up the operation that rested.
+    TakeUp {
+        /// The number of its pass.
+        number: N,
+        /// Its caller.
+        who: Who,
+        /// The call that takes it up.
+        call: Call,
     },
     /// A phase of an operation was done.
     Phase {

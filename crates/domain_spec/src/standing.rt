@@ -48,7 +48,7 @@ pub struct Standing {
     /// The normal job that is held.
     pub job: Option<OpenJob>,
     /// Whether the last mark let that job's call in.
-    pub is_fresh: bool,
+    pub just_admitted: bool,
     /// The operation that is under way.
     pub operation: Option<OpenOperation>,
     /// The boot whose monitor was lost, where its end is to be marked next.
@@ -64,7 +64,7 @@ impl Drop for Standing {
         let Standing {
             state: _,
             job: _,
-            is_fresh: _,
+            just_admitted: _,
             operation: _,
             lost: _,
             clients: _,

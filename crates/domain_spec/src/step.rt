@@ -18,6 +18,8 @@ pub enum Outcome {
     On(Phase),
     /// The operation is over, with this reply.
     Over(Reply),
+    /// The operation rests until a call takes it up; the call that came so far has this reply.
+    Rest(Reply),
 }
 
 impl TryCopy for Outcome {
@@ -25,6 +27,7 @@ impl TryCopy for Outcome {
         Ok(match self {
             Outcome::On(phase) => Outcome::On(*phase),
             Outcome::Over(reply) => Outcome::Over(reply.copy()?),
+            Outcome::Rest(reply) => Outcome::Rest(reply.copy()?),
         })
     }
 }

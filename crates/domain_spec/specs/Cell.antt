@@ -1,0 +1,99 @@
+-- A domain's cell between two turns: its history, and what it keeps beside that, for each number alone.
+use Rattle.std.specs.Prelude.{ℕ, ◌==◌, List, [], ◌++◌, map, filter, find, take, not, ◌&&◌, Option, None, Some, option_map, unwrap_or, if◌then◌else◌}
+use Rattle.domain_spec.specs.Types.{Answer, Ask, GuestEvent, Job, State, Who}
+use Rattle.domain_spec.specs.Types.job
+use Rattle.domain_spec.specs.declared.mark.Mark.{Mark}
+use Rattle.domain_spec.specs.declared.open.OpenJob.{OpenJob}
+use Rattle.domain_spec.specs.declared.open.OpenOperation.{OpenOperation}
+use Rattle.domain_spec.specs.declared.standing.Base.{Base}
+use Rattle.domain_spec.specs.declared.standing.Registration.{Registration}
+use Rattle.domain_spec.specs.declared.standing.Standing.{Standing}
+use Rattle.domain_spec.specs.Fold.{at_base, standing}
+use Rattle.domain_spec.specs.Open.{is_rest}
+use Rattle.domain_spec.specs.Phase.{phase_asked, phase_still_asked}
+use Rattle.domain_spec.specs.Sequential.{asked, still_asked}
+
+-- who waits by which pass, and how many of its looks found it excluded
+pub record Waiter : Type 0 where
+  pub number : ℕ
+  pub who : Who
+  pub looks : ℕ
+
+-- what a guest did while a job was open; it is applied once none is
+pub record HeldEvent : Type 0 where
+  pub boot : ℕ
+  pub event : GuestEvent
+
+-- a domain's cell: `answers` are those of the open call or phase so far; `ears` are out, with the number
+-- of the pass that has them and their boot
+pub record Cell : Type 0 where
+  pub base : Base
+  pub marks : List (Mark ℕ)
+  pub registrations : List Registration
+  pub answers : List Answer
+  pub waiting : List Waiter
+  pub held : List HeldEvent
+  pub ears : Option (ℕ × ℕ)
+
+-- what is in force after the cell's marks
+abbrev pub standing_of : Cell → Standing
+standing_of c = standing (at_base c.base) c.marks
+
+-- an open call with its ticket: what it has asked, the ask that waits among them, and what was answered
+pub record OpenCall : Type 0 where
+  pub job : OpenJob
+  pub asks : List Ask
+  pub answers : List Answer
+
+-- a registration, and how many transitions it took
+pub record Taken : Type 0 where
+  pub client : ℕ
+  pub taken : ℕ
+
+-- what a cell keeps for one number alone: who waits by it, its open call, its operation unless that rests,
+-- its registrations, and the boot whose ears it has out
+pub record Share : Type 0 where
+  pub waits : Option Who
+  pub call : Option OpenCall
+  pub operation : Option OpenOperation
+  pub registrations : List Taken
+  pub ears : Option ℕ
+
+-- the state in which an open call's asks were planned: where its boot has ended, the one just before
+abbrev pub planned_at : State → OpenJob → State
+planned_at s j = unwrap_or j.before s
+
+abbrev pub phase_asks : State → Option OpenOperation → List Answer → List Ask
+phase_asks s None answers = []
+phase_asks s (Some o) answers = phase_asked s o answers ++ take 1 (phase_still_asked s o answers)
+
+abbrev pub call_asks : State → OpenJob → List Answer → List Ask
+call_asks s j answers = asked s j.call j.boot answers ++ take 1 (still_asked s j.call j.boot answers)
+
+-- what an open call has asked after these answers; the last ask may wait for its own
+abbrev pub asks_so_far : Standing → Job → OpenJob → List Answer → List Ask
+asks_so_far s job.Nested j answers = phase_asks (planned_at s.state j) s.operation answers
+asks_so_far s other j answers = call_asks (planned_at s.state j) j answers
+
+abbrev pub call_of : Standing → Option OpenJob → List Answer → ℕ → Option OpenCall
+call_of s None answers n = None
+call_of s (Some j) answers n =
+    if j.number == n then Some (record { job = j; asks = asks_so_far s j.job j answers; answers = answers }) else None
+
+abbrev pub operation_of : Option OpenOperation → ℕ → Option OpenOperation
+operation_of None n = None
+operation_of (Some o) n = if o.number == n && not (is_rest o.outcome) then Some o else None
+
+abbrev pub ears_of : Option (ℕ × ℕ) → ℕ → Option ℕ
+ears_of None n = None
+ears_of (Some ears) n = if ears.0 == n then Some ears.1 else None
+
+-- what the cell keeps for this number
+abbrev pub share_of : Cell → ℕ → Share
+share_of c n = record {
+  waits = option_map (λ w. w.who) (find (λ w. w.number == n) c.waiting);
+  call = call_of (standing_of c) (standing_of c).job c.answers n;
+  operation = operation_of (standing_of c).operation n;
+  registrations = map (λ r. record { client = r.client; taken = r.taken }) (filter (λ r. r.number == n) c.registrations);
+  ears = ears_of c.ears n;
+}
