@@ -41,7 +41,7 @@ fn revert_definition(domain: &Domain, name: &Name) -> Result<Option<DomainDef>, 
     ensures { IfOk result (λ def. def ≡ revert_definition domain.now.live (snapshot_named domain.now.snaps name.now)) }
 {
     match &domain.live {
-        None => definition_with_state(&snapshot_named(domain.snaps.as_slice(), name)?),
+        None => definition_with_state(&snapshot_named(&domain.snaps, name)?),
         Some(_) => Ok(None),
     }
 }
@@ -92,7 +92,7 @@ fn snapshot_phase(live: &Option<Live>) -> Phase
 fn revert_phase_of(domain: &Domain, name: &Name) -> Result<Phase, NoMemory>
     ensures { IfOk result (λ first. first ≡ revert_phase (is_some domain.now.live) (state_kept (snapshot_named domain.now.snaps name.now))) }
 {
-    let with_state = state_kept(&snapshot_named(domain.snaps.as_slice(), name)?);
+    let with_state = state_kept(&snapshot_named(&domain.snaps, name)?);
     Ok(revert_phase(domain.live.is_some(), with_state))
 }
 
@@ -230,7 +230,7 @@ fn begun_new(
 ) -> Result<State, NoMemory>
     ensures { IfOk result (λ next. next ≡ state.Held (begun (new_domain def.now boots) who call.now)) }
 {
-    let domain = new_domain(alloc, def, boots)?;
+    let domain = new_domain(def, boots)?;
     Ok(State::Held(begun(alloc, &domain, who, call)?))
 }
 

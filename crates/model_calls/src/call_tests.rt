@@ -181,7 +181,7 @@ fn absent(alloc: Global, domain: &Domain, name: &Name) -> Result<Test, NoMemory>
     ensures { IfOk result (λ test. test ≡ absent domain.now name.now) }
 {
     Ok(Test {
-        fails: !has_snapshot(domain.snaps.as_slice(), name),
+        fails: !has_snapshot(&domain.snaps, name),
         refusal: no_snapshot(alloc, name)?,
     })
 }
@@ -199,7 +199,7 @@ pub fn state_kept(snap: &Option<Snap>) -> bool
 fn reverts_to_new_boot(domain: &Domain, name: &Name) -> Result<bool, NoMemory>
     ensures { IfOk result (λ reverts. reverts ≡ reverts_to_new_boot domain.now name.now) }
 {
-    Ok(domain.live.is_none() && state_kept(&snapshot_named(domain.snaps.as_slice(), name)?))
+    Ok(domain.live.is_none() && state_kept(&snapshot_named(&domain.snaps, name)?))
 }
 
 fn key_there(alloc: Global, domain: &Domain, new: &DeviceDef) -> Result<Test, NoMemory>
@@ -256,7 +256,7 @@ fn name_there(alloc: Global, domain: &Domain, name: &Option<Name>) -> Result<Tes
     match name {
         None => unnamed(alloc),
         Some(name) => Ok(Test {
-            fails: has_snapshot(domain.snaps.as_slice(), name),
+            fails: has_snapshot(&domain.snaps, name),
             refusal: snapshot_exists(alloc, name)?,
         }),
     }

@@ -22,7 +22,7 @@ use std::alloc::Global;
 use virt_types::{
     Answer, AnswerValue, Call, Cause, DEFINED_ADDED, DEFINED_UPDATED, DeviceDef, Domain, DomainDef,
     EndReason, ListOf, Live, Name, NoMemory, Op, RESUMED_UNPAUSED, Refusal, Reply, RunState,
-    STOPPED_DESTROYED, SUSPENDED_PAUSED, State, Transition, TryCopy, UNDEFINED_REMOVED, Uuid,
+    STOPPED_DESTROYED, SUSPENDED_PAUSED, SnapList, State, Transition, TryCopy, UNDEFINED_REMOVED, Uuid,
     Value,
 };
 
@@ -63,7 +63,7 @@ fn uuid_or_nil(uuid: Option<Uuid>) -> Uuid
 }
 
 /// A domain as its first definition makes it, with neither a guest nor snapshots.
-pub fn new_domain(alloc: Global, def: &DomainDef, boots: u64) -> Result<Domain, NoMemory>
+pub fn new_domain(def: &DomainDef, boots: u64) -> Result<Domain, NoMemory>
     ensures { IfOk result (λ domain. domain ≡ new_domain def.now boots) }
 {
     Ok(Domain {
@@ -72,7 +72,7 @@ pub fn new_domain(alloc: Global, def: &DomainDef, boots: u64) -> Result<Domain, 
         stored: None,
         live: None,
         autostart: false,
-        snaps: ListOf::new(alloc),
+        snaps: SnapList::new(),
         current: None,
         op: None,
         boots,
@@ -359,9 +359,8 @@ fn snapshot_deleted(
 ) -> Result<CallStep, NoMemory>
     ensures { IfOk result (λ step. step ≡ snapshot_deleted domain.now name.now children) }
 {
-    let snaps = domain.snaps.as_slice();
-    let left = without_snapshot(alloc, snaps, name, children)?;
-    let current = current_without(alloc, snaps, &domain.current, name, children)?;
+    let left = without_snapshot(alloc, &domain.snaps, name, children)?;
+    let current = current_without(alloc, &domain.snaps, &domain.current, name, children)?;
     let mut next = domain.copy()?;
     next.snaps = left;
     next.current = current;
@@ -390,7 +389,7 @@ fn held_step(
 fn first_defined(alloc: Global, def: &DomainDef, boots: u64) -> Result<CallStep, NoMemory>
     ensures { IfOk result (λ step. step ≡ defined (new_domain def.now boots) def.now) }
 {
-    defined(alloc, &new_domain(alloc, def, boots)?, def)
+    defined(alloc, &new_domain(def, boots)?, def)
 }
 
 /// What a call leaves whose tests passed, where each answer is Ok.

@@ -18,6 +18,7 @@ pub mod lists;
 pub mod migrating;
 pub mod reading;
 pub mod refusals;
+mod snapshot_lists;
 pub mod snapshot_names;
 pub mod snapshots;
 pub mod told;

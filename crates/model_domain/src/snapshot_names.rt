@@ -2,7 +2,7 @@
 ghost use Rattle.std.specs.Prelude.{◌≡◌, IfOk};
 ghost use Rattle.domain_spec.specs.Snapshots.{free_number, numbered_name, snapshot_name};
 
-use crate::snapshots::has_snapshot;
+use crate::snapshot_lists::has_snapshot;
 use std::alloc::Global;
 use virt_types::{Domain, Name, NoMemory, Snap, SnapInfo, TryCopy};
 
@@ -46,7 +46,7 @@ pub fn snapshot_name(alloc: Global, domain: &Domain, info: &SnapInfo) -> Result<
     ensures { IfOk result (λ name. name ≡ snapshot_name domain.now info.now) }
 {
     match &info.name {
-        None => free_name(alloc, domain.snaps.as_slice()),
+        None => free_name(alloc, domain.snaps.to_list(alloc)?.as_slice()),
         Some(name) => name.copy(),
     }
 }

@@ -1,80 +1,36 @@
-// The snapshots of a domain: a list by rising name, in which each names its parent.
-ghost use Rattle.std.specs.Prelude.{◌≡◌, IfOk, filter, is_some, map, not, position};
-ghost use Rattle.std.specs.Cmp.Lexicographic.{slice_cmp};
-ghost use Rattle.std.specs.Ordering.{is_lt, nat_cmp};
-ghost use Rattle.domain_spec.specs.Snapshots.{comes_from, current_in, current_without, has_state, is_met, is_named, is_parent, parent_of, place_of, ran_in, snapshot_named, snapshot_ran, with_parent, with_snapshot, without_one, without_snapshot};
+// The snapshots of a domain. What is computed of them is computed of their plain list.
+ghost use Rattle.std.specs.Prelude.{◌≡◌, IfOk, is_some};
+ghost use Rattle.domain_spec.specs.Snapshots.{current_without, has_state, ran_in, snapshot_named, snapshot_ran, with_snapshot, without_snapshot};
 
-use crate::lists::{led_by, with_at};
 use crate::reading::is_running;
+use crate::snapshot_lists;
 use std::alloc::Global;
-use virt_types::{ListOf, Name, NoMemory, RunState, Snap, SnapList, TryCopy};
-
-fn is_named(name: &Name, snap: &Snap) -> bool
-    ensures { result ≡ is_named name.now snap.now }
-{
-    snap.name.as_bytes() == name.as_bytes()
-}
-
-// Whether a snapshot has another name.
-fn is_other(name: &Name, snap: &Snap) -> bool
-    ensures { result ≡ not (is_named name.now snap.now) }
-{
-    !is_named(name, snap)
-}
+use virt_types::{Name, NoMemory, RunState, Snap, SnapList, TryCopy};
 
 /// The snapshot of this name.
-pub fn snapshot_named(snaps: &[Snap], name: &Name) -> Result<Option<Snap>, NoMemory>
+pub fn snapshot_named(snaps: &SnapList, name: &Name) -> Result<Option<Snap>, NoMemory>
     ensures { IfOk result (λ snap. snap ≡ snapshot_named snaps.now name.now) }
 {
-    match snaps {
-        [] => Ok(None),
-        [first, rest @ ..] => {
-            if is_named(name, first) {
-                Ok(Some(first.copy()?))
-            } else {
-                snapshot_named(rest, name)
-            }
-        }
+    match snaps.find(name) {
+        None => Ok(None),
+        Some(snap) => Ok(Some(snap.copy()?)),
     }
 }
 
 /// Whether a snapshot of this name is there.
-pub fn has_snapshot(snaps: &[Snap], name: &Name) -> bool
+pub fn has_snapshot(snaps: &SnapList, name: &Name) -> bool
     ensures { result ≡ is_some (snapshot_named snaps.now name.now) }
 {
-    match snaps {
-        [] => false,
-        [first, rest @ ..] => is_named(name, first) || has_snapshot(rest, name),
-    }
-}
-
-// Whether a name stands before that of a snapshot.
-fn stands_before(name: &Name, snap: &Snap) -> bool
-    ensures { result ≡ is_lt (slice_cmp nat_cmp name.now snap.now.name) }
-{
-    name.as_bytes().cmp(snap.name.as_bytes()).is_lt()
-}
-
-fn first_behind(snaps: &[Snap], name: &Name) -> Option<usize>
-    ensures { result ≡ position (λ s. is_lt (slice_cmp nat_cmp name.now s.name)) snaps.now }
-{
-    snaps.iter().position(|snap| stands_before(name, snap))
-}
-
-// The place of a name: before the first snapshot with a greater one.
-#[tactic(auto, using(crate::proofs::Places::place_or_length))]
-fn place_of(snaps: &[Snap], name: &Name) -> usize
-    ensures { result ≡ place_of snaps.now name.now }
-{
-    first_behind(snaps, name).unwrap_or(snaps.len())
+    snaps.find(name).is_some()
 }
 
 /// The snapshots with one more, at the place of its name.
-pub fn with_snapshot(snaps: &SnapList, new: Snap) -> Result<SnapList, NoMemory>
+pub fn with_snapshot(alloc: Global, snaps: &SnapList, new: Snap) -> Result<SnapList, NoMemory>
     ensures { IfOk result (λ all. all ≡ with_snapshot snaps.now new) }
 {
-    let place = place_of(snaps.as_slice(), &new.name);
-    with_at(snaps.copy()?, place, new)
+    let mut all = snaps.copy()?;
+    all.insert(alloc, new)?;
+    Ok(all)
 }
 
 /// Whether a snapshot has a guest's state.
@@ -100,186 +56,31 @@ pub fn snapshot_ran(snap: &Snap) -> bool
     ran_in(snap.run)
 }
 
-fn parent_of(snap: &Option<Snap>) -> Result<Option<Name>, NoMemory>
-    ensures { IfOk result (λ parent. parent ≡ parent_of snap.now) }
-{
-    match snap {
-        None => Ok(None),
-        Some(snap) => snap.parent.copy(),
-    }
-}
-
-// The parent of the snapshot of this name.
-fn parent_named(snaps: &[Snap], name: &Name) -> Result<Option<Name>, NoMemory>
-    ensures { IfOk result (λ parent. parent ≡ parent_of (snapshot_named snaps.now name.now)) }
-{
-    parent_of(&snapshot_named(snaps, name)?)
-}
-
-fn is_parent(parent: &Option<Name>, name: &Name) -> bool
-    ensures { result ≡ is_parent parent.now name.now }
-{
-    match parent {
-        None => false,
-        Some(parent) => parent.as_bytes() == name.as_bytes(),
-    }
-}
-
-// Whether this name is met on the way from a parent to its parents, in at most as many steps as
-// snapshots are listed first.
-fn is_met(
-    steps: &[Snap],
-    snaps: &[Snap],
-    name: &Name,
-    parent: &Option<Name>,
-) -> Result<bool, NoMemory>
-    ensures { IfOk result (λ met. met ≡ is_met steps.now snaps.now name.now parent.now) }
-{
-    match steps {
-        [] => Ok(false),
-        [_step, rest @ ..] => match parent {
-            None => Ok(false),
-            Some(parent) => {
-                if parent.as_bytes() == name.as_bytes() {
-                    Ok(true)
-                } else {
-                    is_met(rest, snaps, name, &parent_named(snaps, parent)?)
-                }
-            }
-        },
-    }
-}
-
-fn comes_from(snaps: &[Snap], name: &Name, snap: &Snap) -> Result<bool, NoMemory>
-    ensures { IfOk result (λ comes. comes ≡ comes_from snaps.now name.now snap.now) }
-{
-    if is_named(name, snap) {
-        Ok(true)
-    } else {
-        is_met(snaps, snaps, name, &snap.parent)
-    }
-}
-
-fn with_parent(name: &Name, parent: &Option<Name>, snap: &Snap) -> Result<Snap, NoMemory>
-    ensures { IfOk result (λ next. next ≡ with_parent name.now parent.now snap.now) }
-{
-    let mut next = snap.copy()?;
-    if is_parent(&snap.parent, name) {
-        next.parent = parent.copy()?;
-    }
-    Ok(next)
-}
-
-// The snapshots of the first list that don't come from the one of this name.
-fn without_family(
-    alloc: Global,
-    left: &[Snap],
-    snaps: &[Snap],
-    name: &Name,
-) -> Result<SnapList, NoMemory>
-    ensures { IfOk result (λ all. all ≡ filter (λ snap. not (comes_from snaps.now name.now snap)) left.now) }
-{
-    match left {
-        [] => Ok(ListOf::new(alloc)),
-        [first, rest @ ..] => {
-            if comes_from(snaps, name, first)? {
-                without_family(alloc, rest, snaps, name)
-            } else {
-                led_by(first.copy()?, without_family(alloc, rest, snaps, name)?)
-            }
-        }
-    }
-}
-
-// The snapshots of the list but for the one of this name.
-fn without_named(alloc: Global, left: &[Snap], name: &Name) -> Result<SnapList, NoMemory>
-    ensures { IfOk result (λ all. all ≡ filter (λ snap. not (is_named name.now snap)) left.now) }
-{
-    match left {
-        [] => Ok(ListOf::new(alloc)),
-        [first, rest @ ..] => {
-            if is_other(name, first) {
-                led_by(first.copy()?, without_named(alloc, rest, name)?)
-            } else {
-                without_named(alloc, rest, name)
-            }
-        }
-    }
-}
-
-// The snapshots of the list, where the children of this name get this parent.
-fn with_parents(
-    alloc: Global,
-    left: &[Snap],
-    name: &Name,
-    parent: &Option<Name>,
-) -> Result<SnapList, NoMemory>
-    ensures { IfOk result (λ all. all ≡ map (with_parent name.now parent.now) left.now) }
-{
-    match left {
-        [] => Ok(ListOf::new(alloc)),
-        [first, rest @ ..] => led_by(
-            with_parent(name, parent, first)?,
-            with_parents(alloc, rest, name, parent)?,
-        ),
-    }
-}
-
-fn without_one(alloc: Global, snaps: &[Snap], name: &Name) -> Result<SnapList, NoMemory>
-    ensures { IfOk result (λ all. all ≡ without_one snaps.now name.now) }
-{
-    let left = without_named(alloc, snaps, name)?;
-    with_parents(alloc, left.as_slice(), name, &parent_named(snaps, name)?)
-}
-
 /// The snapshots that stay where the one of this name is deleted, with its children or without.
+#[tactic(auto, using(crate::proofs::Snaps::rising_without))]
 pub fn without_snapshot(
     alloc: Global,
-    snaps: &[Snap],
+    snaps: &SnapList,
     name: &Name,
     children: bool,
 ) -> Result<SnapList, NoMemory>
     ensures { IfOk result (λ all. all ≡ without_snapshot snaps.now name.now children) }
 {
-    if children {
-        without_family(alloc, snaps, snaps, name)
-    } else {
-        without_one(alloc, snaps, name)
-    }
-}
-
-fn current_in(
-    left: &[Snap],
-    current: &Option<Name>,
-    parent: Option<Name>,
-) -> Result<Option<Name>, NoMemory>
-    ensures { IfOk result (λ next. next ≡ current_in left.now current.now parent) }
-{
-    match current {
-        None => Ok(None),
-        Some(current) => {
-            if has_snapshot(left, current) {
-                Ok(Some(current.copy()?))
-            } else {
-                Ok(parent)
-            }
-        }
-    }
+    let list = snaps.to_list(alloc)?;
+    let left = snapshot_lists::without_snapshot(alloc, list.as_slice(), name, children)?;
+    SnapList::of(alloc, left)
 }
 
 /// The current snapshot after a deletion.
 pub fn current_without(
     alloc: Global,
-    snaps: &[Snap],
+    snaps: &SnapList,
     current: &Option<Name>,
     name: &Name,
     children: bool,
 ) -> Result<Option<Name>, NoMemory>
     ensures { IfOk result (λ next. next ≡ current_without snaps.now current.now name.now children) }
 {
-    current_in(
-        without_snapshot(alloc, snaps, name, children)?.as_slice(),
-        current,
-        parent_named(snaps, name)?,
-    )
+    let list = snaps.to_list(alloc)?;
+    snapshot_lists::current_without(alloc, list.as_slice(), current, name, children)
 }

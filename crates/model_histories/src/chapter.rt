@@ -72,7 +72,7 @@ pub fn at_base(alloc: Global, base: Base) -> Result<Standing, NoMemory>
 fn stored_domain(alloc: Global, def: DomainDef, autostart: bool) -> Result<State, NoMemory>
     ensures { IfOk result (λ state. state ≡ chapter.opened_state (Some def) autostart) }
 {
-    let mut domain = new_domain(alloc, &def, 0)?;
+    let mut domain = new_domain(&def, 0)?;
     domain.stored = Some(def);
     domain.autostart = autostart;
     Ok(State::Held(domain))

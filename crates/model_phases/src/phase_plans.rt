@@ -66,7 +66,7 @@ pub fn loaded_of(domain: &Domain, call: &Call) -> Result<Option<Loaded>, NoMemor
             running,
             saved,
         } => image(definition, *running, saved),
-        Call::Revert(name) => { loaded_from_named(&snapshot_named(domain.snaps.as_slice(), name)?) }
+        Call::Revert(name) => { loaded_from_named(&snapshot_named(&domain.snaps, name)?) }
         _ => Ok(None),
     }
 }

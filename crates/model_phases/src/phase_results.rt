@@ -408,7 +408,7 @@ pub fn snapshot_taken(
     ensures { IfOk result (λ next. next ≡ snapshot_taken domain.now info.now ran def.now saved) }
 {
     let new = new_snapshot(alloc, domain, info, ran, def, saved)?;
-    let snaps = with_snapshot(&domain.snaps, new)?;
+    let snaps = with_snapshot(alloc, &domain.snaps, new)?;
     let mut next = with_current(domain, Some(snapshot_name(alloc, domain, info)?))?;
     next.snaps = snaps;
     Ok(next)

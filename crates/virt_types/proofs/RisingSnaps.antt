@@ -1,8 +1,8 @@
 -- Lists of snapshots by rising name, around one of them.
-use Rattle.std.proofs.Common.{◌≡◌, ℕ, ◌+◌, ◌≤◌, Bool, true, false, cond, List, [], ◌∷◌, ◌++◌, Option, None, Some, map, length, arith, refl, ap, ◌∙◌, sym, subst}
+use Rattle.std.proofs.Common.{◌≡◌, ℕ, suc, ◌+◌, ◌≤◌, Bool, true, false, cond, List, [], ◌∷◌, ◌++◌, Option, None, Some, not, map, take, drop, length, arith, refl, ap, ◌∙◌, sym, subst}
 use Rattle.std.specs.Cmp.{IsStrictWeakOrder}
 use Rattle.std.specs.Cmp.Lexicographic.{slice_cmp}
-use Rattle.std.specs.List.{filter}
+use Rattle.std.specs.List.{filter, insert, position_or_len}
 use Rattle.std.specs.Option.{option_or}
 use Rattle.std.proofs.Common.{Ordering, Less, Equal, Greater}
 use Rattle.std.specs.Ordering.{is_eq, is_lt, nat_cmp, ordering_reverse}
@@ -217,3 +217,14 @@ length_filter_le p (s ∷ xs) =
       | true ↦ omega (arith, length_filter_le p xs)
       | false ↦ omega (arith, length_filter_le p xs)
     ]
+
+at_place : (b : Bool) (n : ℕ) (new s : Snap) (xs ys : List Snap) → take n xs ++ new ∷ drop n xs ≡ ys → take (cond (not b) (1 + n) 0) (s ∷ xs) ++ new ∷ drop (cond (not b) (1 + n) 0) (s ∷ xs) ≡ cond b (new ∷ s ∷ xs) (s ∷ ys)
+at_place true n new s xs ys e = refl
+at_place false n new s xs ys e =
+    let more : suc n ≡ 1 + n = omega arith in
+    subst (λ m. take m (s ∷ xs) ++ new ∷ drop m (s ∷ xs) ≡ s ∷ ys) more (ap (λ z. s ∷ z) e)
+
+-- the same by the place before the first greater name
+pub with_snapshot_at : (xs : List Snap) (new : Snap) → insert xs (position_or_len (λ s. is_lt (slice_cmp nat_cmp new.name s.name)) xs) new ≡ with_snapshot xs new
+with_snapshot_at [] new = refl
+with_snapshot_at (s ∷ xs) new = at_place (is_before new.name s.name) _ new s xs _ (with_snapshot_at xs new)

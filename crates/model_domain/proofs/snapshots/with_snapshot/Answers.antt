@@ -1,12 +1,9 @@
-use Rattle.std.proofs.Common.{ap, ◌∙◌}
-use Rattle.std.proofs.lemmas.Result.{IfOk-weaker}
-use Rattle.domain_spec.specs.Snapshots.{place_of}
-use Rattle.model_domain.proofs.Snaps.{with_snapshot_at}
+use Rattle.std.proofs.Common.{ap, sym, ◌∙◌}
+use Rattle.virt_types.specs.Snapshots.{with_snapshot}
+use Rattle.virt_types.proofs.RisingSnaps.{with_snapshot_at}
 use Rattle.model_domain.proofs.snapshots.with_snapshot.Goals as goal
 
--- the list is the copy, and the place is that of the name
+-- the tree is the copy with one more, and the one more is at its place
 pub returns : goal.returns
 returns c =
-    IfOk-weaker c.with_at.result _ _
-    (λ all is. with_snapshot_at _ _ _ _ all c.in_ok-copy.ensures (c.place_of-place.ensures ∙ ap (λ s. place_of s c.args.new.name) c.as_slice.ensures) is)
-    c.with_at.ensures
+    c.in_ok-insert.ensures.ok ∙ ap (λ s. with_snapshot s c.args.new) c.in_ok-all.ensures ∙ sym (with_snapshot_at c.args.snaps.now c.args.new)

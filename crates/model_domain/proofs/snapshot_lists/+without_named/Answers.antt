@@ -2,7 +2,7 @@ use Rattle.std.proofs.Common.{not, sym, ◌∙◌}
 use Rattle.std.proofs.lemmas.Result.{IfOk-weaker}
 use Rattle.domain_spec.specs.Snapshots.{is_named}
 use Rattle.model_domain.proofs.Snaps.{first_stays}
-use Rattle.model_domain.proofs.snapshots.+without_named.Goals as goal
+use Rattle.model_domain.proofs.snapshot_lists.+without_named.Goals as goal
 
 -- the first one has another name, and so stays
 pub returns-in_ok-without_named-in-len1-up : goal.returns-in_ok-without_named-in-len1-up
