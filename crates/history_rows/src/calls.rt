@@ -104,7 +104,7 @@ const ASKED: [Mutant; 5] = [
         right: &[Line::Done(ANNA, Want::AttachDisk, LIVE, DEVICE_UNDONE, CLASS_3, &[])],
     },
     Mutant {
-        name: "a call goes on behind an ask that was refused",
+        name: "a call goes on after an ask that was refused",
         setting: Setting::Running,
         before: ATTACHES,
         wrong: Line::Done(ANNA, Want::AttachDisk, LIVE, BOTH_ASKED, FINE, &[]),

@@ -67,7 +67,7 @@ const WATCHED: [Line; 9] = [
 ];
 
 #[test]
-fn what_came_before_a_registration_or_behind_it_is_not_owed(rt: HostRuntime) -> Result<(), Fail> {
+fn what_came_before_a_registration_or_after_it_is_not_owed(rt: HostRuntime) -> Result<(), Fail> {
     let alloc = rt.alloc();
     let marks = told(alloc, &WATCHED)?;
     assert_eq!(rt; verdict(alloc, Setting::Running, &marks)?, Verdict::Legal);
@@ -76,8 +76,8 @@ fn what_came_before_a_registration_or_behind_it_is_not_owed(rt: HostRuntime) -> 
     assert_eq!(rt; ended.events.as_slice(), between.as_slice());
     assert!(rt; !ended.is_lost);
     let later = owed_since(alloc, marks.as_slice(), 5)?.ok_or("a registration")?;
-    let behind = [SHUTDOWN_FINISHED, STOPPED_SHUTDOWN];
-    assert_eq!(rt; later.events.as_slice(), behind.as_slice());
+    let after = [SHUTDOWN_FINISHED, STOPPED_SHUTDOWN];
+    assert_eq!(rt; later.events.as_slice(), after.as_slice());
     assert!(rt; owed_since(alloc, marks.as_slice(), 0)?.is_none());
     Ok(())
 }
@@ -99,35 +99,35 @@ const RESUME: Line = Line::Event(BOOT, GuestEvent::Resume, RESUMED);
 const WATCH: Line = Line::Watch(DORA, 0);
 
 // A registration is made, then 256 transitions come, and then these marks.
-fn behind_256(alloc: Global, last: &[Line]) -> Result<Marks, NoMemory> {
+fn after_256(alloc: Global, last: &[Line]) -> Result<Marks, NoMemory> {
     many(alloc, &[WATCH], 128, &[STOP, RESUME], last)
 }
 
-fn cut_behind_256(alloc: Global, last: &[Line]) -> Result<Verdict, NoMemory> {
-    verdict(alloc, Setting::Running, &behind_256(alloc, last)?)
+fn cut_after_256(alloc: Global, last: &[Line]) -> Result<Verdict, NoMemory> {
+    verdict(alloc, Setting::Running, &after_256(alloc, last)?)
 }
 
 #[test]
 fn a_registration_is_cut_where_one_more_came_than_may_pend(rt: HostRuntime) -> Result<(), Fail> {
     let alloc = rt.alloc();
     let cut = Line::Cut(0, 256, 0);
-    assert_eq!(rt; cut_behind_256(alloc, &[STOP, cut])?, Verdict::Legal);
-    assert_eq!(rt; cut_behind_256(alloc, &[STOP, cut, WATCH])?, Verdict::Legal);
-    let too_early = cut_behind_256(alloc, &[cut])?;
+    assert_eq!(rt; cut_after_256(alloc, &[STOP, cut])?, Verdict::Legal);
+    assert_eq!(rt; cut_after_256(alloc, &[STOP, cut, WATCH])?, Verdict::Legal);
+    let too_early = cut_after_256(alloc, &[cut])?;
     assert_eq!(rt; too_early, Verdict::Fault(257));
-    let too_late = cut_behind_256(alloc, &[STOP, RESUME, cut])?;
+    let too_late = cut_after_256(alloc, &[STOP, RESUME, cut])?;
     assert_eq!(rt; too_late, Verdict::Fault(259));
-    let fewer_pended = cut_behind_256(alloc, &[STOP, Line::Cut(0, 256, 1)])?;
+    let fewer_pended = cut_after_256(alloc, &[STOP, Line::Cut(0, 256, 1)])?;
     assert_eq!(rt; fewer_pended, Verdict::Fault(258));
-    let cut_twice = cut_behind_256(alloc, &[STOP, cut, cut])?;
+    let cut_twice = cut_after_256(alloc, &[STOP, cut, cut])?;
     assert_eq!(rt; cut_twice, Verdict::Fault(259));
     Ok(())
 }
 
 #[test]
-fn behind_a_cut_a_loss_is_owed(rt: HostRuntime) -> Result<(), Fail> {
+fn after_a_cut_a_loss_is_owed(rt: HostRuntime) -> Result<(), Fail> {
     let alloc = rt.alloc();
-    let marks = behind_256(alloc, &[STOP, Line::Cut(0, 256, 0), RESUME])?;
+    let marks = after_256(alloc, &[STOP, Line::Cut(0, 256, 0), RESUME])?;
     assert_eq!(rt; verdict(alloc, Setting::Running, &marks)?, Verdict::Legal);
     let owed = owed_since(alloc, marks.as_slice(), 0)?.ok_or("a registration")?;
     assert_eq!(rt; owed.events.len(), 256);

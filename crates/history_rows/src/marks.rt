@@ -402,7 +402,7 @@ fn mark(alloc: Global, line: Line) -> Result<Mark<u64>, NoMemory> {
 /// The marks of a history.
 pub(crate) type Marks = ListOf<Mark<u64>>;
 
-/// Puts the marks of these lines behind a history.
+/// Puts the marks of these lines after a history.
 pub(crate) fn tell(alloc: Global, marks: &mut Marks, lines: &[Line]) -> Result<(), NoMemory> {
     for line in lines {
         marks.push(mark(alloc, *line)?)?;

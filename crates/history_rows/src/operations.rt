@@ -116,7 +116,7 @@ const GOES_ON: [Mutant; 7] = [
         )],
     },
     Mutant {
-        name: "a save goes on behind an abort",
+        name: "a save goes on after an abort",
         setting: Setting::Saving,
         before: &[
             Line::Admit(BERT, Want::Abort, LIVE),
@@ -196,8 +196,8 @@ const GIVE_UP: [Line; 2] = [
     Line::Phase(ANNA, Phase::Poll, &[], Next::On(Phase::Cancel), &[]),
 ];
 
-// What the judge says of so many polls that saw as much left, and what came behind them.
-fn behind_polls(alloc: Global, polls: u32, last: &[Line]) -> Result<Verdict, NoMemory> {
+// What the judge says of so many polls that saw as much left, and what came after them.
+fn after_polls(alloc: Global, polls: u32, last: &[Line]) -> Result<Verdict, NoMemory> {
     verdict(
         alloc,
         Setting::Saving,
@@ -207,12 +207,12 @@ fn behind_polls(alloc: Global, polls: u32, last: &[Line]) -> Result<Verdict, NoM
 
 // The first poll compares with nothing, so the 65th is the 64th that saw no less left.
 #[test]
-fn a_save_is_given_up_behind_65_polls_alike(rt: HostRuntime) -> Result<(), Fail> {
+fn a_save_is_given_up_after_65_polls_alike(rt: HostRuntime) -> Result<(), Fail> {
     let alloc = rt.alloc();
-    assert_eq!(rt; behind_polls(alloc, 65, &GIVE_UP)?, Verdict::Legal);
-    let counted_from_the_first = behind_polls(alloc, 64, &GIVE_UP)?;
+    assert_eq!(rt; after_polls(alloc, 65, &GIVE_UP)?, Verdict::Legal);
+    let counted_from_the_first = after_polls(alloc, 64, &GIVE_UP)?;
     assert_eq!(rt; counted_from_the_first, Verdict::Fault(2 * 64 + 1));
-    let never_given_up = behind_polls(alloc, 65, &POLL)?;
+    let never_given_up = after_polls(alloc, 65, &POLL)?;
     assert_eq!(rt; never_given_up, Verdict::Fault(2 * 65 + 1));
     Ok(())
 }

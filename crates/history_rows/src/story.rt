@@ -144,7 +144,7 @@ pub(crate) const BOOT: u64 = 3;
 
 pub(crate) const LIVE: Option<u64> = Some(BOOT);
 
-/// The boot behind that.
+/// The boot after that.
 pub(crate) const NEXT: Option<u64> = Some(BOOT + 1);
 
 pub(crate) const ANNA: Caller = Caller {

@@ -34,7 +34,7 @@ fn client_of(registration: &Registration) -> Result<Client, NoMemory>
     })
 }
 
-// These clients, and behind them those of the registrations that were not cut.
+// These clients, and after them those of the registrations that were not cut.
 fn with_registered(
     clients: ListOf<Client>,
     registrations: &[Registration],

@@ -40,7 +40,7 @@ fn with_more(more: u64, client: Client) -> Result<Client, NoMemory>
     }
 }
 
-// These clients, and behind them those others, each of which with_more this many more transitions.
+// These clients, and after them those others, to each of which this many more transitions came.
 fn with_heard(
     heard: ListOf<Client>,
     more: u64,

@@ -8,7 +8,7 @@ use domain_spec::{Mark, Owed, Registration};
 use std::alloc::Global;
 use virt_types::{ListOf, NoMemory, Transition};
 
-// These transitions, and behind them those.
+// These transitions, and after them those.
 fn with_more(
     events: ListOf<Transition>,
     more: &[Transition],
@@ -25,7 +25,7 @@ fn with_more(
     }
 }
 
-// The first of these transitions: as many as were given behind those that were taken before them.
+// The first of these transitions: as many as were given after those that were taken before them.
 fn cut_off(alloc: Global, events: &[Transition], total: u64, taken: u64) -> Result<Owed, NoMemory>
     ensures { IfOk result (λ owed. owed ≡ spec.owed_cut events.now total taken) }
 {

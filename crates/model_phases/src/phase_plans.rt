@@ -3,6 +3,7 @@ ghost use Rattle.std.specs.Prelude.{◌≡◌, ◌++◌, IfOk, flat_map, option_
 ghost use Rattle.domain_spec.specs.Asks.{first_value, plain, undone_by};
 ghost use Rattle.domain_spec.specs.Call.{lease_of, tell, tell_if};
 ghost use Rattle.domain_spec.specs.PhaseAsks.{cancel_asks, copy_asks, is_given_up, is_stalled, live_phase_asks, live_phase_plan, live_phase_undo, load_asks, loaded_from, loaded_of, make_asks, migrate_load_asks, migrate_take_plan, migration_asks, phase_plan, resumes, take_asks, copied_bytes, two, write_image};
+ghost use Rattle.domain_spec.specs.Reading.{is_running};
 ghost use Rattle.domain_spec.specs.Types.call;
 ghost use Rattle.domain_spec.specs.Types.command;
 ghost use Rattle.domain_spec.specs.Types.given;
@@ -405,7 +406,23 @@ fn live_phase_plan(
 {
     match phase {
         Phase::MigrateTake => migrate_take_plan(alloc, live),
-        _ => plan_undone(alloc, domain, live, op, call, answers, phase),
+        Phase::Nothing
+        | Phase::Make
+        | Phase::Run
+        | Phase::Load
+        | Phase::Copy
+        | Phase::Poll
+        | Phase::Take
+        | Phase::Quit
+        | Phase::Cancel
+        | Phase::MigrateCopy
+        | Phase::MigrateCancel
+        | Phase::MigrateLoad
+        | Phase::Resting
+        | Phase::MigrateQuit
+        | Phase::MigrateBack
+        | Phase::MigrateRun
+        | Phase::MigrateDrop => plan_undone(alloc, domain, live, op, call, answers, phase),
     }
 }
 

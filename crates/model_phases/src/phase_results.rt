@@ -598,6 +598,14 @@ pub fn live_phase_done(
         Phase::Take => take_done(alloc, domain, live, op, call, answers),
         Phase::Quit => quit_done(alloc, domain, live, call),
         Phase::Cancel => cancel_done(alloc, domain, live, op),
-        _ => migration_done_of(alloc, domain, live, op, call, answers, phase),
+        Phase::MigrateCopy
+        | Phase::MigrateTake
+        | Phase::MigrateCancel
+        | Phase::MigrateLoad
+        | Phase::Resting
+        | Phase::MigrateQuit
+        | Phase::MigrateBack
+        | Phase::MigrateRun
+        | Phase::MigrateDrop => migration_done_of(alloc, domain, live, op, call, answers, phase),
     }
 }

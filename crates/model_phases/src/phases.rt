@@ -184,7 +184,15 @@ fn live_phase_refused(
         Phase::Load => load_refused(alloc, domain, live, op, refusal),
         Phase::Poll | Phase::Take | Phase::Quit => cancels(alloc, domain, op, refusal),
         Phase::Cancel => ended_as_led(alloc, domain, op),
-        _ => migration_refused(alloc, domain, live, op, refusal, phase),
+        Phase::MigrateCopy
+        | Phase::MigrateTake
+        | Phase::MigrateCancel
+        | Phase::MigrateLoad
+        | Phase::Resting
+        | Phase::MigrateQuit
+        | Phase::MigrateBack
+        | Phase::MigrateRun
+        | Phase::MigrateDrop => migration_refused(alloc, domain, live, op, refusal, phase),
     }
 }
 

@@ -101,7 +101,7 @@ fn put_ask(alloc: Global, text: &mut String, ask: &Ask) -> Result<(), NoMemory> 
     put(text, " ")
 }
 
-/// The asks, each with a blank behind it.
+/// The asks, each with a blank after it.
 pub(crate) fn put_asks(alloc: Global, text: &mut String, asks: &[Ask]) -> Result<(), NoMemory> {
     for ask in asks {
         put_ask(alloc, text, ask)?;

@@ -152,8 +152,8 @@ pub(crate) fn told_row(
 }
 
 /// What a call asks, what it is answered and what is told, and the state then:
-/// `Stop | Ok (3,0) | paused`. Asks that are left stand behind `still`; what is told of the boot's end
-/// before the call is done stands behind the asks.
+/// `Stop | Ok (3,0) | paused`. Asks that are left stand after `still`; what is told of the boot's end
+/// before the call is done stands after the asks.
 pub(crate) fn call_row(
     alloc: Global,
     asks: &[Ask],
@@ -180,7 +180,7 @@ pub(crate) fn call_row(
 
 /// Each phase of an operation, then its reply or the phase that is due, and the state then:
 /// `make: Make(1) | run: QueryStatus Cont (2,0) | Ok | running`. A number of answers that no phase
-/// took stands behind `left`.
+/// took stands after `left`.
 pub(crate) fn operation_row(alloc: Global, progress: &Progress) -> Result<String, NoMemory> {
     let mut row = String::new(alloc);
     put_phases(alloc, &mut row, progress.phases.as_slice())?;
