@@ -79,7 +79,7 @@ fn domain(
 }
 
 fn bare(alloc: Global, run: Option<RunState>) -> Result<State, NoMemory> {
-    domain(alloc, run, ListOf::new(alloc), None, None).map(State::Held)
+    domain(alloc, run, SnapList::new(), None, None).map(State::Held)
 }
 
 fn snapshot(alloc: Global, which: &str, parent: Option<Name>) -> Result<Snap, NoMemory> {
@@ -103,9 +103,9 @@ fn snapshots(alloc: Global) -> Result<SnapList, NoMemory> {
         snapshot(alloc, "child", Some(parent)),
         snapshot(alloc, "parent", None),
     )?;
-    let mut list = ListOf::new(alloc);
-    list.push(child)?;
-    list.push(parent)?;
+    let mut list = SnapList::new();
+    list.insert(alloc, child)?;
+    list.insert(alloc, parent)?;
     Ok(list)
 }
 

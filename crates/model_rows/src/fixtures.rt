@@ -4,8 +4,8 @@ use std::alloc::Global;
 use virt_types::{
     Answer, AnswerValue, Bytes, CrashAction, DeviceDef, Disk, DiskDevice, DiskTarget, DiskType,
     Domain, DomainDef, DomainType, Interface, InterfaceSource, InterfaceType, LifecycleAction,
-    ListOf, Live, Mac, Name, NoMemory, Os, RunState, Script, Snap, SnapInfo, State, Text, Uuid,
-    both,
+    ListOf, Live, Mac, Name, NoMemory, Os, RunState, Script, Snap, SnapInfo, SnapList, State,
+    Text, Uuid, both,
 };
 
 pub(crate) fn name(alloc: Global, text: &str) -> Result<Name, NoMemory> {
@@ -71,7 +71,7 @@ fn domain(
         stored,
         live,
         autostart: false,
-        snaps: ListOf::new(alloc),
+        snaps: SnapList::new(),
         current: None,
         op: None,
         boots,
@@ -138,7 +138,7 @@ fn numbered(alloc: Global, number: u32) -> Result<Snap, NoMemory> {
 pub(crate) fn full_of_snapshots(alloc: Global) -> Result<Cell, NoMemory> {
     let mut a = domain(alloc, Some(definition(alloc)?), None, 0)?;
     for number in 100..164 {
-        a.snaps.push(numbered(alloc, number)?)?;
+        a.snaps.insert(alloc, numbered(alloc, number)?)?;
     }
     Ok(Cell::new(State::Held(a)))
 }

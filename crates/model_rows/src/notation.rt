@@ -229,7 +229,8 @@ pub(crate) fn snapshot_row(alloc: Global, state: &State) -> Result<String, NoMem
     match state {
         State::Vacant { .. } => put(&mut row, "vacant")?,
         State::Held(domain) => {
-            put_snapshots(&mut row, domain.snaps.as_slice())?;
+            let snaps = domain.snaps.to_list(alloc)?;
+            put_snapshots(&mut row, snaps.as_slice())?;
             put_current(&mut row, &domain.current)?;
         }
     }
