@@ -80,8 +80,8 @@ registered_filter (r ∷ rs) client = listed_filter (r.client == client) r.is_lo
 
 listed_cut : (b lost : Bool) (r : Registration) (client total : ℕ) (kept : List Registration) (cs : List Client) → (r.client == client) ≡ b → r.is_lost ≡ lost → registered kept ≡ without_client cs client
     → registered (cut_after client total r ∷ kept) ≡ without_client (listed lost r cs) client
-listed_cut true true r client total kept cs is lost e = rw is e
-listed_cut true false r client total kept cs is lost e = rw is e
+listed_cut true true r client total kept cs is lost e = rw (is, lost) e
+listed_cut true false r client total kept cs is lost e = rw (is, lost) e
 listed_cut false true r client total kept cs is lost e = rw (is, lost) e
 listed_cut false false r client total kept cs is lost e = rw (is, lost) (ap (λ (l : List Client). as_client r ∷ l) e)
 

@@ -1,3 +1,6 @@
+pub mod PendingProofs
+pub mod WholeRunProofs
+pub mod CarriedProofs
 pub mod WholeMoveProofs
 pub mod TurnProofs
 pub mod ChapterProofs

@@ -100,7 +100,7 @@ inactive_over d op c phase.Take = inactive_take_over d c
 inactive_over d op c phase.Nothing = tt
 inactive_over d op c other = tt
 
--- what stands after a phase
+-- what a phase leads to
 
 lost_none : (s : State) (boot : Option ℕ) → lost_by s boot [] ≡ None
 lost_none s None = refl

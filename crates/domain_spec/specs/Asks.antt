@@ -12,14 +12,17 @@ plain asks = map (λ a. record { ask = a; undo = [] }) asks
 abbrev pub undone_by : List Ask → List Ask → List PlannedAsk
 undone_by undo asks = map (λ a. record { ask = a; undo = undo }) asks
 
+-- it was done
 abbrev pub is_ok_answer : Answer → Bool
 is_ok_answer (answer.Ok v) = true
 is_ok_answer other = false
 
+-- the guest has ended
 abbrev pub is_ended_answer : Answer → Bool
 is_ended_answer (answer.Ended why) = true
 is_ended_answer other = false
 
+-- the link to the guest was lost
 abbrev pub is_lost_answer : Answer → Bool
 is_lost_answer answer.Lost = true
 is_lost_answer other = false
@@ -35,13 +38,16 @@ is_undone other = false
 abbrev pub first_bad : List Answer → Option Answer
 first_bad answers = find (λ a. not (is_ok_answer a)) answers
 
+-- the place of the first answer that is not Ok
 abbrev pub bad_place : List Answer → Option ℕ
 bad_place answers = position (λ a. not (is_ok_answer a)) answers
 
+-- what undoes this ask after this answer
 abbrev pub undo_at : Option PlannedAsk → Option Answer → List Ask
 undo_at (Some planned) (Some bad) = if is_undone bad then planned.undo else []
 undo_at planned bad = []
 
+-- all asks where the answer at this place is the first that is not Ok
 abbrev pub course_at : List PlannedAsk → List Answer → Option ℕ → List Ask
 course_at plan answers None = map (λ p. p.ask) plan
 course_at plan answers (Some k) = map (λ p. p.ask) (take (k + 1) plan) ++ undo_at (slice_get plan k) (first_bad answers)
@@ -64,6 +70,7 @@ abbrev pub value_of : Answer → Option AnswerValue
 value_of (answer.Ok v) = Some v
 value_of other = None
 
+-- the value of an answer that may not be there
 abbrev pub value_in : Option Answer → Option AnswerValue
 value_in None = None
 value_in (Some a) = value_of a

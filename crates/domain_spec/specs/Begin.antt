@@ -54,20 +54,8 @@ first_phase d other = phase.Make
 
 -- a new operation, before its first phase
 abbrev pub new_op : OpKind → Who → Option ℕ → Bool → Bool → Phase → Op
-new_op k who boot new_boot ran first = record {
-  kind = k;
-  who = who;
-  boot = boot;
-  new_boot = new_boot;
-  phase = first;
-  was_running = ran;
-  abort = false;
-  still = 0;
-  remaining = None;
-  refusal = None;
-  limit = 0;
-  rests = false;
-}
+new_op k who boot new_boot ran first =
+    record { kind = k; who = who; boot = boot; new_boot = new_boot; phase = first; was_running = ran; abort = false; still = 0; remaining = None; refusal = None; limit = 0; rests = false }
 
 -- a guest that comes from another host is between the two
 abbrev pub cause_at_start : OpKind → Cause
@@ -83,6 +71,7 @@ abbrev pub ran_there : Call → Bool
 ran_there (call.Prepare def running saved) = running
 ran_there other = false
 
+-- the domain with its new operation: on the guest that it has, or on a new boot of this definition
 abbrev pub begun_with : Domain → OpKind → Who → Bool → Phase → Option DomainDef → Domain
 begun_with d k who ran first None = record d { op = Some (new_op k who (boot_in d.live) false ran first) }
 begun_with d k who ran first (Some def) = record d {
@@ -125,6 +114,7 @@ abbrev pub due_in : Option Op → Phase
 due_in None = phase.Nothing
 due_in (Some op) = op.phase
 
+-- the first phase of the operation that has begun in this state
 abbrev pub due_phase : State → Phase
 due_phase (state.Vacant boots) = phase.Nothing
 due_phase (state.Held d) = due_in d.op

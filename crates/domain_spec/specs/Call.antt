@@ -75,10 +75,12 @@ abbrev pub tell_if : Bool → Command → List Ask
 tell_if true c = tell c
 tell_if false c = []
 
+-- an address is asked for where the interface has a MAC
 abbrev pub lease_for : List ℕ → Option Mac → List Ask
 lease_for network None = []
 lease_for network (Some mac) = ask.Lease network mac ∷ []
 
+-- an address is asked for where the interface is on a network
 abbrev pub lease_if : Bool → Interface → List Ask
 lease_if true i = lease_for (network_of i) i.mac
 lease_if false i = []
@@ -87,6 +89,7 @@ lease_if false i = []
 abbrev pub lease_of : Interface → List Ask
 lease_of i = lease_if (is_on_network i.kind) i
 
+-- a disk needs no address
 abbrev pub device_lease : DeviceDef → List Ask
 device_lease (device.Disk d) = []
 device_lease (device.Interface i) = lease_of i
@@ -107,29 +110,36 @@ detach_plan (Some placed) =
     plain (tell (command.RemoveDevice placed.0))
     ++ undone_by (tell (command.AddDevice placed.0 placed.1)) (tell (command.RemoveBackend placed.0))
 
+-- the one command of a call on a live guest
+abbrev pub command_of : Live → Call → List Ask
+command_of l call.Suspend = tell_if (is_running l.run) command.Stop
+command_of l call.Resume = tell_if (is_paused l.run) command.Cont
+command_of l call.Shutdown = tell command.Powerdown
+command_of l call.Reboot = tell command.Reset
+command_of l call.Destroy = tell command.Quit
+command_of l (call.SetMemory kib) = tell (command.SetMemory kib)
+command_of l (call.SetVcpus n) = tell (command.SetVcpus n)
+command_of l call.MemoryStats = tell command.QueryMemory
+command_of l (call.Kick n) = tell (command.Kick (unsigned_abs n))
+command_of l other = []
+
 -- what a call on a live guest asks
 abbrev pub live_plan : Live → Call → List PlannedAsk
-live_plan l call.Suspend = plain (tell_if (is_running l.run) command.Stop)
-live_plan l call.Resume = plain (tell_if (is_paused l.run) command.Cont)
-live_plan l call.Shutdown = plain (tell command.Powerdown)
-live_plan l call.Reboot = plain (tell command.Reset)
-live_plan l call.Destroy = plain (tell command.Quit)
-live_plan l (call.SetMemory kib) = plain (tell (command.SetMemory kib))
-live_plan l (call.SetVcpus n) = plain (tell (command.SetVcpus n))
 live_plan l (call.Attach d) = attach_plan d (free_slot l.slots)
 live_plan l (call.Detach d) = detach_plan (device_like l d)
-live_plan l call.MemoryStats = plain (tell command.QueryMemory)
-live_plan l (call.Kick n) = plain (tell (command.Kick (unsigned_abs n)))
-live_plan l other = []
+live_plan l c = plain (command_of l c)
 
+-- without a guest nothing is asked
 abbrev pub guest_plan : Option Live → Call → List PlannedAsk
 guest_plan None c = []
 guest_plan (Some l) c = live_plan l c
 
+-- the stored definition is put again, with this autostart flag
 abbrev pub put_plan : Option DomainDef → Bool → List PlannedAsk
 put_plan None autostart = []
 put_plan (Some def) autostart = plain (ask.Put def autostart ∷ [])
 
+-- what a call asks in a cell with a domain
 abbrev pub held_plan : Domain → Call → List PlannedAsk
 held_plan d (call.Define def) = plain (ask.Put def d.autostart ∷ [])
 held_plan d call.Undefine = plain (ask.Drop d.uuid ∷ [])

@@ -32,18 +32,8 @@ tell_listeners false t = []
 
 -- a domain as its first definition makes it, with neither a guest nor snapshots
 abbrev pub new_domain : DomainDef → ℕ → Domain
-new_domain def boots = record {
-  uuid = unwrap_or def.uuid (replicate 16 0);
-  name = def.name;
-  stored = None;
-  live = None;
-  autostart = false;
-  snaps = [];
-  current = None;
-  op = None;
-  boots = boots;
-  last = None;
-}
+new_domain def boots =
+    record { uuid = unwrap_or def.uuid (replicate 16 0); name = def.name; stored = None; live = None; autostart = false; snaps = []; current = None; op = None; boots = boots; last = None }
 
 -- the definition is stored; who defines is told how to name the domain
 abbrev pub defined : Domain → DomainDef → CallStep
@@ -58,10 +48,12 @@ abbrev pub memory_step : State → Option AnswerValue → CallStep
 memory_step s (Some (given.Number kib)) = record { state = s; reply = reply.Ok (value.Memory kib); transitions = [] }
 memory_step s other = refused s (failed 0)
 
+-- the guest with this device at the slot, if one is free
 abbrev pub attached : Live → Option ℕ → DeviceDef → Live
 attached l None new = l
 attached l (Some slot) new = with_device l slot new
 
+-- the guest without this device, if it is there
 abbrev pub detached : Live → Option (ℕ × DeviceDef) → Live
 detached l None = l
 detached l (Some placed) = without_slot l placed.0
@@ -74,9 +66,11 @@ with_live d l = state.Held (record d { live = Some l })
 abbrev pub ended : Domain → Live → EndReason → State
 ended d l why = unless_gone (record d { live = None; last = Some (l.boot, why) })
 
+-- the guest is paused by its user
 abbrev pub suspended : Domain → Live → CallStep
 suspended d l = done (state.Held (with_run d l (run.Paused cause.User))) (tell_listeners (is_running l.run) told.SUSPENDED_PAUSED)
 
+-- the guest runs
 abbrev pub resumed : Domain → Live → CallStep
 resumed d l = done (state.Held (with_run d l run.Running)) (tell_listeners (is_paused l.run) told.RESUMED_UNPAUSED)
 
@@ -86,12 +80,15 @@ rebooted d l =
     done (if is_crashed l.run then state.Held (with_run d l run.Running) else state.Held d)
     (tell_listeners (is_crashed l.run) told.RESUMED_UNPAUSED)
 
+-- the guest was killed
 abbrev pub destroyed : Domain → Live → CallStep
 destroyed d l = done (ended d l reason.Killed) (told.STOPPED_DESTROYED ∷ [])
 
+-- the guest with so many KiB
 abbrev pub with_memory : Live → ℕ → Live
 with_memory l kib = record l { def = record l.def { current_memory = kib } }
 
+-- the guest with so many processors
 abbrev pub with_vcpus : Live → ℕ → Live
 with_vcpus l n = record l { def = record l.def { current_vcpus = n } }
 
@@ -108,17 +105,21 @@ live_step d l (call.Detach old) answers = done (with_live d (detached l (device_
 live_step d l call.MemoryStats answers = memory_step (state.Held d) (first_value answers)
 live_step d l other answers = done (state.Held d) []
 
+-- a call on a guest that may not be there
 abbrev pub guest_step : Domain → Option Live → Call → List Answer → CallStep
 guest_step d None c answers = done (state.Held d) []
 guest_step d (Some l) c answers = live_step d l c answers
 
+-- the operation with its abort flag
 abbrev pub aborting : Option Op → Option Op
 aborting None = None
 aborting (Some op) = Some (record op { abort = true })
 
+-- the stored definition is removed, and a domain without a guest is gone
 abbrev pub undefined : Domain → CallStep
 undefined d = done (unless_gone (record d { stored = None; autostart = false })) (told.UNDEFINED_REMOVED ∷ [])
 
+-- the autostart flag is set
 abbrev pub autostart_set : Domain → Bool → CallStep
 autostart_set d on = done (state.Held (record d { autostart = on })) []
 
@@ -126,6 +127,7 @@ autostart_set d on = done (state.Held (record d { autostart = on })) []
 abbrev pub abort_asked : Domain → CallStep
 abort_asked d = done (state.Held (record d { op = aborting d.op })) []
 
+-- the snapshot is removed, alone or with its children
 abbrev pub snapshot_deleted : Domain → List ℕ → Bool → CallStep
 snapshot_deleted d name children =
     done (state.Held (record d { snaps = without_snapshot d.snaps name children; current = current_without d.snaps d.current name children })) []
@@ -134,6 +136,7 @@ snapshot_deleted d name children =
 abbrev pub with_limit : ℕ → Op → Op
 with_limit rest op = record op { limit = rest }
 
+-- the limit of the migration is set
 abbrev pub limit_set : Domain → ℕ → CallStep
 limit_set d rest = done (state.Held (record d { op = option_map (with_limit rest) d.op })) []
 
@@ -147,6 +150,7 @@ held_step d (call.Limit rest) answers = limit_set d rest
 held_step d (call.SnapDelete name children) answers = snapshot_deleted d name children
 held_step d c answers = guest_step d d.live c answers
 
+-- a call whose tests passed, where each answer is Ok, also in a vacant cell
 abbrev pub step_of : State → Call → List Answer → CallStep
 step_of (state.Held d) c answers = held_step d c answers
 step_of (state.Vacant boots) (call.Define def) answers = defined (new_domain def boots) def

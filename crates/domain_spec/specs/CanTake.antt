@@ -12,12 +12,14 @@ use Rattle.domain_spec.specs.declared.standing.Registration.{Registration}
 use Rattle.domain_spec.specs.declared.standing.Standing.{Standing}
 use Rattle.domain_spec.specs.Call.{begins, takes_up}
 use Rattle.domain_spec.specs.Cell.{Cell, Waiter, asks_so_far, standing_of}
-use Rattle.domain_spec.specs.Open.{IsOtherNumber}
+use Rattle.domain_spec.specs.Open.{IsOtherNumber, is_rest}
 
+-- the open call is of another number
 abbrev pub IsNotJobOf : Option OpenJob → ℕ → Type 0
 IsNotJobOf None n = Unit {0}
 IsNotJobOf (Some j) n = n ≢ j.number
 
+-- the open operation is of another number, or rests
 abbrev pub IsNotOperationOf : Option OpenOperation → ℕ → Type 0
 IsNotOperationOf None n = Unit {0}
 IsNotOperationOf (Some o) n = IsOtherNumber o.outcome n o.number
@@ -43,15 +45,20 @@ pub record CanLook (c : Cell) (n : ℕ) (who : Who) (d : Call) (first : First) :
   pub takes_none : takes_up d ≡ None
   pub first_look : IsFirst c n who d first
 
--- the open call is of this number, and its last ask waits for an answer
+-- an open call waits for the answer to its last ask
+abbrev pub WaitsForAnswer : Cell → Option OpenJob → Type 0
+WaitsForAnswer c None = Unit {0}
+WaitsForAnswer c (Some j) = length (asks_so_far (standing_of c) j.job j c.answers) ≡ length c.answers + 1
+
+-- the open call is of this number, and waits for an answer
 abbrev pub IsAway : Cell → Option OpenJob → ℕ → Type 0
 IsAway c None n = ⊥
-IsAway c (Some j) n = (n ≡ j.number) × (length (asks_so_far (standing_of c) j.job j c.answers) ≡ length c.answers + 1)
+IsAway c (Some j) n = (n ≡ j.number) × WaitsForAnswer c (Some j)
 
 -- the operation that is open is of this number and caller, and does not rest
 abbrev pub IsOperationOf : Option OpenOperation → ℕ → Who → Type 0
 IsOperationOf None n who = ⊥
-IsOperationOf (Some o) n who = (n ≡ o.number) × (who ≡ o.who)
+IsOperationOf (Some o) n who = (n ≡ o.number) × (who ≡ o.who) × (is_rest o.outcome ≡ false)
 
 -- a registration of this number
 abbrev pub IsRegistration : Cell → ℕ → ℕ → Registration → Type 0

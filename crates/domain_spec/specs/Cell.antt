@@ -63,10 +63,12 @@ pub record Share : Type 0 where
 abbrev pub planned_at : State → OpenJob → State
 planned_at s j = unwrap_or j.before s
 
+-- what the due phase has asked after these answers
 abbrev pub phase_asks : State → Option OpenOperation → List Answer → List Ask
 phase_asks s None answers = []
 phase_asks s (Some o) answers = phase_asked s o answers ++ take 1 (phase_still_asked s o answers)
 
+-- what a call has asked after these answers
 abbrev pub call_asks : State → OpenJob → List Answer → List Ask
 call_asks s j answers = asked s j.call j.boot answers ++ take 1 (still_asked s j.call j.boot answers)
 
@@ -75,15 +77,18 @@ abbrev pub asks_so_far : Standing → Job → OpenJob → List Answer → List A
 asks_so_far s job.Nested j answers = phase_asks (planned_at s.state j) s.operation answers
 asks_so_far s other j answers = call_asks (planned_at s.state j) j answers
 
+-- the open call, where it is of this number
 abbrev pub call_of : Standing → Option OpenJob → List Answer → ℕ → Option OpenCall
 call_of s None answers n = None
 call_of s (Some j) answers n =
     if j.number == n then Some (record { job = j; asks = asks_so_far s j.job j answers; answers = answers }) else None
 
+-- the open operation, where it is of this number and does not rest
 abbrev pub operation_of : Option OpenOperation → ℕ → Option OpenOperation
 operation_of None n = None
 operation_of (Some o) n = if o.number == n && not (is_rest o.outcome) then Some o else None
 
+-- the boot whose ears this number has out
 abbrev pub ears_of : Option (ℕ × ℕ) → ℕ → Option ℕ
 ears_of None n = None
 ears_of (Some ears) n = if ears.0 == n then Some ears.1 else None

@@ -1,13 +1,16 @@
 -- Laws of chapters: what is at a base is what was there when it was made.
-use Rattle.std.specs.Prelude.{◌≡◌, ℕ, List, [], map, false, None}
+use Rattle.std.specs.Prelude.{◌≡◌, ℕ, List, [], map, false, None, ◌∷◌, ◌==◌}
 use Rattle.domain_spec.specs.declared.mark.Mark.{Mark}
+use Rattle.domain_spec.specs.declared.mark.Mark.TheVariants as mark
+use Rattle.domain_spec.specs.declared.owed.Owed.{Owed}
 use Rattle.domain_spec.specs.declared.standing.Base.{Base}
 use Rattle.domain_spec.specs.declared.standing.Client.{Client}
 use Rattle.domain_spec.specs.declared.standing.Registration.{Registration}
 use Rattle.domain_spec.specs.declared.standing.Standing.{Standing}
 use Rattle.domain_spec.specs.Chapter.{next_base, rising_number}
-use Rattle.domain_spec.specs.Fold.{after, at_base, registered, standing}
-use Rattle.domain_spec.specs.Registrations.{registrations_after, registrations_taken}
+use Rattle.domain_spec.specs.Fold.{after, at_base, registered, standing, transitions_of}
+use Rattle.domain_spec.specs.Owed.{owed_at_base}
+use Rattle.domain_spec.specs.Registrations.{cut_after, registrations_after, registrations_taken, with_pending}
 
 -- a client, whenever its transitions came
 abbrev pub as_before : Client → Client
@@ -34,3 +37,27 @@ abbrev pub RisingGoesOn : Type 0
 RisingGoesOn =
     (b : Base) (marks : List (Mark ℕ)) (rs : List Registration)
     → rising_number (next_base (standing (at_base b) marks) rs) [] ≡ rising_number b marks
+
+-- one registration after a mark
+abbrev pub one_after : Registration → Mark ℕ → Registration
+one_after r (mark.Cut client total taken) = cut_after client total r
+one_after r m = with_pending (transitions_of m) r
+
+-- one registration after these marks
+abbrev pub one_at : Registration → List (Mark ℕ) → Registration
+one_at r [] = r
+one_at r (m ∷ marks) = one_at (one_after r m) marks
+
+-- what pends, and then a loss that is due
+abbrev pub pending_of : Registration → Owed
+pending_of r = record { events = r.pending; is_lost = r.is_lost }
+
+-- its client does not leave by these marks
+abbrev pub IsNotLeft : ℕ → List (Mark ℕ) → Type 0
+IsNotLeft client [] = Unit {0}
+IsNotLeft client (mark.Unwatch number other ∷ marks) = ((other == client) ≡ false) × IsNotLeft client marks
+IsNotLeft client (m ∷ marks) = IsNotLeft client marks
+
+-- what pends for a registration of a base, of which nothing was taken since, is what it is owed
+abbrev pub PendingIsOwed : Type 0
+PendingIsOwed = (r : Registration) (marks : List (Mark ℕ)) → IsNotLeft r.client marks → owed_at_base r marks ≡ pending_of (one_at r marks)

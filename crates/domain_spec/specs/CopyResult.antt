@@ -37,9 +37,11 @@ abbrev pub run_as : Bool → RunState
 run_as true = run.Running
 run_as false = run.Paused cause.User
 
+-- a guest that did not run is paused once it has its state
 abbrev pub paused_unless : Bool → List Transition
 paused_unless ran = tell_listeners (not ran) told.SUSPENDED_PAUSED
 
+-- who starts a domain that was not there is answered how to name it
 abbrev pub start_value : Domain → Call → Value
 start_value d (call.Create def) = value.Domain (reference_of d)
 start_value d (call.Prepare def running saved) = value.Domain (reference_of d)
@@ -50,6 +52,7 @@ abbrev pub current_after : Domain → Call → Option (List ℕ)
 current_after d (call.Revert name) = Some name
 current_after d other = d.current
 
+-- how listeners are told that a guest has its state
 abbrev pub restored_as : Call → Transition
 restored_as (call.Revert name) = told.STARTED_FROM_SNAPSHOT
 restored_as other = told.STARTED_RESTORED
@@ -69,10 +72,12 @@ loaded_active d l c loaded =
     }))
     (told.STOPPED_FROM_SNAPSHOT ∷ told.STARTED_FROM_SNAPSHOT ∷ paused_unless loaded.ran) (reply.Ok value.Nothing)
 
+-- a guest has its state, in a new boot or in the one that it had
 abbrev pub loaded_with : Domain → Live → Op → Call → Option Loaded → PhaseStep
 loaded_with d l op c None = over (state.Held d) [] (reply.Ok value.Nothing)
 loaded_with d l op c (Some loaded) = if op.new_boot then loaded_new d l c loaded else loaded_active d l c loaded
 
+-- a guest has the state of the image or the snapshot
 abbrev pub load_done : Domain → Live → Op → Call → PhaseStep
 load_done d l op c = loaded_with d l op c (loaded_of d c)
 
@@ -87,6 +92,7 @@ abbrev pub cancel_phase : OpKind → Phase
 cancel_phase kind.MigrateOut = phase.MigrateCancel
 cancel_phase other = phase.Cancel
 
+-- the phase that takes a copy
 abbrev pub take_phase : OpKind → Phase
 take_phase kind.MigrateOut = phase.MigrateTake
 take_phase other = phase.Take

@@ -7,6 +7,7 @@ use Rattle.domain_spec.specs.Types.{DeviceDef, DomainDef, Interface, InterfaceSo
 use Rattle.domain_spec.specs.Types.device
 use Rattle.domain_spec.specs.Types.interface
 
+-- all devices, disks first
 abbrev pub devices_of : DomainDef → List DeviceDef
 devices_of def = map (λ d. device.Disk d) def.disks ++ map (λ i. device.Interface i) def.interfaces
 
@@ -25,6 +26,7 @@ all_slots =
     2 ∷ 3 ∷ 4 ∷ 5 ∷ 6 ∷ 7 ∷ 8 ∷ 9 ∷ 10 ∷ 11 ∷ 12 ∷ 13 ∷ 14 ∷ 15 ∷ 16
     ∷ 17 ∷ 18 ∷ 19 ∷ 20 ∷ 21 ∷ 22 ∷ 23 ∷ 24 ∷ 25 ∷ 26 ∷ 27 ∷ 28 ∷ 29 ∷ 30 ∷ 31 ∷ []
 
+-- a device has this slot
 abbrev pub is_taken : List ℕ → ℕ → Bool
 is_taken slots slot = list_any (λ used. used == slot) slots
 
@@ -32,6 +34,7 @@ is_taken slots slot = list_any (λ used. used == slot) slots
 abbrev pub free_slot : List ℕ → Option ℕ
 free_slot slots = find (λ slot. not (is_taken slots slot)) all_slots
 
+-- a MAC as a key; empty where there is none
 abbrev pub mac_key : Option Mac → List ℕ
 mac_key None = []
 mac_key (Some mac) = mac_text mac
@@ -41,6 +44,7 @@ abbrev pub key_of : DeviceDef → List ℕ
 key_of (device.Disk d) = d.target.dev
 key_of (device.Interface i) = mac_key i.mac
 
+-- two MACs are there and are one
 abbrev pub is_same_mac : Option Mac → Option Mac → Bool
 is_same_mac (Some a) (Some b) = bytes_eq a.bytes b.bytes
 is_same_mac a b = false
@@ -51,6 +55,7 @@ has_same_key (device.Disk a) (device.Disk b) = bytes_eq a.target.dev b.target.de
 has_same_key (device.Interface a) (device.Interface b) = is_same_mac a.mac b.mac
 has_same_key a b = false
 
+-- a slot and a device, where both are there
 abbrev pub both : Option ℕ → Option DeviceDef → Option (ℕ × DeviceDef)
 both (Some slot) (Some d) = Some (slot, d)
 both slot d = None
@@ -64,7 +69,7 @@ placed slots devices (Some place) = both (slice_get slots place) (slice_get devi
 abbrev pub device_like : Live → DeviceDef → Option (ℕ × DeviceDef)
 device_like l wanted = placed l.slots (devices_of l.def) (position (has_same_key wanted) (devices_of l.def))
 
--- the guest with one more device, behind those of its kind
+-- the guest with one more device, after those of its kind
 abbrev pub with_device : Live → ℕ → DeviceDef → Live
 with_device l slot (device.Disk d) =
     let count = length l.def.disks in
@@ -78,6 +83,7 @@ without_place def place =
     if nat_lt place (length def.disks) then record def { disks = remove def.disks place }
     else record def { interfaces = remove def.interfaces (place - length def.disks) }
 
+-- the guest without the device at this place
 abbrev pub without_placed : Live → Option ℕ → Live
 without_placed l None = l
 without_placed l (Some place) = record l { def = without_place l.def place; slots = remove l.slots place }
@@ -86,6 +92,7 @@ without_placed l (Some place) = record l { def = without_place l.def place; slot
 abbrev pub without_slot : Live → ℕ → Live
 without_slot l slot = without_placed l (position (λ used. used == slot) l.slots)
 
+-- the network that a source names; empty where it names none
 abbrev pub network_in : Option InterfaceSource → List ℕ
 network_in None = []
 network_in (Some source) = unwrap_or source.network []
@@ -94,6 +101,7 @@ network_in (Some source) = unwrap_or source.network []
 abbrev pub network_of : Interface → List ℕ
 network_of i = network_in i.source
 
+-- an interface of type network
 abbrev pub is_on_network : InterfaceType → Bool
 is_on_network interface.Network = true
 is_on_network other = false

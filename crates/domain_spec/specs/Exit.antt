@@ -18,9 +18,11 @@ exit_event reason.Killed = told.STOPPED_DESTROYED
 exit_event reason.Crashed = told.STOPPED_CRASHED
 exit_event other = told.STOPPED_FAILED
 
+-- what listeners are told of a boot's end
 abbrev pub exit_transitions : EndReason → List Transition
 exit_transitions why = exit_event why ∷ []
 
+-- the domain where its live boot, if there is one, has ended so
 abbrev pub exit_held : Domain → Option Live → EndReason → State
 exit_held d None why = state.Held d
 exit_held d (Some l) why = ended d l why
@@ -30,6 +32,7 @@ abbrev pub exit_state : State → EndReason → State
 exit_state (state.Vacant boots) why = state.Vacant boots
 exit_state (state.Held d) why = exit_held d d.live why
 
+-- the guest in this state, where that is wanted
 abbrev pub run_if : Domain → Live → Bool → RunState → State
 run_if d l wanted r = if wanted then state.Held (with_run d l r) else state.Held d
 
@@ -53,18 +56,22 @@ event_told l guest.Resume = tell_listeners (can_resume l.run) told.RESUMED_UNPAU
 event_told l guest.Panic = tell_listeners (not (is_crashed l.run)) told.CRASHED_PANICKED
 event_told l other = []
 
+-- the domain after a guest's event; nothing happens without a guest
 abbrev pub event_held : Domain → Option Live → GuestEvent → State
 event_held d None e = state.Held d
 event_held d (Some l) e = event_live d l e
 
+-- the state after a guest's event
 abbrev pub event_state : State → GuestEvent → State
 event_state (state.Vacant boots) e = state.Vacant boots
 event_state (state.Held d) e = event_held d d.live e
 
+-- what listeners are told, where there is a guest
 abbrev pub told_in : Option Live → GuestEvent → List Transition
 told_in None e = []
 told_in (Some l) e = event_told l e
 
+-- what listeners are told of a guest's event in this state
 abbrev pub event_transitions : State → GuestEvent → List Transition
 event_transitions (state.Vacant boots) e = []
 event_transitions (state.Held d) e = told_in d.live e

@@ -1,4 +1,4 @@
--- What stands after the marks of a history, one after the other: the state, the normal job and the
+-- What is in force after the marks of a history, one after the other: the state, the normal job and the
 -- operation that are open (libvirt's THREADS.txt), and who is registered.
 use Rattle.std.specs.Prelude.{ℕ, ◌+◌, ◌==◌, List, [], ◌∷◌, ◌++◌, map, filter, length, Bool, true, false, not, ◌&&◌, Option, None, Some, if◌then◌else◌}
 use Rattle.std.specs.List.{list_any}
@@ -96,6 +96,7 @@ after_start s number who c =
 abbrev pub taken_up : ℕ → Who → Call → OpenOperation → OpenOperation
 taken_up number who c o = record o { number = number; who = who; call = c; outcome = outcome.On (phase_taken_up c) }
 
+-- the operation is taken up, if there is one
 abbrev pub after_take_up : Standing → Option OpenOperation → ℕ → Who → Call → Standing
 after_take_up s None number who c = s
 after_take_up s (Some o) number who c = record s {
@@ -105,13 +106,21 @@ after_take_up s (Some o) number who c = record s {
   operation = Some (taken_up number who c o);
 }
 
--- what stands after one more mark, but for the clients
-abbrev pub applied : Standing → Mark ℕ → Standing
-applied s (mark.Admit number who j c boot) =
-    record s { job = Some (record { number = number; who = who; job = j; call = c; boot = boot; before = None }); just_admitted = true }
-applied s (mark.Done number who c boot asks answers r events) =
+-- a call was let in
+abbrev pub after_admit : Standing → OpenJob → Standing
+after_admit s j = record s { job = Some j; just_admitted = true }
+
+-- a call is done
+abbrev pub after_done : Standing → Call → Option ℕ → List Answer → Standing
+after_done s c boot answers =
     let next = (seq s.state c boot answers).state in
     record s { state = next; job = None; just_admitted = false; lost = lost_boot next boot answers }
+
+-- what is in force after one more mark, but for the clients
+abbrev pub applied : Standing → Mark ℕ → Standing
+applied s (mark.Admit number who j c boot) =
+    after_admit s (record { number = number; who = who; job = j; call = c; boot = boot; before = None })
+applied s (mark.Done number who c boot asks answers r events) = after_done s c boot answers
 applied s (mark.Start number who c boot) = after_start s number who c
 applied s (mark.TakeUp number who c) = after_take_up s s.operation number who c
 applied s (mark.Phase number who p asks answers o events) = after_phase s s.operation answers o
@@ -121,11 +130,11 @@ applied s (mark.Exit boot why events) =
 applied s (mark.Event boot e events) = record s { state = event_state s.state e; just_admitted = false }
 applied s other = record s { just_admitted = false }
 
--- what stands after one more mark
+-- what is in force after one more mark
 abbrev pub after : Standing → Mark ℕ → Standing
 after s m = record (applied s m) { clients = clients_after s.clients m }
 
--- what stands after these marks
+-- what is in force after these marks
 abbrev pub standing : Standing → List (Mark ℕ) → Standing
 standing s [] = s
 standing s (m ∷ marks) = standing (after s m) marks
@@ -137,7 +146,7 @@ registered (r ∷ rs) =
     if r.is_lost then registered rs
     else (record { number = r.number; client = r.client; before = r.taken + length r.pending; total = r.taken + length r.pending }) ∷ registered rs
 
--- what stands at the beginning of a chapter
+-- what is in force at the beginning of a chapter
 abbrev pub at_base : Base → Standing
 at_base b = record {
   state = b.state;

@@ -1,4 +1,4 @@
--- When each mark of a call is lawful, by what stands before it.
+-- When each mark of a call is lawful, by what is in force before it.
 use Rattle.std.specs.Prelude.{◌≡◌, ℕ, ◌⊎◌, List, [], ◌∷◌, length, Bool, true, false, Option, None, Some}
 use Rattle.std.specs.List.{list_any}
 use Rattle.domain_spec.specs.Types.{Answer, Ask, Call, Job, Phase, RefusalCode, Reply, State, Transition, Who}
@@ -41,6 +41,7 @@ abbrev pub WerePlanned : Option State → (State → List Ask) → List Ask → 
 WerePlanned None made asks answers = (asks ≡ []) × (answers ≡ [])
 WerePlanned (Some s) made asks answers = (asks ≡ made s) × (length asks ≡ length answers)
 
+-- the state in which the asks were planned: this one, or the one before the boot ended
 abbrev pub planned_in : Bool → State → Option State → Option State
 planned_in true s before = before
 planned_in false s before = Some s
@@ -50,17 +51,19 @@ abbrev pub EndedFirst : Bool → List Answer → Type 0
 EndedFirst true answers = Unit {0}
 EndedFirst false answers = list_any is_ended_answer answers ≡ false
 
--- an answer Ok without a value, or want of memory
+-- an answer Ok without a value, or that there was no memory
 abbrev pub IsUnsent : Answer → Type 0
 IsUnsent (answer.Ok given.Nothing) = Unit {0}
 IsUnsent answer.NoMemory = Unit {0}
 IsUnsent other = ⊥
 
+-- each command is answered as one that was not sent
 abbrev pub AreUnsent : List Ask → List Answer → Type 0
 AreUnsent (ask.Command c ∷ asks) (a ∷ answers) = IsUnsent a × AreUnsent asks answers
 AreUnsent (other ∷ asks) (a ∷ answers) = AreUnsent asks answers
 AreUnsent asks answers = Unit {0}
 
+-- so it is for a call on the boot whose make is due
 abbrev pub UnsentBefore : Option ℕ → Option ℕ → Outcome → List Ask → List Answer → Type 0
 UnsentBefore (Some made) (Some boot) (outcome.On phase.Make) asks answers = made ≡ boot → AreUnsent asks answers
 UnsentBefore made boot o asks answers = Unit {0}
@@ -82,6 +85,7 @@ pub record IsDoneAs (s : Standing) (before : Option State) (c : Call) (boot : Op
   pub reply : r ≡ (step_at s c boot answers).reply
   pub told : events ≡ (step_at s c boot answers).transitions
 
+-- the open call is done
 abbrev pub IsDone : Standing → Option OpenJob → ℕ → Who → Call → Option ℕ → List Ask → List Answer → Reply → List Transition → Type 0
 IsDone s None number who c boot asks answers r events = ⊥
 IsDone s (Some j) number who c boot asks answers r events = IsOpen j number who c boot × IsDoneAs s j.before c boot asks answers r events
@@ -99,6 +103,7 @@ pub record IsStartOf (s : Standing) (j : OpenJob) (number : ℕ) (who : Who) (c 
   pub alone : s.operation ≡ None
   pub begins : goes_on_as_operation s.state c boot ≡ true
 
+-- the open call begins its operation
 abbrev pub IsStarted : Standing → Option OpenJob → ℕ → Who → Call → Option ℕ → Type 0
 IsStarted s None number who c boot = ⊥
 IsStarted s (Some j) number who c boot = IsStartOf s j number who c boot
@@ -109,6 +114,7 @@ pub record IsTakeUpOf (s : Standing) (j : OpenJob) (number : ℕ) (who : Who) (c
   pub right_before : s.just_admitted ≡ true
   pub takes : takes_it_up s c j.boot ≡ true
 
+-- the open call takes the operation up
 abbrev pub IsTakenUp : Standing → Option OpenJob → ℕ → Who → Call → Type 0
 IsTakenUp s None number who c = ⊥
 IsTakenUp s (Some j) number who c = IsTakeUpOf s j number who c
@@ -139,10 +145,12 @@ pub record IsPhaseOf (s : Standing) (j : OpenJob) (o : OpenOperation) (number : 
   pub outcome_is : next ≡ (phase_of s.state o answers).outcome
   pub told : events ≡ (phase_of s.state o answers).transitions
 
+-- the due phase of the open operation is done
 abbrev pub IsPhased : Standing → Option OpenJob → Option OpenOperation → ℕ → Who → Phase → List Ask → List Answer → Outcome → List Transition → Type 0
 IsPhased s (Some j) (Some o) number who p asks answers next events = IsPhaseOf s j o number who p asks answers next events
 IsPhased s j o number who p asks answers next events = ⊥
 
+-- no nested job is open
 abbrev pub NoneNested : Option OpenJob → Type 0
 NoneNested None = Unit {0}
 NoneNested (Some j) = j.job ≡ job.Nested → ⊥
@@ -154,6 +162,7 @@ pub record IsEndOf (s : Standing) (o : OpenOperation) (number : ℕ) (who : Who)
   pub over : o.outcome ≡ outcome.Over r
   pub no_nested : NoneNested s.job
 
+-- the open operation ends
 abbrev pub IsEnded : Standing → Option OpenOperation → ℕ → Who → Reply → Type 0
 IsEnded s None number who r = ⊥
 IsEnded s (Some o) number who r = IsEndOf s o number who r

@@ -28,14 +28,17 @@ closes (mark.TakeUp number who c) = true
 closes (mark.Phase number who p asks answers next events) = true
 closes other = false
 
+-- a mark by which an operation begins
 abbrev pub begins_operation : Mark ℕ → Bool
 begins_operation (mark.Start number who c boot) = true
 begins_operation other = false
 
+-- a mark by which an operation ends
 abbrev pub ends_operation : Mark ℕ → Bool
 ends_operation (mark.End number who r) = true
 ends_operation other = false
 
+-- 1 where something is open, else 0
 abbrev pub one_if_open : {A : Type 0} → Option A → ℕ
 one_if_open None = 0
 one_if_open (Some a) = 1
@@ -72,6 +75,7 @@ abbrev pub RiseAbove : ℕ → List ℕ → Type 0
 RiseAbove low [] = Unit {0}
 RiseAbove low (n ∷ ns) = (low < n) × RiseAbove n ns
 
+-- each number is above the one before it
 abbrev pub IsRising : List ℕ → Type 0
 IsRising [] = Unit {0}
 IsRising (n ∷ ns) = RiseAbove n ns
@@ -80,6 +84,7 @@ IsRising (n ∷ ns) = RiseAbove n ns
 abbrev pub EachEndsOnce : Type 0
 EachEndsOnce = (b : Base) (marks : List (Mark ℕ)) → IsCounted (at_base b) → IsLegal (at_base b) marks → IsRising (ended_boots marks)
 
+-- this boot, where it is not live
 abbrev pub unless_live : Bool → ℕ → List ℕ
 unless_live true boot = []
 unless_live false boot = boot ∷ []

@@ -15,6 +15,7 @@ use Rattle.domain_spec.specs.Reading.{is_live}
 abbrev pub client_named : List Client → ℕ → Option Client
 client_named clients client = find (is_client client) clients
 
+-- a registration is ended by the pass that made it
 abbrev pub IsUnwatched : Option Client → ℕ → Type 0
 IsUnwatched None number = ⊥
 IsUnwatched (Some c) number = number ≡ c.number
@@ -26,9 +27,17 @@ pub record IsCutOf (c : Client) (total taken : ℕ) : Type 0 where
   pub full : (total ≡ taken + 256) ⊎ (total ≡ 2 ^ 62)
   pub all : taken ≤ total
 
+-- the registration is there, and is cut
 abbrev pub IsCut : Option Client → ℕ → ℕ → Type 0
 IsCut None total taken = ⊥
 IsCut (Some c) total taken = IsCutOf c total taken
+
+-- a client registers, leaves, or is cut
+abbrev pub IsOfClient : List Client → Mark ℕ → Type 0
+IsOfClient clients (mark.Watch number client) = list_any (is_client client) clients ≡ false
+IsOfClient clients (mark.Unwatch number client) = IsUnwatched (client_named clients client) number
+IsOfClient clients (mark.Cut client total taken) = IsCut (client_named clients client) total taken
+IsOfClient clients other = ⊥
 
 -- when one more mark is lawful, but for a loss that has to be marked
 abbrev pub IsInOrder : Standing → Mark ℕ → Type 0
@@ -41,9 +50,7 @@ IsInOrder s (mark.Phase number who p asks answers next events) = IsPhased s s.jo
 IsInOrder s (mark.End number who r) = IsEnded s s.operation number who r
 IsInOrder s (mark.Exit boot why events) = (is_live s.state boot ≡ true) × (events ≡ exit_transitions why)
 IsInOrder s (mark.Event boot e events) = (is_live s.state boot ≡ true) × (s.job ≡ None) × (events ≡ event_transitions s.state e)
-IsInOrder s (mark.Watch number client) = list_any (is_client client) s.clients ≡ false
-IsInOrder s (mark.Unwatch number client) = IsUnwatched (client_named s.clients client) number
-IsInOrder s (mark.Cut client total taken) = IsCut (client_named s.clients client) total taken
+IsInOrder s other = IsOfClient s.clients other
 
 -- where a monitor was lost, the end of its boot is the next mark
 abbrev pub MarksLoss : Option ℕ → Mark ℕ → Type 0
@@ -61,11 +68,12 @@ abbrev pub IsLegal : Standing → List (Mark ℕ) → Type 0
 IsLegal s [] = Unit {0}
 IsLegal s (m ∷ marks) = IsLawful s m × IsLegal (after s m) marks
 
+-- there is a mark, and it is not lawful
 abbrev pub IsUnlawful : Standing → Option (Mark ℕ) → Type 0
 IsUnlawful s None = ⊥
 IsUnlawful s (Some m) = IsLawful s m → ⊥
 
--- the first mark that is not lawful stands at this place
+-- the first mark that is not lawful is at this place
 pub record IsFirstFault (s : Standing) (marks : List (Mark ℕ)) (place : ℕ) : Type 0 where
   pub before : IsLegal s (take place marks)
   pub fault : IsUnlawful (standing s (take place marks)) (slice_get marks place)

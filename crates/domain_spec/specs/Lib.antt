@@ -1,3 +1,5 @@
+pub mod WholeRun
+pub mod Kept
 pub mod WholeMove
 pub mod Cell
 pub mod CanTake

@@ -82,6 +82,7 @@ abbrev pub ExcludedAs : Option (Job × Who) → Option HeldOperation → Option 
 ExcludedAs active op None c who = MayAdmit active op (takes_up c) (job_of c) who → ⊥
 ExcludedAs active op (Some k) c who = MayBegin active op → ⊥
 
+-- a call is excluded by what is held
 abbrev pub Excludes : Option (Job × Who) → Option HeldOperation → Call → Who → Type 0
 Excludes active op c who = ExcludedAs active op (begins c) c who
 

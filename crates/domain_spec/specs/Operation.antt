@@ -25,6 +25,7 @@ use Rattle.domain_spec.specs.CopyResult.{goes_on, over, run_as, start_value, cur
 abbrev pub with_guest_resumed : Domain → Live → Op → Domain
 with_guest_resumed d l op = if resumes l op then with_run d l run.Running else d
 
+-- listeners are told that the guest goes on, where it does
 abbrev pub resume_events : Live → Op → List Transition
 resume_events l op = tell_listeners (resumes l op) told.RESUMED_UNPAUSED
 
@@ -48,6 +49,7 @@ live_taken d l op info v =
     over (state.Held (snapshot_taken (with_guest_resumed d l op) info (Some (run_as op.was_running)) l.def (copied_bytes v)))
     (resume_events l op) (reply.Ok (value.Name (snapshot_name d info)))
 
+-- a copy was taken: a save quits next, a snapshot is added, a dump is over
 abbrev pub take_done : Domain → Live → Op → Call → List Answer → PhaseStep
 take_done d l op (call.Save name) answers = goes_on d op phase.Quit []
 take_done d l op (call.Snapshot info) answers = live_taken d l op info (first_value answers)
@@ -62,9 +64,11 @@ quit_done d l c = over (ended (record d { current = current_after d c }) l reaso
 abbrev pub led_to : Op → Reply
 led_to op = reply.No (unwrap_or op.refusal aborted)
 
+-- a copy was given up, and the guest goes on where it stood still for it
 abbrev pub cancel_done : Domain → Live → Op → PhaseStep
 cancel_done d l op = over (state.Held (with_guest_resumed d l op)) (resume_events l op) (led_to op)
 
+-- a new guest runs
 abbrev pub run_done : Domain → Live → Call → PhaseStep
 run_done d l c = over (state.Held (with_run d l run.Running)) (told.STARTED_BOOTED ∷ []) (reply.Ok (start_value d c))
 

@@ -7,6 +7,7 @@ use Rattle.domain_spec.specs.declared.owed.Owed.{Owed}
 use Rattle.domain_spec.specs.declared.standing.Registration.{Registration}
 use Rattle.domain_spec.specs.Fold.{transitions_of}
 
+-- all these, and no loss
 abbrev pub owed_all : List Transition → Owed
 owed_all events = record { events = events; is_lost = false }
 
@@ -34,7 +35,7 @@ abbrev pub owed_after : Option (Mark ℕ) → List (Mark ℕ) → Option Owed
 owed_after (Some (mark.Watch number client)) later = Some (owed client later)
 owed_after other later = None
 
--- what the registration is owed whose Watch stands at this place of a history
+-- what the registration is owed whose Watch is at this place of a history
 abbrev pub owed_since : List (Mark ℕ) → ℕ → Option Owed
 owed_since marks place = owed_after (slice_get marks place) (drop (place + 1) marks)
 

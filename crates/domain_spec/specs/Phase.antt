@@ -30,10 +30,12 @@ inactive_taken d info None = over (state.Held d) [] (reply.No no_domain)
 inactive_taken d info (Some def) =
     over (state.Held (snapshot_taken d info None def [])) [] (reply.Ok (value.Name (snapshot_name d info)))
 
+-- a snapshot of a domain without a guest
 abbrev pub inactive_take_done : Domain → Call → PhaseStep
 inactive_take_done d (call.Snapshot info) = inactive_taken d info d.stored
 inactive_take_done d other = over (state.Held d) [] (reply.No no_domain)
 
+-- a snapshot without a guest's state becomes the current one
 abbrev pub reverted : Domain → Call → PhaseStep
 reverted d c = over (state.Held (record d { current = current_after d c })) [] (reply.Ok value.Nothing)
 
@@ -60,7 +62,7 @@ migration_refused d l op r phase.MigrateRun = rests d op [] (reply.No r)
 migration_refused d l op r phase.MigrateDrop = rests d op [] (reply.No r)
 migration_refused d l op r other = over (state.Held d) [] (reply.No r)
 
--- a phase on a guest that was refused, or met a fault of the store or want of memory
+-- a phase on a guest that was refused, or for which the store failed or there was no memory
 abbrev pub live_phase_refused : Domain → Live → Op → Refusal → Phase → PhaseStep
 live_phase_refused d l op r phase.Nothing = over (state.Held d) [] (reply.No r)
 live_phase_refused d l op r phase.Make = start_failed d l r
@@ -73,15 +75,18 @@ live_phase_refused d l op r phase.Quit = cancels d op r
 live_phase_refused d l op r phase.Cancel = over (state.Held d) [] (led_to op)
 live_phase_refused d l op r other = migration_refused d l op r other
 
+-- a phase without a guest for which there was no memory
 abbrev pub inactive_phase_refused : Domain → Op → Refusal → Phase → PhaseStep
 inactive_phase_refused d op r phase.Take = cancels d op r
 inactive_phase_refused d op r phase.Cancel = over (state.Held d) [] (led_to op)
 inactive_phase_refused d op r other = over (state.Held d) [] (reply.No r)
 
+-- a phase that was refused, with or without a guest
 abbrev pub phase_refused : Domain → Option Live → Op → Refusal → PhaseStep
 phase_refused d None op r = inactive_phase_refused d op r op.phase
 phase_refused d (Some l) op r = live_phase_refused d l op r op.phase
 
+-- a phase where each answer is Ok, with or without a guest
 abbrev pub phase_done : Domain → Option Live → Op → Call → List Answer → PhaseStep
 phase_done d None op c answers = inactive_phase_done d op c op.phase
 phase_done d (Some l) op c answers = live_phase_done d l op c answers op.phase
@@ -102,10 +107,12 @@ abbrev pub ended_reply : OpenOperation → Option ℕ → List Answer → Reply
 ended_reply o None answers = reply.No no_domain
 ended_reply o (Some boot) answers = if quit_was_done o.call o.outcome answers then reply.Ok value.Nothing else reply.No (guest_ended boot)
 
+-- the due phase, where the domain has an operation
 abbrev pub phase_on : Domain → Option Op → Call → List Answer → PhaseStep
 phase_on d None c answers = over (state.Held d) [] (reply.No no_domain)
 phase_on d (Some op) c answers = answered_phase d op c answers (first_bad answers)
 
+-- the due phase in this state; a vacant cell has none
 abbrev pub phase_in : State → Call → List Answer → PhaseStep
 phase_in (state.Vacant boots) c answers = over (state.Vacant boots) [] (reply.No no_domain)
 phase_in (state.Held d) c answers = phase_on d d.op c answers
@@ -114,6 +121,7 @@ phase_in (state.Held d) c answers = phase_on d d.op c answers
 abbrev pub phase_of : State → OpenOperation → List Answer → PhaseStep
 phase_of s o answers = if carries_ended s o.boot then over s [] (ended_reply o o.boot answers) else phase_in s o.call answers
 
+-- what the due phase asks, where the domain has an operation
 abbrev pub plan_on : Domain → Option Op → Call → List Answer → List PlannedAsk
 plan_on d None c answers = []
 plan_on d (Some op) c answers = phase_plan d d.live op c answers

@@ -14,6 +14,7 @@ use Rattle.domain_spec.specs.Call.{lease_of, tell, tell_if}
 use Rattle.domain_spec.specs.Reading.{is_held_by_job, is_running}
 use Rattle.domain_spec.specs.Snapshots.{snapshot_named, snapshot_ran}
 
+-- the state that a snapshot has
 abbrev pub loaded_from : Snap → Loaded
 loaded_from snap = record { definition = snap.def; ran = snapshot_ran snap; saved = snap.saved }
 
@@ -47,6 +48,7 @@ abbrev pub copied_bytes : Option AnswerValue → List ℕ
 copied_bytes (Some (given.Bytes bytes)) = if nat_le (length bytes) 4096 then bytes else []
 copied_bytes other = []
 
+-- the copy is written under this name
 abbrev pub write_image : List ℕ → ImageKind → Live → Op → List Answer → List Ask
 write_image name k l op answers = ask.WriteImage name k l.def op.was_running (copied_bytes (first_value answers)) ∷ []
 
@@ -61,12 +63,15 @@ take_asks l op c answers = tell command.CopyTake ++ tell_if (resumes l op) comma
 abbrev pub make_asks : Live → List Ask
 make_asks l = flat_map lease_of l.def.interfaces ++ ask.Make l.def l.boot ∷ []
 
+-- two commands, one after the other
 abbrev pub two : Command → Command → List Ask
 two first second = tell first ++ tell second
 
+-- a guest that runs is stopped, and its copy is begun
 abbrev pub copy_asks : Live → List Ask
 copy_asks l = tell_if (is_running l.run) command.Stop ++ tell command.CopyBegin
 
+-- the copy is given up, and a guest that stood still for it goes on
 abbrev pub cancel_asks : Live → Op → List Ask
 cancel_asks l op = tell command.CopyCancel ++ tell_if (resumes l op) command.Cont
 
@@ -113,6 +118,7 @@ abbrev pub migrate_take_plan : Live → List PlannedAsk
 migrate_take_plan l =
     plain (tell_if (is_running l.run) command.Stop) ++ undone_by (tell_if (is_running l.run) command.Cont) (tell command.CopyTake)
 
+-- what a phase asks of a guest, with what undoes it
 abbrev pub live_phase_plan : Domain → Live → Op → Call → List Answer → Phase → List PlannedAsk
 live_phase_plan d l op c answers phase.MigrateTake = migrate_take_plan l
 live_phase_plan d l op c answers p = undone_by (live_phase_undo l op p) (live_phase_asks d l op c answers p)

@@ -39,10 +39,12 @@ abbrev pub job_info : Option Op → JobInfo
 job_info None = record { kind = None; phase = phase.Nothing; rest = 0 }
 job_info (Some op) = record { kind = Some op.kind; phase = op.phase; rest = unwrap_or op.remaining 0 }
 
+-- a snapshot's parent, if the snapshot is there
 abbrev pub parent_reply : List ℕ → Option Snap → Reply
 parent_reply name None = reply.No (no_snapshot name)
 parent_reply name (Some snap) = reply.Ok (value.Parent snap.parent)
 
+-- a snapshot, if it is there
 abbrev pub snapshot_reply : List ℕ → Option Snap → Reply
 snapshot_reply name None = reply.No (no_snapshot name)
 snapshot_reply name (Some snap) = reply.Ok (value.Snapshot snap)

@@ -40,6 +40,7 @@ abbrev pub boots_of : State → ℕ
 boots_of (state.Vacant boots) = boots
 boots_of (state.Held d) = d.boots
 
+-- vacant, where there is neither a live nor a stored definition
 abbrev pub unless_gone_by : Domain → Option Live → Option DomainDef → State
 unless_gone_by d None None = state.Vacant d.boots
 unless_gone_by d live stored = state.Held d
@@ -49,10 +50,12 @@ unless_gone_by d live stored = state.Held d
 abbrev pub unless_gone : Domain → State
 unless_gone d = unless_gone_by d d.live d.stored
 
+-- the guest runs
 abbrev pub is_running : RunState → Bool
 is_running run.Running = true
 is_running other = false
 
+-- the guest is paused, whatever by
 abbrev pub is_paused : RunState → Bool
 is_paused (run.Paused why) = true
 is_paused other = false
@@ -67,6 +70,7 @@ abbrev pub is_moved : RunState → Bool
 is_moved (run.Paused cause.Moved) = true
 is_moved other = false
 
+-- the guest crashed
 abbrev pub is_crashed : RunState → Bool
 is_crashed run.Crashed = true
 is_crashed other = false
@@ -85,12 +89,13 @@ has_moved (Some l) = is_moved l.run
 abbrev pub with_run : Domain → Live → RunState → Domain
 with_run d l r = record d { live = Some (record l { run = r }) }
 
+-- the state of a guest as the wire has it
 abbrev pub state_running : RunState → DomainState
 state_running run.Running = wire.Running
 state_running (run.Paused why) = wire.Paused
 state_running run.Crashed = wire.Crashed
 
--- the state of a domain as the wire tells it (libvirt's virDomainState)
+-- the state of a domain as the wire has it (libvirt's virDomainState)
 abbrev pub state_in : Option Live → DomainState
 state_in None = wire.ShutOff
 state_in (Some l) = state_running l.run

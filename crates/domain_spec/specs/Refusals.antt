@@ -8,6 +8,7 @@ use Rattle.domain_spec.specs.Types.answer
 use Rattle.domain_spec.specs.Types.code
 use Rattle.virt_types.specs.Refusal.{kept_cut}
 
+-- a refusal with this code, which keeps this text
 abbrev pub refusal : RefusalCode → List ℕ → Refusal
 refusal c kept = record { code = c; kept = kept }
 
@@ -36,9 +37,11 @@ no_device key = refusal code.InvalidArgument (kept_cut key)
 abbrev pub failed : ℕ → Refusal
 failed class = refusal code.OperationFailed (codes "class " ++ decimal class)
 
+-- the store failed
 abbrev pub store_failed : Refusal
 store_failed = bare code.StoreFailed
 
+-- there is no domain
 abbrev pub no_domain : Refusal
 no_domain = bare code.NoDomain
 
@@ -46,9 +49,11 @@ no_domain = bare code.NoDomain
 abbrev pub invalid : Option Live → Refusal
 invalid live = refusal code.OperationInvalid (state_word (state_in live))
 
+-- there is no snapshot of this name
 abbrev pub no_snapshot : List ℕ → Refusal
 no_snapshot name = refusal code.NoSnapshot name
 
+-- a caller asked that the operation be given up
 abbrev pub aborted : Refusal
 aborted = bare code.OperationAborted
 
@@ -56,6 +61,7 @@ aborted = bare code.OperationAborted
 abbrev pub guest_ended : ℕ → Refusal
 guest_ended boot = refusal code.GuestEnded (codes "boot " ++ decimal boot)
 
+-- the link to the guest was lost
 abbrev pub monitor_lost : Refusal
 monitor_lost = bare code.MonitorLost
 
@@ -67,9 +73,11 @@ list_full most = refusal code.ListFull (decimal most)
 abbrev pub stalled : ℕ → Refusal
 stalled rest = refusal code.Stalled (decimal rest)
 
+-- there is a snapshot of this name already
 abbrev pub snapshot_exists : List ℕ → Refusal
 snapshot_exists name = refusal code.SnapshotExists name
 
+-- each slot has a device
 abbrev pub no_slot : Refusal
 no_slot = bare code.NoFreeSlot
 

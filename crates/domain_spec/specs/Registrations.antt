@@ -17,7 +17,7 @@ with_pending events r = if r.is_lost then r else record r { pending = r.pending 
 -- the registration as it is cut after `total` transitions: their rest pends, and then its loss is due
 abbrev pub cut_after : ℕ → ℕ → Registration → Registration
 cut_after client total r =
-    if is_numbered client r then record r { pending = take (total - r.taken) r.pending; is_lost = true } else r
+    if is_numbered client r && not r.is_lost then record r { pending = take (total - r.taken) r.pending; is_lost = true } else r
 
 -- the registrations after a mark
 abbrev pub registrations_after : List Registration → Mark ℕ → List Registration

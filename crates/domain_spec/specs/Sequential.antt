@@ -16,6 +16,7 @@ abbrev pub answered_step : State → Call → List Answer → Option Answer → 
 answered_step s c answers None = step_of s c answers
 answered_step s c answers (Some bad) = refused s (failure_of bad)
 
+-- a call by its tests: the refusal of one that fails, else what the answers give
 abbrev pub tested_step : State → Call → List Answer → Option Refusal → CallStep
 tested_step s c answers None = answered_step s c answers (first_bad answers)
 tested_step s c answers (Some r) = refused s r

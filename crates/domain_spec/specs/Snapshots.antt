@@ -7,6 +7,7 @@ use Rattle.std.specs.Cmp.Lexicographic.{slice_cmp}
 use Rattle.domain_spec.specs.Types.{Domain, RunState, Snap, SnapInfo}
 use Rattle.domain_spec.specs.Reading.{is_running}
 
+-- the snapshot has this name
 abbrev pub is_named : List ℕ → Snap → Bool
 is_named name snap = bytes_eq snap.name name
 
@@ -18,6 +19,7 @@ snapshot_named snaps name = find (is_named name) snaps
 abbrev pub place_of : List Snap → List ℕ → ℕ
 place_of snaps name = position_or_len (λ s. is_lt (slice_cmp nat_cmp name s.name)) snaps
 
+-- the snapshots with one more, at its place
 abbrev pub with_snapshot : List Snap → Snap → List Snap
 with_snapshot snaps new = insert snaps (place_of snaps new.name) new
 
@@ -25,6 +27,7 @@ with_snapshot snaps new = insert snaps (place_of snaps new.name) new
 abbrev pub has_state : Snap → Bool
 has_state snap = is_some snap.run
 
+-- the guest ran, if there was one
 abbrev pub ran_in : Option RunState → Bool
 ran_in None = false
 ran_in (Some r) = is_running r
@@ -33,10 +36,12 @@ ran_in (Some r) = is_running r
 abbrev pub snapshot_ran : Snap → Bool
 snapshot_ran snap = ran_in snap.run
 
+-- the parent of a snapshot that may not be there
 abbrev pub parent_of : Option Snap → Option (List ℕ)
 parent_of None = None
 parent_of (Some snap) = snap.parent
 
+-- the parent has this name
 abbrev pub is_parent : Option (List ℕ) → List ℕ → Bool
 is_parent None name = false
 is_parent (Some parent) name = bytes_eq parent name
@@ -52,6 +57,7 @@ is_met (step ∷ steps) snaps name (Some parent) =
 abbrev pub comes_from : List Snap → List ℕ → Snap → Bool
 comes_from snaps name snap = is_named name snap || is_met snaps snaps name snap.parent
 
+-- a child of the deleted one takes its parent
 abbrev pub with_parent : List ℕ → Option (List ℕ) → Snap → Snap
 with_parent name parent snap = if is_parent snap.parent name then record snap { parent = parent } else snap
 
@@ -66,6 +72,7 @@ abbrev pub without_snapshot : List Snap → List ℕ → Bool → List Snap
 without_snapshot snaps name true = filter (λ snap. not (comes_from snaps name snap)) snaps
 without_snapshot snaps name false = without_one snaps name
 
+-- the current one where it is still there, else this parent
 abbrev pub current_in : List Snap → Option (List ℕ) → Option (List ℕ) → Option (List ℕ)
 current_in left None parent = None
 current_in left (Some current) parent = if is_some (snapshot_named left current) then Some current else parent

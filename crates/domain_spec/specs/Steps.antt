@@ -36,6 +36,7 @@ pub record IsPhaseAdmit (s : Standing) (o : OpenOperation) (number : ℕ) (w : W
   pub due : GoesOn o.outcome
   pub carried : boot ≡ live_boot s.state
 
+-- the due phase of the open operation is let in
 abbrev pub IsPhaseLetIn : Standing → Option OpenOperation → ℕ → Who → Job → Call → Option ℕ → Type 0
 IsPhaseLetIn s None number w wanted e boot = ⊥
 IsPhaseLetIn s (Some o) number w wanted e boot = IsPhaseAdmit s o number w wanted e boot
@@ -78,6 +79,7 @@ AnswersBy c (step.Phase n who) answers = (more : ℕ) × (answers ≡ replicate 
 AnswersBy c (step.TakeUp n who d) answers = (more : ℕ) × (answers ≡ replicate more answer.NoMemory)
 AnswersBy c other answers = ⊥
 
+-- the open call carries this boot
 abbrev pub IsCarriedBy : Option OpenJob → ℕ → Type 0
 IsCarriedBy None boot = ⊥
 IsCarriedBy (Some j) boot = j.boot ≡ Some boot

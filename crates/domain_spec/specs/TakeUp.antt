@@ -26,6 +26,7 @@ rests_for_another wanted op = false
 abbrev pub takes_it_up : Standing → Call → Option ℕ → Bool
 takes_it_up s c boot = not (meets_ended s.state c boot) && rests_for (takes_up c) (operation_held s.operation)
 
+-- the cell has no domain
 abbrev pub is_vacant : State → Bool
 is_vacant (state.Vacant boots) = true
 is_vacant (state.Held d) = false

@@ -21,15 +21,19 @@ fails_if b r = record { fails = b; refusal = r }
 abbrev pub first_refusal : List Test → Option Refusal
 first_refusal tests = option_map (λ t. t.refusal) (find (λ t. t.fails) tests)
 
+-- there is no guest
 abbrev pub inactive : Domain → Test
 inactive d = fails_if (is_none d.live) (invalid d.live)
 
+-- there is a guest
 abbrev pub active : Domain → Test
 active d = fails_if (is_some d.live) (invalid d.live)
 
+-- the guest crashed
 abbrev pub crashed : Domain → Test
 crashed d = fails_if (has_crashed d.live) (invalid d.live)
 
+-- there is no stored definition
 abbrev pub none_stored : Domain → Test
 none_stored d = fails_if (is_none d.stored) (invalid d.live)
 
@@ -45,18 +49,22 @@ outside n low high = fails_if (nat_lt n low || nat_lt high n) (out_of_range n lo
 abbrev pub bad_number : ℤ → Test
 bad_number n = fails_if (int_lt n (pos 1) || int_lt (pos 5) n) (bad_kick n (int_lt n (pos 1)))
 
+-- the most memory that the guest may have
 abbrev pub live_memory : Option Live → ℕ
 live_memory None = 0
 live_memory (Some l) = l.def.memory
 
+-- the most processors that the guest may have
 abbrev pub live_vcpus : Option Live → ℕ
 live_vcpus None = 0
 live_vcpus (Some l) = l.def.vcpus
 
+-- the guest has a device with the key of this one
 abbrev pub has_key : Option Live → DeviceDef → Bool
 has_key None d = false
 has_key (Some l) d = is_some (device_like l d)
 
+-- the guest has a slot without a device
 abbrev pub has_free_slot : Option Live → Bool
 has_free_slot None = false
 has_free_slot (Some l) = is_some (free_slot l.slots)
@@ -69,6 +77,7 @@ is_abortable kind.Snapshot = true
 is_abortable kind.MigrateOut = true
 is_abortable other = false
 
+-- the operation under way can be given up
 abbrev pub can_abort : Option Op → Bool
 can_abort None = false
 can_abort (Some op) = is_abortable op.kind && not op.rests
@@ -81,6 +90,7 @@ none_resting d k = fails_if (not (rests_as k d.op)) (invalid d.live)
 abbrev pub moved : Domain → Test
 moved d = fails_if (has_moved d.live) (invalid d.live)
 
+-- no snapshot has this name
 abbrev pub absent : Domain → List ℕ → Test
 absent d name = fails_if (is_none (snapshot_named d.snaps name)) (no_snapshot name)
 
@@ -97,9 +107,11 @@ reverts_to_new_boot d name = is_none d.live && state_kept (snapshot_named d.snap
 abbrev pub key_there : Domain → DeviceDef → Test
 key_there d new = fails_if (has_key d.live new) (invalid d.live)
 
+-- no device has the key of this one
 abbrev pub key_absent : Domain → DeviceDef → Test
 key_absent d old = fails_if (not (has_key d.live old)) (no_device (key_of old))
 
+-- each slot has a device
 abbrev pub no_free_slot : Domain → Test
 no_free_slot d = fails_if (not (has_free_slot d.live)) no_slot
 
@@ -112,6 +124,7 @@ abbrev pub name_there : Domain → Option (List ℕ) → Test
 name_there d None = fails_if false (snapshot_exists [])
 name_there d (Some name) = fails_if (is_some (snapshot_named d.snaps name)) (snapshot_exists name)
 
+-- the domain has as many snapshots as it may
 abbrev pub snapshots_full : Domain → Test
 snapshots_full d = fails_if (nat_le 64 (length d.snaps)) (list_full 64)
 
@@ -154,6 +167,7 @@ plain_tests d boot (call.Confirm verdict) = none_resting d kind.MigrateOut ∷ [
 plain_tests d boot (call.Finish go) = none_resting d kind.MigrateIn ∷ []
 plain_tests d boot other = live_tests d other
 
+-- the tests of a call in a cell with a domain
 abbrev pub held_tests : Domain → Option ℕ → Call → List Test
 held_tests d boot c = if is_some (begins c) then operation_tests d c else plain_tests d boot c
 

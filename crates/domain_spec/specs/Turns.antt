@@ -1,6 +1,7 @@
 -- What a turn of a domain's cell leaves: the marks of one step, and lists of steps by any actors.
-use Rattle.std.specs.Prelude.{◌≡◌, ◌⊎◌, ℕ, List, [], ◌∷◌, ◌++◌, find, Bool, true, not, ◌&&◌, Option, None, Some}
-use Rattle.domain_spec.specs.Types.{DomainDef}
+use Rattle.std.specs.Prelude.{◌≡◌, ℕ, List, [], ◌∷◌, ◌++◌, find, Bool, true, not, ◌&&◌, Option, None, Some, ◌<◌, false}
+use Rattle.std.specs.List.{list_any}
+use Rattle.domain_spec.specs.Types.{Answer, DomainDef}
 use Rattle.domain_spec.specs.declared.core_step.CoreStep.{CoreStep}
 use Rattle.domain_spec.specs.declared.core_step.CoreStep.TheVariants as step
 use Rattle.domain_spec.specs.declared.mark.Mark.{Mark}
@@ -8,15 +9,17 @@ use Rattle.domain_spec.specs.declared.mark.Mark.TheVariants as mark
 use Rattle.domain_spec.specs.declared.standing.Base.{Base}
 use Rattle.domain_spec.specs.declared.standing.Registration.{Registration}
 use Rattle.domain_spec.specs.declared.standing.Standing.{Standing}
-use Rattle.domain_spec.specs.CanTake.{CanTake}
+use Rattle.domain_spec.specs.CanTake.{CanTake, WaitsForAnswer}
 use Rattle.domain_spec.specs.Cell.{Cell, standing_of}
 use Rattle.domain_spec.specs.Chapter.{first_base, next_base}
 use Rattle.domain_spec.specs.Exit.{event_transitions}
-use Rattle.domain_spec.specs.Fold.{after, at_base}
+use Rattle.domain_spec.specs.Fold.{after, at_base, standing}
+use Rattle.domain_spec.specs.Kept.{AppliesHeld, WaitAfter, held_by}
 use Rattle.domain_spec.specs.Lawful.{IsDone, IsEnded, IsPhased, IsRefused, IsStarted, IsTakenUp}
 use Rattle.domain_spec.specs.Legal.{IsInOrder, IsLegal, MarksLoss}
 use Rattle.domain_spec.specs.Reading.{is_live}
 use Rattle.domain_spec.specs.Registrations.{HasRoom, is_numbered, registrations_after, registrations_at, registrations_taken}
+use Rattle.domain_spec.specs.TakeUp.{is_vacant}
 use Rattle.domain_spec.specs.Steps.{AnswersBy, Occurs, IsExitOf, LetsIn, TurnsAway}
 
 -- a mark by which a turn goes on, or that comes along in it: a call is closed, a boot's end, an event, a cut
@@ -30,12 +33,19 @@ GoesOnBy c t s (mark.Event boot e events) = Occurs c t boot e × (is_live s.stat
 GoesOnBy c t s (mark.Cut client total taken) = IsInOrder s (mark.Cut client total taken)
 GoesOnBy c t s other = ⊥
 
+-- a client gets the least number below 16 that no registration has, where there is a domain
+pub record IsNextClient (c : Cell) (client : ℕ) : Type 0 where
+  pub below : client < 16
+  pub free : list_any (is_numbered client) c.registrations ≡ false
+  pub least : (n : ℕ) → n < client → list_any (is_numbered n) c.registrations ≡ true
+  pub domain : is_vacant (standing_of c).state ≡ false
+
 -- a mark by which a turn begins: a call is let in or turned away, an operation ends, a client comes or goes
 abbrev pub BeginsBy : Cell → CoreStep ℕ → Standing → Mark ℕ → Type 0
 BeginsBy c t s (mark.Admit number who wanted d boot) = LetsIn c t number who wanted d boot
 BeginsBy c t s (mark.Refused number who d why held) = TurnsAway c t number who d why held × IsRefused s who d why held
 BeginsBy c (step.EndOp n w) s (mark.End number who r) = (number ≡ n) × (who ≡ w) × IsEnded s s.operation number who r
-BeginsBy c (step.Watch n) s (mark.Watch number client) = (number ≡ n) × IsInOrder s (mark.Watch number client)
+BeginsBy c (step.Watch n) s (mark.Watch number client) = (number ≡ n) × IsInOrder s (mark.Watch number client) × IsNextClient c client
 BeginsBy c (step.Unwatch n k) s (mark.Unwatch number client) = (number ≡ n) × (client ≡ k) × IsInOrder s (mark.Unwatch number client)
 BeginsBy c t s m = GoesOnBy c t s m
 
@@ -49,6 +59,7 @@ abbrev pub MayLeave : Cell → CoreStep ℕ → List (Mark ℕ) → Type 0
 MayLeave c t [] = (standing_of c).lost ≡ None
 MayLeave c t (m ∷ marks) = BeginsBy c t (standing_of c) m × MarksLoss (standing_of c).lost m × GoOn c t (after (standing_of c) m) marks
 
+-- each registration keeps all that came
 abbrev pub AllHaveRoom : List Registration → Type 0
 AllHaveRoom [] = Unit {0}
 AllHaveRoom (r ∷ rs) = HasRoom r × AllHaveRoom rs
@@ -70,26 +81,38 @@ pub record IsTurn (c : Cell) (t : CoreStep ℕ) (marks : List (Mark ℕ)) : Type
   pub can : CanTake c t
   pub left : MayLeave c t marks
   pub cuts : AreCut c.registrations marks
+  pub held : AppliesHeld c t (standing (standing_of c) marks) marks
 
 -- where a chapter ends, the next one begins with what is there
 abbrev pub base_after : Cell → CoreStep ℕ → Base
 base_after c (step.Rotate n who) = next_base (standing_of c) c.registrations
 base_after c other = c.base
 
+-- the marks of the chapter after a turn
 abbrev pub marks_after : Cell → CoreStep ℕ → List (Mark ℕ) → List (Mark ℕ)
 marks_after c (step.Rotate n who) marks = []
 marks_after c other marks = c.marks ++ marks
 
+-- what is kept for registrations after a turn
 abbrev pub kept_after : Cell → CoreStep ℕ → List (Mark ℕ) → List Registration
 kept_after c (step.Take n client) marks = registrations_taken c.registrations client
 kept_after c other marks = registrations_at c.registrations marks
 
--- the cell after a turn
+-- the answers so far: those of a call that was let in now, or one more, or as they were
+abbrev pub AnswersAfter : Cell → CoreStep ℕ → List (Mark ℕ) → List Answer → Type 0
+AnswersAfter c (step.Back n a) left answers = AnswersBy c (step.Back n a) answers
+AnswersAfter c t (mark.Admit number who wanted d boot ∷ left) answers = AnswersBy c t answers
+AnswersAfter c t left answers = answers ≡ c.answers
+
+-- the cell after a turn: a call that is open still waits for an answer; ears are lent and given back by calls that are no steps
 pub record Leads (c : Cell) (t : CoreStep ℕ) (left : List (Mark ℕ)) (d : Cell) : Type 0 where
   pub base : d.base ≡ base_after c t
   pub marks : d.marks ≡ marks_after c t left
   pub registrations : d.registrations ≡ kept_after c t left
-  pub answers : (d.answers ≡ c.answers) ⊎ AnswersBy c t d.answers
+  pub answers : AnswersAfter c t left d.answers
+  pub away : WaitsForAnswer d (standing_of d).job
+  pub held : d.held ≡ held_by c t (standing_of d) (standing_of d).job
+  pub waiting : WaitAfter c t left d.waiting
 
 -- a step with the marks that it left
 pub record Turn : Type 0 where

@@ -27,6 +27,7 @@ use Rattle.domain_spec.specs.Reading.{boots_of, live_boot}
 abbrev pub unconnected : DomainDef → DomainDef
 unconnected def = record def { interfaces = [] }
 
+-- done, without a value
 abbrev pub ok : Answer
 ok = answer.Ok given.Nothing
 
@@ -53,6 +54,7 @@ destroying n who =
     mark.Admit n who job.Destroy call.Destroy (Some 1)
     ∷ mark.Done n who call.Destroy (Some 1) (tell command.Quit) (ok ∷ []) (reply.Ok value.Nothing) (told.STOPPED_DESTROYED ∷ []) ∷ []
 
+-- one after the other
 abbrev pub whole_life : DomainDef → ℕ → Who → List (Mark ℕ)
 whole_life def n who = starting def n who ++ suspending n who ++ destroying n who
 

@@ -55,6 +55,7 @@ taken_up_with p who c answers = whole_operation (taken_up_state p.state who c) (
 abbrev pub copied : List ℕ
 copied = 0 ∷ 0 ∷ 0 ∷ 0 ∷ 0 ∷ 16 ∷ 0 ∷ 0 ∷ []
 
+-- done, with this number
 abbrev pub number : ℕ → Answer
 number n = answer.Ok (given.Number n)
 
@@ -62,6 +63,7 @@ number n = answer.Ok (given.Number n)
 abbrev pub slow_copy : List Answer
 slow_copy = ok ∷ number 2 ∷ number 1 ∷ number 0 ∷ ok ∷ answer.Ok (given.Bytes copied) ∷ []
 
+-- how the guest is, if there is one
 abbrev pub run_in : Option Live → Option RunState
 run_in None = None
 run_in (Some l) = Some l.run
@@ -73,9 +75,11 @@ pub record Came (p : Progress) (asks : List (List Ask)) (events : List Transitio
   pub led_to : p.operation.outcome ≡ next
   pub guest : run_in (live_of p.state) ≡ left
 
+-- the guest stands still between two hosts
 abbrev pub paused_moved : Option RunState
 paused_moved = Some (run.Paused cause.Moved)
 
+-- the operation is over, and was done
 abbrev pub over_ok : Outcome
 over_ok = outcome.Over (reply.Ok value.Nothing)
 
@@ -139,5 +143,6 @@ pub record RowsOfMoves (d : Domain) (l : Live) (def : DomainDef) (who : Who) : T
   pub limited : LimitedRow d l who
   pub coming : ComingRows (unconnected def) who (named_as def)
 
+-- so it is for each domain, guest, definition and caller
 abbrev pub MovesAreMade : Type 0
 MovesAreMade = (d : Domain) (l : Live) (def : DomainDef) (who : Who) → RowsOfMoves d l def who

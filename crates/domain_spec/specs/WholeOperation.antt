@@ -6,6 +6,7 @@ use Rattle.domain_spec.specs.Types.{Answer, EndReason, Phase, State, Transition}
 use Rattle.domain_spec.specs.Types.answer
 use Rattle.domain_spec.specs.Types.reason
 use Rattle.domain_spec.specs.declared.open.OpenOperation.{OpenOperation}
+use Rattle.domain_spec.specs.declared.progress.DonePhase.{DonePhase}
 use Rattle.domain_spec.specs.declared.progress.Progress.{Progress}
 use Rattle.domain_spec.specs.declared.step.Outcome.{Outcome}
 use Rattle.domain_spec.specs.declared.step.Outcome.TheVariants as outcome
@@ -29,6 +30,7 @@ abbrev pub after_end : State → Option EndReason → State
 after_end s None = s
 after_end s (Some why) = exit_state s why
 
+-- what listeners are told of a boot's end, if there is one
 abbrev pub end_told : Option EndReason → List Transition
 end_told None = []
 end_told (Some why) = exit_transitions why
@@ -37,18 +39,22 @@ end_told (Some why) = exit_transitions why
 abbrev pub due_step : Progress → PhaseStep
 due_step at = phase_of (after_end at.state (ended_by at.left)) at.operation at.left
 
+-- the phase as it was done, with the transitions of its boot's end
+abbrev pub done_phase : Progress → Phase → PhaseStep → Option EndReason → DonePhase
+done_phase at p step lost = record {
+  phase = p;
+  asks = phase_asked at.state at.operation at.left;
+  answers = at.left;
+  outcome = step.outcome;
+  transitions = end_told (ended_by at.left) ++ step.transitions ++ end_told lost;
+}
+
 -- the due phase is done with the answers that are there; where one is Lost, the boot's end follows
 abbrev pub with_phase : Progress → Phase → PhaseStep → Progress
 with_phase at p step =
     let lost = lost_by step.state at.operation.boot at.left in
     record {
-      phases = at.phases ++ (record {
-        phase = p;
-        asks = phase_asked at.state at.operation at.left;
-        answers = at.left;
-        outcome = step.outcome;
-        transitions = end_told (ended_by at.left) ++ step.transitions ++ end_told lost;
-      }) ∷ [];
+      phases = at.phases ++ done_phase at p step lost ∷ [];
       state = after_end step.state lost;
       operation = with_outcome step.outcome at.operation;
       left = [];
@@ -58,6 +64,7 @@ with_phase at p step =
 abbrev pub is_through : Progress → Bool
 is_through at = length (phase_still_asked at.state at.operation at.left) == 0
 
+-- the due phase is done, where one is due and no ask is left to it
 abbrev pub stepped_by : Progress → Outcome → Progress
 stepped_by at (outcome.Over r) = at
 stepped_by at (outcome.Rest r) = at
@@ -67,7 +74,7 @@ stepped_by at (outcome.On p) = if is_through at then with_phase at p (due_step a
 abbrev pub stepped : Progress → Progress
 stepped at = stepped_by at at.operation.outcome
 
--- and so is the next one, if it asks nothing: a poll that gives up. The cancel behind that one asks.
+-- and so is the next one, if it asks nothing: a poll that gives up. The cancel after that one asks.
 abbrev pub advanced : Progress → Progress
 advanced at = stepped (stepped at)
 
@@ -75,6 +82,7 @@ advanced at = stepped (stepped at)
 abbrev pub with_answer : Progress → Answer → Progress
 with_answer at a = advanced (record at { left = at.left ++ a ∷ [] })
 
+-- the operation gets these answers, one after the other
 abbrev pub with_answers : Progress → List Answer → Progress
 with_answers at [] = at
 with_answers at (a ∷ answers) = with_answers (with_answer at a) answers

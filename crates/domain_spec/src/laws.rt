@@ -1,8 +1,9 @@
 // Laws of the definitions: each function's contract is one, and its body does nothing.
-ghost use Rattle.domain_spec.specs.CallLaws.{DestroyEnds, EndedOnlyWhereNotLive};
-ghost use Rattle.domain_spec.specs.ChapterLaws.{BaseKeeps, RegistrationsAgree, RisingGoesOn};
+ghost use Rattle.domain_spec.specs.CallLaws.{DestroyCarriesItsBoot, DestroyEnds, EndedOnlyWhereNotLive};
+ghost use Rattle.domain_spec.specs.ChapterLaws.{BaseKeeps, PendingIsOwed, RegistrationsAgree, RisingGoesOn};
 ghost use Rattle.domain_spec.specs.HistoryLaws.{AskedStays, ClosedUnderItsNumber, OwedExactly, PhaseAskedStays};
 ghost use Rattle.domain_spec.specs.Turns.{EveryRunIsLegal};
+ghost use Rattle.domain_spec.specs.WholeRun.{LifeIsRun};
 ghost use Rattle.domain_spec.specs.WholeMove.{MovesAreMade};
 ghost use Rattle.domain_spec.specs.WholeLife.{HasWholeLife};
 ghost use Rattle.domain_spec.specs.Laws.{BootsAreNew, BootsNeverFall, EachEndsOnce, OneJobAtATime, OneOperationAtATime, OperationsGoOn};
@@ -95,4 +96,19 @@ pub fn every_run_is_legal()
 /// The rows of migrations hold for each domain and each caller.
 pub fn moves_are_made()
     ensures { MovesAreMade }
+{}
+
+/// A Destroy carries no boot that it likes: the live one, or after waiting one that was live.
+pub fn destroy_carries_its_boot()
+    ensures { DestroyCarriesItsBoot }
+{}
+
+/// A guest's whole life comes of a list of steps.
+pub fn life_is_run()
+    ensures { LifeIsRun }
+{}
+
+/// What pends for a registration, of which nothing was taken since, is what it is owed.
+pub fn pending_is_owed()
+    ensures { PendingIsOwed }
 {}

@@ -20,16 +20,17 @@ pub struct OpenJob {
 
 /// An operation that is under way. Its fields are read and replaced in place; none is moved out of it.
 pub struct OpenOperation {
-    /// The number of its pass.
+    /// The number of its pass: of the one that began it, or that took it up last.
     pub number: u64,
-    /// The caller that began it.
+    /// The caller that began it, or that took it up last.
     pub who: Who,
-    /// The call that began it.
+    /// The call that began it, or that took it up last.
     pub call: Call,
     /// The boot that it works on: its own new one, or the one that was live; none where it works on
     /// no guest.
     pub boot: Option<u64>,
-    /// What its last phase led to; before the first phase, that the first phase is next.
+    /// What its last phase led to; before the first phase, and where it was taken up, the phase that is
+    /// next.
     pub outcome: Outcome,
 }
 

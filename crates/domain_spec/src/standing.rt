@@ -40,7 +40,7 @@ pub struct Client {
     pub total: u64,
 }
 
-/// What stands after some marks of a history: all that decides which mark may come next. Its fields are
+/// What is in force after some marks of a history: all that decides which mark may come next. Its fields are
 /// read and replaced in place; none is moved out of it.
 pub struct Standing {
     /// The state.
@@ -57,7 +57,7 @@ pub struct Standing {
     pub clients: ListOf<Client>,
 }
 
-// Written out, and not derived: so a proof meets one call where what stands is let go, and not a walk
+// Written out, and not derived: so a proof meets one call where it is let go, and not a walk
 // over its fields.
 impl Drop for Standing {
     fn drop(self) {
