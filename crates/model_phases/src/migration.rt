@@ -2,9 +2,11 @@
 ghost use Rattle.std.specs.Prelude.{◌≡◌, ◌∷◌, [], IfOk};
 ghost use Rattle.domain_spec.specs.Asks.{last_value};
 ghost use Rattle.domain_spec.specs.CallResult.{tell_listeners};
-ghost use Rattle.domain_spec.specs.CopyResult.{over, paused_unless, run_as, start_value};
+ghost use Rattle.domain_spec.specs.CopyResult.{goes_on, over, paused_unless, run_as, start_value};
 ghost use Rattle.domain_spec.specs.Migration.{leaving, migrate_back_done, migrate_drop_done, migrate_quit_done, migrate_run_done, migrate_take_done, migration_done, rests};
-ghost use Rattle.domain_spec.specs.Reading.{is_running, with_run};
+ghost use Rattle.domain_spec.specs.Operation.{led_to};
+ghost use Rattle.domain_spec.specs.Reading.{with_run};
+ghost use Rattle.domain_spec.specs.Types.phase;
 ghost use Rattle.domain_spec.specs.Types.reply;
 ghost use Rattle.domain_spec.specs.Types.run;
 ghost use Rattle.domain_spec.specs.Types.cause;
@@ -13,7 +15,8 @@ ghost use Rattle.domain_spec.specs.Types.value;
 
 use crate::phase_plans::copied_bytes;
 use crate::phase_results::{
-    goes_on, over, over_quietly, paused_unless, run_as, seen_running, start_value, still_told,
+    goes_on, led_to, over, over_quietly, paused_unless, run_as, seen_running, start_value,
+    still_told,
 };
 use domain_spec::{Outcome, PhaseStep};
 use model_domain::answers::last_value;
@@ -155,7 +158,27 @@ fn migrate_load_done(
     rests(domain, op, ListOf::new(alloc), Reply::Ok(value))
 }
 
-/// A phase of a migration, where each answer is Ok; a copy that is given up ends with this reply.
+// The copy is given up, and the guest goes on as it did.
+fn migrate_cancel_done(alloc: Global, domain: &Domain, op: &Op) -> Result<PhaseStep, NoMemory>
+    ensures { IfOk result (λ step. step ≡ over (state.Held domain.now) [] (led_to op.now)) }
+{
+    over_quietly(alloc, domain, led_to(alloc, op)?)
+}
+
+fn migrate_copy_done(alloc: Global, domain: &Domain, op: &Op) -> Result<PhaseStep, NoMemory>
+    ensures { IfOk result (λ step. step ≡ goes_on domain.now op.now phase.Poll []) }
+{
+    goes_on(domain, op, Phase::Poll, ListOf::new(alloc))
+}
+
+// No call makes this phase due.
+fn nothing_done(alloc: Global, domain: &Domain) -> Result<PhaseStep, NoMemory>
+    ensures { IfOk result (λ step. step ≡ over (state.Held domain.now) [] (reply.Ok value.Nothing)) }
+{
+    over_quietly(alloc, domain, Reply::Ok(Value::Nothing))
+}
+
+/// A phase of a migration, where each answer is Ok.
 pub fn migration_done(
     alloc: Global,
     domain: &Domain,
@@ -163,20 +186,28 @@ pub fn migration_done(
     op: &Op,
     call: &Call,
     answers: &[Answer],
-    led: Reply,
     phase: Phase,
 ) -> Result<PhaseStep, NoMemory>
-    ensures { IfOk result (λ step. step ≡ migration_done domain.now live.now op.now call.now answers.now led phase) }
+    ensures { IfOk result (λ step. step ≡ migration_done domain.now live.now op.now call.now answers.now (led_to op.now) phase) }
 {
     match phase {
-        Phase::MigrateCopy => goes_on(domain, op, Phase::Poll, ListOf::new(alloc)),
+        Phase::MigrateCopy => migrate_copy_done(alloc, domain, op),
         Phase::MigrateTake => migrate_take_done(alloc, domain, live, op, answers),
-        Phase::MigrateCancel => over_quietly(alloc, domain, led),
+        Phase::MigrateCancel => migrate_cancel_done(alloc, domain, op),
         Phase::MigrateLoad => migrate_load_done(alloc, domain, op, call),
         Phase::MigrateQuit => migrate_quit_done(alloc, domain, live),
         Phase::MigrateBack => migrate_back_done(alloc, domain, live, op),
         Phase::MigrateRun => migrate_run_done(alloc, domain, live, op),
         Phase::MigrateDrop => migrate_drop_done(alloc, domain, live),
-        _ => over_quietly(alloc, domain, Reply::Ok(Value::Nothing)),
+        Phase::Nothing
+        | Phase::Make
+        | Phase::Run
+        | Phase::Load
+        | Phase::Copy
+        | Phase::Poll
+        | Phase::Take
+        | Phase::Quit
+        | Phase::Cancel
+        | Phase::Resting => nothing_done(alloc, domain),
     }
 }

@@ -4,7 +4,6 @@ ghost use Rattle.domain_spec.specs.CallResult.{ended, tell_listeners};
 ghost use Rattle.domain_spec.specs.Devices.{slots_at_start};
 ghost use Rattle.domain_spec.specs.Asks.{first_value};
 ghost use Rattle.domain_spec.specs.CopyResult.{cancel_phase, cancels, copy_done, current_after, goes_on, left_in, load_done, loaded_active, loaded_new, loaded_with, over, paused_unless, poll_done, poll_step, restored_as, run_as, start_value, still_after, take_phase};
-ghost use Rattle.domain_spec.specs.Migration.{migration_done};
 ghost use Rattle.domain_spec.specs.Operation.{after_make, cancel_done, led_to, live_phase_done, live_taken, quit_done, resume_events, run_done, snapshot_taken, take_done, with_guest_resumed};
 ghost use Rattle.domain_spec.specs.PhaseAsks.{copied_bytes};
 ghost use Rattle.domain_spec.specs.Reading.{is_running, with_run};
@@ -561,21 +560,6 @@ fn after_make(kind: OpKind) -> Phase
     }
 }
 
-fn migration_done_of(
-    alloc: Global,
-    domain: &Domain,
-    live: &Live,
-    op: &Op,
-    call: &Call,
-    answers: &[Answer],
-    phase: Phase,
-) -> Result<PhaseStep, NoMemory>
-    ensures { IfOk result (λ step. step ≡ migration_done domain.now live.now op.now call.now answers.now (led_to op.now) phase) }
-{
-    let led = led_to(alloc, op)?;
-    migration_done(alloc, domain, live, op, call, answers, led, phase)
-}
-
 /// A phase on a guest, where each answer is Ok.
 pub fn live_phase_done(
     alloc: Global,
@@ -606,6 +590,6 @@ pub fn live_phase_done(
         | Phase::MigrateQuit
         | Phase::MigrateBack
         | Phase::MigrateRun
-        | Phase::MigrateDrop => migration_done_of(alloc, domain, live, op, call, answers, phase),
+        | Phase::MigrateDrop => migration_done(alloc, domain, live, op, call, answers, phase),
     }
 }
