@@ -1,7 +1,6 @@
 // A whole operation against a list of answers, handed to it one after the other.
 ghost use Rattle.std.specs.Prelude.{◌≡◌, ◌++◌, ◌∷◌, [], IfOk, OnOk};
 ghost use Rattle.domain_spec.specs.Fold as fold;
-ghost use Rattle.domain_spec.specs.Phase as phases;
 ghost use Rattle.domain_spec.specs.WholeOperation as whole;
 ghost use Rattle.domain_spec.specs.declared.step.Outcome.TheVariants as outcome;
 
@@ -84,17 +83,24 @@ fn is_through(alloc: Global, at: &Progress) -> Result<bool, NoMemory>
     Ok(left.is_empty())
 }
 
+fn copied_told(alloc: Global, told: &[Transition]) -> Result<Told, NoMemory>
+    ensures { IfOk result (λ all. all ≡ told.now) }
+{
+    Ok(ListOf::of(told.to_vec(alloc)?))
+}
+
 // What listeners are told with a phase: of its boot's end where that came first, and where it follows.
-fn all_told(
+fn told_of(
     alloc: Global,
-    ended: Option<EndReason>,
-    told: Told,
+    at: &Progress,
+    told: &[Transition],
     lost: Option<EndReason>,
 ) -> Result<Told, NoMemory>
-    ensures { IfOk result (λ all. all ≡ whole.end_told ended ++ told ++ whole.end_told lost) }
+    ensures { IfOk result (λ all. all ≡ whole.end_told (whole.ended_by at.now.left) ++ told.now ++ whole.end_told lost) }
 {
+    let ended = end_told(alloc, ended_by(at.left.as_slice()))?;
     joined(
-        joined(end_told(alloc, ended)?, told)?,
+        joined(ended, copied_told(alloc, told)?)?,
         end_told(alloc, lost)?,
     )
 }
@@ -104,16 +110,20 @@ fn done_phase(
     alloc: Global,
     at: &Progress,
     phase: Phase,
-    outcome: &Outcome,
-    transitions: Told,
+    step: &PhaseStep,
+    lost: Option<EndReason>,
 ) -> Result<DonePhase, NoMemory>
-    ensures { IfOk result (λ it. it ≡ record { phase = phase; asks = phases.phase_asked at.now.state at.now.operation at.now.left; answers = at.now.left; outcome = outcome.now; transitions = transitions }) }
+    ensures { IfOk result (λ it. it ≡ whole.done_phase at.now phase step.now lost) }
 {
     let asked = both(
         phase_asked(alloc, &at.state, &at.operation, at.left.as_slice()),
         at.left.copy(),
     );
-    let (outcome, (asks, answers)) = both(outcome.copy(), asked)?;
+    let told = both(
+        told_of(alloc, at, step.transitions.as_slice(), lost),
+        step.outcome.copy(),
+    );
+    let ((asks, answers), (transitions, outcome)) = both(asked, told)?;
     Ok(DonePhase {
         phase,
         asks,
@@ -144,20 +154,14 @@ fn with_phase(
     alloc: Global,
     at: &mut Progress,
     phase: Phase,
-    step: PhaseStep,
+    step: &PhaseStep,
 ) -> Result<(), NoMemory>
-    ensures { OnOk result (at.new ≡ whole.with_phase at.old phase step) }
+    ensures { OnOk result (at.new ≡ whole.with_phase at.old phase step.now) }
 {
-    let PhaseStep {
-        state,
-        transitions,
-        outcome,
-    } = step;
-    let lost = lost_by(&state, at.operation.boot, at.left.as_slice());
-    let told = all_told(alloc, ended_by(at.left.as_slice()), transitions, lost)?;
-    let done = done_phase(alloc, at, phase, &outcome, told)?;
-    let next = after_end(&state, lost)?;
-    go_on(alloc, at, done, next, outcome)
+    let lost = lost_by(&step.state, at.operation.boot, at.left.as_slice());
+    let done = done_phase(alloc, at, phase, step, lost)?;
+    let (state, outcome) = both(after_end(&step.state, lost), step.outcome.copy())?;
+    go_on(alloc, at, done, state, outcome)
 }
 
 fn step_through(alloc: Global, at: &mut Progress, phase: Phase) -> Result<(), NoMemory>
@@ -165,7 +169,7 @@ fn step_through(alloc: Global, at: &mut Progress, phase: Phase) -> Result<(), No
 {
     if is_through(alloc, at)? {
         let step = due_step(alloc, at)?;
-        with_phase(alloc, at, phase, step)
+        with_phase(alloc, at, phase, &step)
     } else {
         Ok(())
     }
