@@ -6,7 +6,7 @@ use domain_spec::{Base, OpenOperation, Outcome, Registration};
 use std::alloc::Global;
 use virt_types::{
     Bytes, Call, Cause, Domain, EndReason, ListOf, Live, Name, NoMemory, Op, OpKind, Phase,
-    RunState, SUSPENDED_PAUSED, Snap, SnapList, State, both,
+    RESUMED_UNPAUSED, RunState, SUSPENDED_PAUSED, Snap, SnapList, State, both,
 };
 
 /// What a history begins with. But for `Vacant` there is the domain, with a stored definition.
@@ -22,7 +22,8 @@ pub(crate) enum Setting {
     /// `parent`.
     Snapshots,
     /// A chapter that begins in the middle of a save by `ANNA`, before its first poll. `DORA` has
-    /// registration 0: ten transitions were taken, and one pends. Registration 1 was cut.
+    /// registration 0: ten transitions were taken, and one pends. Of registration 1 three of five were
+    /// taken, and it was cut.
     Saving,
 }
 
@@ -78,7 +79,7 @@ fn domain(
 }
 
 fn bare(alloc: Global, run: Option<RunState>) -> Result<State, NoMemory> {
-    domain(alloc, run, ListOf::new(alloc), None, None).map(State::Held)
+    domain(alloc, run, SnapList::new(), None, None).map(State::Held)
 }
 
 fn snapshot(alloc: Global, which: &str, parent: Option<Name>) -> Result<Snap, NoMemory> {
@@ -102,9 +103,9 @@ fn snapshots(alloc: Global) -> Result<SnapList, NoMemory> {
         snapshot(alloc, "child", Some(parent)),
         snapshot(alloc, "parent", None),
     )?;
-    let mut list = ListOf::new(alloc);
-    list.push(child)?;
-    list.push(parent)?;
+    let mut list = SnapList::new();
+    list.insert(alloc, child)?;
+    list.insert(alloc, parent)?;
     Ok(list)
 }
 
@@ -125,6 +126,8 @@ fn save() -> Op {
         still: 0,
         remaining: None,
         refusal: None,
+        limit: 0,
+        rests: false,
     }
 }
 
@@ -149,26 +152,32 @@ fn open_save(alloc: Global) -> Result<OpenOperation, NoMemory> {
     })
 }
 
-/// A registration of `DORA`'s in the base of a chapter, before which ten transitions were taken; one
-/// pends.
-pub(crate) fn registration(
-    alloc: Global,
-    client: u32,
-    is_lost: bool,
-) -> Result<Registration, NoMemory> {
+/// The registration of `DORA`'s that goes on.
+pub(crate) fn kept(alloc: Global) -> Result<Registration, NoMemory> {
     Ok(Registration {
         number: DORA.pass,
-        client,
+        client: 0,
         taken: 10,
         pending: transitions(alloc, &[SUSPENDED_PAUSED])?,
-        is_lost,
+        is_lost: false,
+    })
+}
+
+/// The registration of `DORA`'s that was cut.
+pub(crate) fn cut(alloc: Global) -> Result<Registration, NoMemory> {
+    Ok(Registration {
+        number: DORA.pass,
+        client: 1,
+        taken: 3,
+        pending: transitions(alloc, &[RESUMED_UNPAUSED, SUSPENDED_PAUSED])?,
+        is_lost: true,
     })
 }
 
 fn registrations(alloc: Global) -> Result<ListOf<Registration>, NoMemory> {
     let mut list = ListOf::new(alloc);
-    list.push(registration(alloc, 0, false)?)?;
-    list.push(registration(alloc, 1, true)?)?;
+    list.push(kept(alloc)?)?;
+    list.push(cut(alloc)?)?;
     Ok(list)
 }
 

@@ -1,6 +1,6 @@
 // Calls that are done wrongly.
 use crate::bases::Setting;
-use crate::judged::{Deed, both_verdicts, found};
+use crate::judged::{Mutant, all_found};
 use crate::story::*;
 use std::test::Fail;
 use virt_types::{GuestEvent, RefusalCode, STOPPED_DESTROYED, UNDEFINED_REMOVED};
@@ -9,43 +9,43 @@ const SUSPENDS: &[Line] = &[Line::Admit(ANNA, Want::Suspend, LIVE)];
 
 const SUSPENDED: Line = Line::Done(ANNA, Want::Suspend, LIVE, STOPPED, FINE, PAUSED);
 
-const DONE: [Deed; 6] = [
-    Deed {
+const DONE: [Mutant; 6] = [
+    Mutant {
         name: "a call is done that was not let in",
         setting: Setting::Running,
         before: &[],
         wrong: SUSPENDED,
         right: &[Line::Admit(ANNA, Want::Suspend, LIVE), SUSPENDED],
     },
-    Deed {
+    Mutant {
         name: "a call is done for another caller",
         setting: Setting::Running,
         before: SUSPENDS,
         wrong: Line::Done(BERT, Want::Suspend, LIVE, STOPPED, FINE, PAUSED),
         right: &[SUSPENDED],
     },
-    Deed {
+    Mutant {
         name: "a call is done twice",
         setting: Setting::Running,
         before: &[Line::Admit(ANNA, Want::Suspend, LIVE), SUSPENDED],
         wrong: Line::Done(ANNA, Want::Suspend, LIVE, &[], FINE, &[]),
         right: SUSPENDS,
     },
-    Deed {
+    Mutant {
         name: "a guest's own stop is applied while a suspend is away",
         setting: Setting::Running,
         before: SUSPENDS,
         wrong: Line::Event(BOOT, GuestEvent::Stop, PAUSED),
         right: &[SUSPENDED, Line::Event(BOOT, GuestEvent::Stop, &[])],
     },
-    Deed {
+    Mutant {
         name: "a suspend is done and nobody is told",
         setting: Setting::Running,
         before: SUSPENDS,
         wrong: Line::Done(ANNA, Want::Suspend, LIVE, STOPPED, FINE, &[]),
         right: &[SUSPENDED],
     },
-    Deed {
+    Mutant {
         name: "a save is done without an operation",
         setting: Setting::Running,
         before: &[Line::Admit(ANNA, Want::Save, LIVE)],
@@ -56,15 +56,7 @@ const DONE: [Deed; 6] = [
 
 #[test]
 fn a_call_that_is_done_wrongly_is_found(rt: HostRuntime) -> Result<(), Fail> {
-    for deed in &DONE {
-        assert_eq!(rt;
-            both_verdicts(rt.alloc(), deed)?,
-            found(deed),
-            "{}",
-            deed.name
-        );
-    }
-    Ok(())
+    Ok(all_found(&rt, rt.alloc(), &DONE)?)
 }
 
 const ATTACHES: &[Line] = &[Line::Admit(ANNA, Want::AttachDisk, LIVE)];
@@ -96,29 +88,29 @@ const STARTS: &[Line] = &[
 
 const CLASS_0: Said = Said::No(RefusalCode::OperationFailed, "class 0");
 
-const ASKED: [Deed; 5] = [
-    Deed {
+const ASKED: [Mutant; 5] = [
+    Mutant {
         name: "a suspend is done and the guest was not asked",
         setting: Setting::Running,
         before: SUSPENDS,
         wrong: Line::Done(ANNA, Want::Suspend, LIVE, &[], FINE, PAUSED),
         right: &[SUSPENDED],
     },
-    Deed {
+    Mutant {
         name: "a refused device is not undone",
         setting: Setting::Running,
         before: ATTACHES,
         wrong: Line::Done(ANNA, Want::AttachDisk, LIVE, DEVICE_REFUSED, CLASS_3, &[]),
         right: &[Line::Done(ANNA, Want::AttachDisk, LIVE, DEVICE_UNDONE, CLASS_3, &[])],
     },
-    Deed {
-        name: "a call goes on behind an ask that was refused",
+    Mutant {
+        name: "a call goes on after an ask that was refused",
         setting: Setting::Running,
         before: ATTACHES,
         wrong: Line::Done(ANNA, Want::AttachDisk, LIVE, BOTH_ASKED, FINE, &[]),
         right: &[Line::Done(ANNA, Want::AttachDisk, LIVE, BACKEND_REFUSED, CLASS_3, &[])],
     },
-    Deed {
+    Mutant {
         name: "a command is sent before its boot is made",
         setting: Setting::ShutOff,
         before: STARTS,
@@ -139,7 +131,7 @@ const ASKED: [Deed; 5] = [
             &[],
         )],
     },
-    Deed {
+    Mutant {
         name: "an undefine ends the guest",
         setting: Setting::Running,
         before: &[Line::Admit(ANNA, Want::Undefine, LIVE)],
@@ -157,15 +149,7 @@ const ASKED: [Deed; 5] = [
 
 #[test]
 fn a_call_that_asks_wrongly_is_found(rt: HostRuntime) -> Result<(), Fail> {
-    for deed in &ASKED {
-        assert_eq!(rt;
-            both_verdicts(rt.alloc(), deed)?,
-            found(deed),
-            "{}",
-            deed.name
-        );
-    }
-    Ok(())
+    Ok(all_found(&rt, rt.alloc(), &ASKED)?)
 }
 
 const GONE: Said = Said::No(RefusalCode::NoSnapshot, "child");
@@ -216,15 +200,15 @@ const CHILD_GONE: Line = Line::Done(
 );
 
 // The mark of a deletion does not tell which snapshots went. A later call does.
-const SNAPSHOTS: [Deed; 2] = [
-    Deed {
+const SNAPSHOTS: [Mutant; 2] = [
+    Mutant {
         name: "a snapshot's children are dropped where it goes alone",
         setting: Setting::Snapshots,
         before: PARENT_DELETED,
         wrong: CHILD_GONE,
         right: &[CHILD_DELETED],
     },
-    Deed {
+    Mutant {
         name: "a snapshot's children stay where they are to go with it",
         setting: Setting::Snapshots,
         before: FAMILY_DELETED,
@@ -235,13 +219,5 @@ const SNAPSHOTS: [Deed; 2] = [
 
 #[test]
 fn snapshots_that_are_dropped_wrongly_are_found_later(rt: HostRuntime) -> Result<(), Fail> {
-    for deed in &SNAPSHOTS {
-        assert_eq!(rt;
-            both_verdicts(rt.alloc(), deed)?,
-            found(deed),
-            "{}",
-            deed.name
-        );
-    }
-    Ok(())
+    Ok(all_found(&rt, rt.alloc(), &SNAPSHOTS)?)
 }

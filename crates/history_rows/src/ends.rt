@@ -1,6 +1,6 @@
 // Ends of boots that are marked wrongly, and calls that take no notice of them.
 use crate::bases::Setting;
-use crate::judged::{Deed, both_verdicts, found};
+use crate::judged::{Mutant, all_found};
 use crate::story::*;
 use std::test::Fail;
 use virt_types::{EndReason, GuestEvent, Phase};
@@ -38,22 +38,22 @@ const STARTED_AGAIN: &[Line] = &[
     Line::Admit(CARL, Want::Destroy, LIVE),
 ];
 
-const TAKEN_NO_NOTICE_OF: [Deed; 5] = [
-    Deed {
+const TAKEN_NO_NOTICE_OF: [Mutant; 5] = [
+    Mutant {
         name: "a suspend is done by an answer of a boot that has ended",
         setting: Setting::Running,
         before: CRASHED_BESIDE_SUSPEND,
         wrong: Line::Done(ANNA, Want::Suspend, LIVE, STOPPED, FINE, PAUSED),
         right: &[Line::Done(ANNA, Want::Suspend, LIVE, STOPPED, GUEST_ENDED, &[])],
     },
-    Deed {
+    Mutant {
         name: "a destroy that waited for an earlier boot ends a later one",
         setting: Setting::Running,
         before: STARTED_AGAIN,
         wrong: Line::Done(CARL, Want::Destroy, LIVE, QUIT, FINE, DESTROYED),
         right: &[Line::Done(CARL, Want::Destroy, LIVE, &[], FINE, &[])],
     },
-    Deed {
+    Mutant {
         name: "a call is done before the end is marked that it was answered",
         setting: Setting::Running,
         before: &[Line::Admit(ANNA, Want::Suspend, LIVE)],
@@ -63,14 +63,14 @@ const TAKEN_NO_NOTICE_OF: [Deed; 5] = [
             Line::Done(ANNA, Want::Suspend, LIVE, KILLED, GUEST_ENDED, &[]),
         ],
     },
-    Deed {
+    Mutant {
         name: "a call is done again after a lost answer",
         setting: Setting::Running,
         before: LOST_AND_ENDED,
         wrong: Line::Done(ANNA, Want::Suspend, LIVE, LOST, MONITOR_LOST, &[]),
         right: &[Line::Admit(ANNA, Want::Start, None)],
     },
-    Deed {
+    Mutant {
         name: "a guest that has ended does something",
         setting: Setting::Running,
         before: &[Line::Exit(BOOT, EndReason::Crashed, CRASHED)],
@@ -81,19 +81,11 @@ const TAKEN_NO_NOTICE_OF: [Deed; 5] = [
 
 #[test]
 fn an_end_that_is_taken_no_notice_of_is_found(rt: HostRuntime) -> Result<(), Fail> {
-    for deed in &TAKEN_NO_NOTICE_OF {
-        assert_eq!(rt;
-            both_verdicts(rt.alloc(), deed)?,
-            found(deed),
-            "{}",
-            deed.name
-        );
-    }
-    Ok(())
+    Ok(all_found(&rt, rt.alloc(), &TAKEN_NO_NOTICE_OF)?)
 }
 
-const MARKED: [Deed; 4] = [
-    Deed {
+const MARKED: [Mutant; 4] = [
+    Mutant {
         name: "a boot goes on whose monitor is lost",
         setting: Setting::Running,
         before: LOST_AT_SUSPEND,
@@ -103,21 +95,21 @@ const MARKED: [Deed; 4] = [
             Line::Admit(BERT, Want::MemoryStats, None),
         ],
     },
-    Deed {
+    Mutant {
         name: "a boot whose monitor is lost is said to have crashed",
         setting: Setting::Running,
         before: LOST_AT_SUSPEND,
         wrong: Line::Exit(BOOT, EndReason::Crashed, CRASHED),
         right: &[Line::Exit(BOOT, EndReason::Lost, FAILED)],
     },
-    Deed {
+    Mutant {
         name: "a boot ends twice",
         setting: Setting::Running,
         before: &[Line::Exit(BOOT, EndReason::Crashed, CRASHED)],
         wrong: Line::Exit(BOOT, EndReason::Crashed, CRASHED),
         right: &[Line::Admit(ANNA, Want::Start, None)],
     },
-    Deed {
+    Mutant {
         name: "listeners are told another end",
         setting: Setting::Running,
         before: &[],
@@ -128,13 +120,5 @@ const MARKED: [Deed; 4] = [
 
 #[test]
 fn an_end_that_is_marked_wrongly_is_found(rt: HostRuntime) -> Result<(), Fail> {
-    for deed in &MARKED {
-        assert_eq!(rt;
-            both_verdicts(rt.alloc(), deed)?,
-            found(deed),
-            "{}",
-            deed.name
-        );
-    }
-    Ok(())
+    Ok(all_found(&rt, rt.alloc(), &MARKED)?)
 }

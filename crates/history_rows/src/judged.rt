@@ -1,9 +1,10 @@
 // What the judge says of a history in short.
 use crate::bases::{Setting, base};
 use crate::marks::{Marks, tell, told};
-use crate::story::Line;
-use history_reference::{Verdict, judge, state_after};
+use crate::story::{BOOT, Line};
+use model_histories::{Verdict, judge, state_after};
 use std::alloc::Global;
+use std::process::Abort;
 use virt_types::{NoMemory, RunState, State};
 
 /// What a domain is after a history.
@@ -16,6 +17,9 @@ pub(crate) enum After {
     /// Its guest has this boot, and does this.
     Guest(u64, RunState),
 }
+
+/// A guest runs, in the boot with which histories begin.
+pub(crate) const RUNS: After = After::Guest(BOOT, RunState::Running);
 
 fn seen(state: &State) -> After {
     match state {
@@ -32,21 +36,17 @@ pub(crate) fn verdict(alloc: Global, setting: Setting, marks: &Marks) -> Result<
     judge(alloc, base(alloc, setting)?, marks.as_slice())
 }
 
-/// What the judge says of these lines, and what the domain is after them.
-pub(crate) fn judged(
-    alloc: Global,
-    setting: Setting,
-    lines: &[Line],
-) -> Result<(Verdict, After), NoMemory> {
+// What the judge says of these lines, and what the domain is after them.
+fn judged(alloc: Global, setting: Setting, lines: &[Line]) -> Result<(Verdict, After), NoMemory> {
     let marks = told(alloc, lines)?;
     let verdict = verdict(alloc, setting, &marks)?;
     let state = state_after(alloc, base(alloc, setting)?, marks.as_slice())?;
     Ok((verdict, seen(&state)))
 }
 
-/// A wrong deed of a driver: what it is, and the mark that it leaves behind a legal history, where other
-/// marks are legal.
-pub(crate) struct Deed {
+/// A driver that does something wrong: what it does, and the mark that it leaves after a legal history,
+/// where other marks are legal.
+pub(crate) struct Mutant {
     pub(crate) name: &'static str,
     pub(crate) setting: Setting,
     pub(crate) before: &'static [Line],
@@ -54,19 +54,49 @@ pub(crate) struct Deed {
     pub(crate) right: &'static [Line],
 }
 
-/// What the judge says of the history with the wrong mark, and of that with the right ones.
-pub(crate) fn both_verdicts(alloc: Global, deed: &Deed) -> Result<(Verdict, Verdict), NoMemory> {
-    let mut wrong = told(alloc, deed.before)?;
-    tell(alloc, &mut wrong, &[deed.wrong])?;
-    let mut right = told(alloc, deed.before)?;
-    tell(alloc, &mut right, deed.right)?;
+// What the judge says of the history with the wrong mark, and of that with the right ones.
+fn both_verdicts(alloc: Global, mutant: &Mutant) -> Result<(Verdict, Verdict), NoMemory> {
+    let mut wrong = told(alloc, mutant.before)?;
+    tell(alloc, &mut wrong, &[mutant.wrong])?;
+    let mut right = told(alloc, mutant.before)?;
+    tell(alloc, &mut right, mutant.right)?;
     Ok((
-        verdict(alloc, deed.setting, &wrong)?,
-        verdict(alloc, deed.setting, &right)?,
+        verdict(alloc, mutant.setting, &wrong)?,
+        verdict(alloc, mutant.setting, &right)?,
     ))
 }
 
-/// What the judge has to say: the wrong mark is the first at fault, and the right ones are not.
-pub(crate) fn found(deed: &Deed) -> (Verdict, Verdict) {
-    (Verdict::Fault(deed.before.len()), Verdict::Legal)
+/// Of each mutant the wrong mark is the first at fault, and the right ones are not.
+pub(crate) fn all_found(
+    rt: &impl Abort,
+    alloc: Global,
+    mutants: &[Mutant],
+) -> Result<(), NoMemory> {
+    for mutant in mutants {
+        let found = (Verdict::Fault(mutant.before.len()), Verdict::Legal);
+        assert_eq!(rt; both_verdicts(alloc, mutant)?, found, "{}", mutant.name);
+    }
+    Ok(())
+}
+
+/// A legal history, and what the domain is after it.
+pub(crate) struct Story {
+    pub(crate) name: &'static str,
+    pub(crate) setting: Setting,
+    pub(crate) lines: &'static [Line],
+    pub(crate) after: After,
+}
+
+/// Each history is legal, and leaves the domain so.
+pub(crate) fn all_legal(rt: &impl Abort, alloc: Global, stories: &[Story]) -> Result<(), NoMemory> {
+    for story in stories {
+        let legal = (Verdict::Legal, story.after);
+        assert_eq!(rt;
+            judged(alloc, story.setting, story.lines)?,
+            legal,
+            "{}",
+            story.name
+        );
+    }
+    Ok(())
 }

@@ -1,11 +1,15 @@
 //! Histories of a domain written out by hand, and what the judge says of them: legal ones, and for each
-//! wrong deed of a driver the history that it would leave, with the mark at which it is found.
+//! mutant of a driver the history that it would leave, with the mark at which it is found.
 #![tactic(auto)]
 
 #[cfg(test)]
 mod bases;
 #[cfg(test)]
 mod calls;
+#[cfg(test)]
+mod chapters;
+#[cfg(test)]
+mod destroys;
 #[cfg(test)]
 mod ends;
 #[cfg(test)]
@@ -20,6 +24,8 @@ mod legal;
 mod listeners;
 #[cfg(test)]
 mod marks;
+#[cfg(test)]
+mod migrations;
 #[cfg(test)]
 mod operations;
 #[cfg(test)]

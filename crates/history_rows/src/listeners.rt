@@ -1,9 +1,9 @@
 // Registrations, what is owed to them, and when they are cut.
-use crate::bases::{Setting, registration};
-use crate::judged::{Deed, both_verdicts, found, verdict};
+use crate::bases::{Setting, cut, kept};
+use crate::judged::{Mutant, all_found, verdict};
 use crate::marks::{Marks, many, told};
 use crate::story::*;
-use history_reference::{Verdict, owed, owed_at_base, owed_since};
+use model_histories::{Verdict, owed, owed_at_base, owed_since};
 use std::alloc::Global;
 use std::test::Fail;
 use virt_types::{
@@ -11,36 +11,36 @@ use virt_types::{
     STOPPED_SHUTDOWN, SUSPENDED_PAUSED,
 };
 
-const REGISTERED: [Deed; 5] = [
-    Deed {
+const REGISTERED: [Mutant; 5] = [
+    Mutant {
         name: "a client registers twice",
         setting: Setting::Running,
         before: &[Line::Watch(DORA, 0)],
         wrong: Line::Watch(DORA, 0),
         right: &[Line::Watch(DORA, 1)],
     },
-    Deed {
+    Mutant {
         name: "a registration is ended by a pass that has not made it",
         setting: Setting::Running,
         before: &[Line::Watch(DORA, 0)],
         wrong: Line::Unwatch(BERT, 0),
         right: &[Line::Unwatch(DORA, 0)],
     },
-    Deed {
+    Mutant {
         name: "a registration is ended that is not there",
         setting: Setting::Running,
         before: &[Line::Watch(DORA, 0)],
         wrong: Line::Unwatch(DORA, 1),
         right: &[Line::Unwatch(DORA, 0)],
     },
-    Deed {
+    Mutant {
         name: "a registration is ended that was cut in an earlier chapter",
         setting: Setting::Saving,
         before: &[],
         wrong: Line::Unwatch(DORA, 1),
         right: &[Line::Watch(DORA, 1)],
     },
-    Deed {
+    Mutant {
         name: "a registration is cut for which nothing pends",
         setting: Setting::Running,
         before: &[Line::Watch(DORA, 0)],
@@ -51,15 +51,7 @@ const REGISTERED: [Deed; 5] = [
 
 #[test]
 fn a_registration_that_is_kept_wrongly_is_found(rt: HostRuntime) -> Result<(), Fail> {
-    for deed in &REGISTERED {
-        assert_eq!(rt;
-            both_verdicts(rt.alloc(), deed)?,
-            found(deed),
-            "{}",
-            deed.name
-        );
-    }
-    Ok(())
+    Ok(all_found(&rt, rt.alloc(), &REGISTERED)?)
 }
 
 const WATCHED: [Line; 9] = [
@@ -75,7 +67,7 @@ const WATCHED: [Line; 9] = [
 ];
 
 #[test]
-fn what_came_before_a_registration_or_behind_it_is_not_owed(rt: HostRuntime) -> Result<(), Fail> {
+fn what_came_before_a_registration_or_after_it_is_not_owed(rt: HostRuntime) -> Result<(), Fail> {
     let alloc = rt.alloc();
     let marks = told(alloc, &WATCHED)?;
     assert_eq!(rt; verdict(alloc, Setting::Running, &marks)?, Verdict::Legal);
@@ -84,8 +76,8 @@ fn what_came_before_a_registration_or_behind_it_is_not_owed(rt: HostRuntime) -> 
     assert_eq!(rt; ended.events.as_slice(), between.as_slice());
     assert!(rt; !ended.is_lost);
     let later = owed_since(alloc, marks.as_slice(), 5)?.ok_or("a registration")?;
-    let behind = [SHUTDOWN_FINISHED, STOPPED_SHUTDOWN];
-    assert_eq!(rt; later.events.as_slice(), behind.as_slice());
+    let after = [SHUTDOWN_FINISHED, STOPPED_SHUTDOWN];
+    assert_eq!(rt; later.events.as_slice(), after.as_slice());
     assert!(rt; owed_since(alloc, marks.as_slice(), 0)?.is_none());
     Ok(())
 }
@@ -107,35 +99,35 @@ const RESUME: Line = Line::Event(BOOT, GuestEvent::Resume, RESUMED);
 const WATCH: Line = Line::Watch(DORA, 0);
 
 // A registration is made, then 256 transitions come, and then these marks.
-fn behind_256(alloc: Global, last: &[Line]) -> Result<Marks, NoMemory> {
+fn after_256(alloc: Global, last: &[Line]) -> Result<Marks, NoMemory> {
     many(alloc, &[WATCH], 128, &[STOP, RESUME], last)
 }
 
-fn cut_behind_256(alloc: Global, last: &[Line]) -> Result<Verdict, NoMemory> {
-    verdict(alloc, Setting::Running, &behind_256(alloc, last)?)
+fn cut_after_256(alloc: Global, last: &[Line]) -> Result<Verdict, NoMemory> {
+    verdict(alloc, Setting::Running, &after_256(alloc, last)?)
 }
 
 #[test]
 fn a_registration_is_cut_where_one_more_came_than_may_pend(rt: HostRuntime) -> Result<(), Fail> {
     let alloc = rt.alloc();
     let cut = Line::Cut(0, 256, 0);
-    assert_eq!(rt; cut_behind_256(alloc, &[STOP, cut])?, Verdict::Legal);
-    assert_eq!(rt; cut_behind_256(alloc, &[STOP, cut, WATCH])?, Verdict::Legal);
-    let too_early = cut_behind_256(alloc, &[cut])?;
+    assert_eq!(rt; cut_after_256(alloc, &[STOP, cut])?, Verdict::Legal);
+    assert_eq!(rt; cut_after_256(alloc, &[STOP, cut, WATCH])?, Verdict::Legal);
+    let too_early = cut_after_256(alloc, &[cut])?;
     assert_eq!(rt; too_early, Verdict::Fault(257));
-    let too_late = cut_behind_256(alloc, &[STOP, RESUME, cut])?;
+    let too_late = cut_after_256(alloc, &[STOP, RESUME, cut])?;
     assert_eq!(rt; too_late, Verdict::Fault(259));
-    let fewer_pended = cut_behind_256(alloc, &[STOP, Line::Cut(0, 256, 1)])?;
+    let fewer_pended = cut_after_256(alloc, &[STOP, Line::Cut(0, 256, 1)])?;
     assert_eq!(rt; fewer_pended, Verdict::Fault(258));
-    let cut_twice = cut_behind_256(alloc, &[STOP, cut, cut])?;
+    let cut_twice = cut_after_256(alloc, &[STOP, cut, cut])?;
     assert_eq!(rt; cut_twice, Verdict::Fault(259));
     Ok(())
 }
 
 #[test]
-fn behind_a_cut_a_loss_is_owed(rt: HostRuntime) -> Result<(), Fail> {
+fn after_a_cut_a_loss_is_owed(rt: HostRuntime) -> Result<(), Fail> {
     let alloc = rt.alloc();
-    let marks = behind_256(alloc, &[STOP, Line::Cut(0, 256, 0), RESUME])?;
+    let marks = after_256(alloc, &[STOP, Line::Cut(0, 256, 0), RESUME])?;
     assert_eq!(rt; verdict(alloc, Setting::Running, &marks)?, Verdict::Legal);
     let owed = owed_since(alloc, marks.as_slice(), 0)?.ok_or("a registration")?;
     assert_eq!(rt; owed.events.len(), 256);
@@ -143,26 +135,17 @@ fn behind_a_cut_a_loss_is_owed(rt: HostRuntime) -> Result<(), Fail> {
     Ok(())
 }
 
-const REST_OF_A_SAVE: [Line; 7] = [
-    Line::Nested(ANNA, Want::Save, LIVE),
-    Line::Phase(ANNA, Phase::Poll, NONE_LEFT, Next::On(Phase::Take), &[]),
-    Line::Nested(ANNA, Want::Save, LIVE),
-    Line::Phase(ANNA, Phase::Take, WRITTEN, Next::On(Phase::Quit), &[]),
-    Line::Nested(ANNA, Want::Save, LIVE),
-    Line::Phase(ANNA, Phase::Quit, QUIT, OVER, SAVED),
-    Line::End(ANNA, FINE),
-];
-
 #[test]
 fn what_pends_at_a_base_is_owed_first(rt: HostRuntime) -> Result<(), Fail> {
     let alloc = rt.alloc();
-    let marks = told(alloc, &REST_OF_A_SAVE)?;
-    let kept = owed_at_base(alloc, registration(alloc, 0, false)?, marks.as_slice())?;
+    let marks = told(alloc, SAVE_OVER)?;
+    let kept = owed_at_base(alloc, kept(alloc)?, marks.as_slice())?;
     let both = [SUSPENDED_PAUSED, STOPPED_SAVED];
     assert_eq!(rt; kept.events.as_slice(), both.as_slice());
     assert!(rt; !kept.is_lost);
-    let lost = owed_at_base(alloc, registration(alloc, 1, true)?, marks.as_slice())?;
-    assert_eq!(rt; lost.events.as_slice(), [SUSPENDED_PAUSED].as_slice());
+    let lost = owed_at_base(alloc, cut(alloc)?, marks.as_slice())?;
+    let pended = [RESUMED_UNPAUSED, SUSPENDED_PAUSED];
+    assert_eq!(rt; lost.events.as_slice(), pended.as_slice());
     assert!(rt; lost.is_lost);
     Ok(())
 }
@@ -173,7 +156,7 @@ fn a_cut_counts_what_came_before_the_base(rt: HostRuntime) -> Result<(), Fail> {
     let alloc = rt.alloc();
     let marks = many(alloc, &[], 128, &[RESUME, STOP], &[Line::Cut(0, 266, 10)])?;
     assert_eq!(rt; verdict(alloc, Setting::Saving, &marks)?, Verdict::Legal);
-    let owed = owed_at_base(alloc, registration(alloc, 0, false)?, marks.as_slice())?;
+    let owed = owed_at_base(alloc, kept(alloc)?, marks.as_slice())?;
     assert_eq!(rt; owed.events.len(), 256);
     assert!(rt; owed.is_lost);
     Ok(())

@@ -1,12 +1,12 @@
 // The marks that the lines of a history stand for.
 use crate::fixtures::{IMAGE, MAC, NETWORK, copied, definition, disk, name, reference, text, uuid};
 use crate::story::{Caller, Events, Exchanges, Got, Line, Next, Record, Said, Sent, Want};
-use domain_spec::{Looked, Mark, Outcome};
+use domain_spec::{HeldJobs, HeldOperation, Mark, Outcome};
 use std::alloc::Global;
 use virt_types::{
-    Answer, AnswerList, AnswerValue, Ask, AskList, Call, Command, EndReason, GuestEvent, ImageKind,
-    Job, ListOf, NoMemory, Phase, Refusal, RefusalCode, Reply, Transition, Value, Who, WhoList,
-    both,
+    Answer, AnswerList, AnswerValue, Ask, AskList, Boxed, Call, Command, EndReason, GuestEvent,
+    ImageKind, Job, ListOf, MigratedGuest, NoMemory, Phase, Refusal, RefusalCode, Reply,
+    Transition, Value, Who, WhoList, both,
 };
 
 fn call(alloc: Global, want: Want) -> Result<Call, NoMemory> {
@@ -26,6 +26,9 @@ fn call(alloc: Global, want: Want) -> Result<Call, NoMemory> {
         Want::Start => Ok(Call::Start),
         Want::Save => name(alloc, IMAGE).map(Call::Save),
         Want::Dump => name(alloc, IMAGE).map(Call::Dump),
+        Want::Perform => Ok(Call::Perform),
+        Want::Confirm(verdict) => Ok(Call::Confirm(verdict)),
+        Want::Finish(go) => Ok(Call::Finish(go)),
     }
 }
 
@@ -43,7 +46,9 @@ fn own_job(want: Want) -> Job {
         | Want::DeleteSnapshot(..)
         | Want::Start
         | Want::Save
-        | Want::Dump => Job::Modify,
+        | Want::Dump
+        | Want::Perform => Job::Modify,
+        Want::Confirm(_) | Want::Finish(_) => Job::MigrationOp,
     }
 }
 
@@ -111,11 +116,22 @@ fn answer(alloc: Global, got: Got) -> Result<Answer, NoMemory> {
     }
 }
 
+// The guest as it leaves.
+fn left(alloc: Global) -> Result<MigratedGuest, NoMemory> {
+    let (definition, state) = both(definition(alloc), copied(alloc))?;
+    Ok(MigratedGuest {
+        definition,
+        running: true,
+        state,
+    })
+}
+
 fn reply(alloc: Global, said: Said) -> Result<Reply, NoMemory> {
     match said {
         Said::Fine => Ok(Reply::Ok(Value::Nothing)),
         Said::Defined => Ok(Reply::Ok(Value::Domain(reference(alloc)?))),
         Said::Memory(kib) => Ok(Reply::Ok(Value::Memory(kib))),
+        Said::Left => Ok(Reply::Ok(Value::MigratedGuest(Boxed::new(alloc, left(alloc)?)?))),
         Said::No(code, kept) => Ok(Reply::No(Refusal::new(alloc, code, kept)?)),
     }
 }
@@ -124,6 +140,7 @@ fn outcome(alloc: Global, next: Next) -> Result<Outcome, NoMemory> {
     match next {
         Next::On(phase) => Ok(Outcome::On(phase)),
         Next::Over(said) => Ok(Outcome::Over(reply(alloc, said)?)),
+        Next::Rest(said) => Ok(Outcome::Rest(reply(alloc, said)?)),
     }
 }
 
@@ -155,24 +172,35 @@ pub(crate) fn transitions(
     Ok(list)
 }
 
-// So many who wait.
-fn waiting(alloc: Global, others: u64) -> Result<WhoList, NoMemory> {
-    let mut list = ListOf::new(alloc);
-    for count in 0..others {
+// Puts so many who wait after the others.
+fn wait(list: &mut WhoList, callers: u64) -> Result<(), NoMemory> {
+    for count in 0..callers {
         list.push(Who {
             session: 9,
             lane: 0,
             count,
         })?;
     }
+    Ok(())
+}
+
+// So many who wait, and again the first of them.
+fn waiting(alloc: Global, others: u64, again: u64) -> Result<WhoList, NoMemory> {
+    let mut list = ListOf::new(alloc);
+    wait(&mut list, others)?;
+    wait(&mut list, again)?;
     Ok(list)
 }
 
-fn looked(alloc: Global, record: Record) -> Result<Looked, NoMemory> {
-    Ok(Looked {
+fn held(alloc: Global, record: Record) -> Result<HeldJobs, NoMemory> {
+    Ok(HeldJobs {
         active: record.active.map(|(job, caller)| (job, caller.who())),
-        op: record.op.map(|(kind, caller)| (kind, caller.who())),
-        waiting: waiting(alloc, record.others)?,
+        op: record.op.map(|(kind, caller)| HeldOperation {
+            kind,
+            who: caller.who(),
+            rests: record.rests,
+        }),
+        waiting: waiting(alloc, record.others, record.again)?,
     })
 }
 
@@ -234,13 +262,13 @@ fn refused(
     code: RefusalCode,
     record: Record,
 ) -> Result<Mark<u64>, NoMemory> {
-    let (call, looked) = both(call(alloc, want), looked(alloc, record))?;
+    let (call, held) = both(call(alloc, want), held(alloc, record))?;
     Ok(Mark::Refused {
         number: caller.pass,
         who: caller.who(),
         call,
         code,
-        looked,
+        held,
     })
 }
 
@@ -295,6 +323,14 @@ fn started(
     })
 }
 
+fn taken_up(alloc: Global, caller: Caller, want: Want) -> Result<Mark<u64>, NoMemory> {
+    Ok(Mark::TakeUp {
+        number: caller.pass,
+        who: caller.who(),
+        call: call(alloc, want)?,
+    })
+}
+
 fn ended(alloc: Global, caller: Caller, said: Said) -> Result<Mark<u64>, NoMemory> {
     Ok(Mark::End {
         number: caller.pass,
@@ -339,6 +375,7 @@ fn mark(alloc: Global, line: Line) -> Result<Mark<u64>, NoMemory> {
         }
         Line::Refused(caller, want, code, record) => refused(alloc, caller, want, code, record),
         Line::Start(caller, want, boot) => started(alloc, caller, want, boot),
+        Line::TakeUp(caller, want) => taken_up(alloc, caller, want),
         Line::Phase(caller, phase, exchanges, next, events) => {
             phase_done(alloc, caller, phase, exchanges, next, events)
         }
@@ -365,7 +402,7 @@ fn mark(alloc: Global, line: Line) -> Result<Mark<u64>, NoMemory> {
 /// The marks of a history.
 pub(crate) type Marks = ListOf<Mark<u64>>;
 
-/// Puts the marks of these lines behind a history.
+/// Puts the marks of these lines after a history.
 pub(crate) fn tell(alloc: Global, marks: &mut Marks, lines: &[Line]) -> Result<(), NoMemory> {
     for line in lines {
         marks.push(mark(alloc, *line)?)?;

@@ -1,9 +1,9 @@
 // Operations that begin, go on or end wrongly.
 use crate::bases::Setting;
-use crate::judged::{Deed, both_verdicts, found, verdict};
+use crate::judged::{Mutant, all_found, verdict};
 use crate::marks::many;
 use crate::story::*;
-use history_reference::Verdict;
+use model_histories::Verdict;
 use std::alloc::Global;
 use std::test::Fail;
 use virt_types::{EndReason, NoMemory, Phase, RefusalCode};
@@ -12,8 +12,8 @@ const SHUT_OFF: Said = Said::No(RefusalCode::OperationInvalid, "shut off");
 
 const COPIED: Line = Line::Phase(ANNA, Phase::Copy, COPY_BEGUN, Next::On(Phase::Poll), PAUSED);
 
-const BEGUN: [Deed; 3] = [
-    Deed {
+const BEGUN: [Mutant; 3] = [
+    Mutant {
         name: "a save begins that was not let in",
         setting: Setting::Running,
         before: &[],
@@ -23,14 +23,14 @@ const BEGUN: [Deed; 3] = [
             Line::Start(ANNA, Want::Save, LIVE),
         ],
     },
-    Deed {
+    Mutant {
         name: "a save begins without a guest",
         setting: Setting::ShutOff,
         before: &[Line::Admit(ANNA, Want::Save, None)],
         wrong: Line::Start(ANNA, Want::Save, None),
         right: &[Line::Done(ANNA, Want::Save, None, &[], SHUT_OFF, &[])],
     },
-    Deed {
+    Mutant {
         name: "a save begins later than it was let in",
         setting: Setting::Running,
         before: &[Line::Admit(ANNA, Want::Save, LIVE), Line::Watch(DORA, 0)],
@@ -44,15 +44,7 @@ const BEGUN: [Deed; 3] = [
 
 #[test]
 fn an_operation_that_begins_wrongly_is_found(rt: HostRuntime) -> Result<(), Fail> {
-    for deed in &BEGUN {
-        assert_eq!(rt;
-            both_verdicts(rt.alloc(), deed)?,
-            found(deed),
-            "{}",
-            deed.name
-        );
-    }
-    Ok(())
+    Ok(all_found(&rt, rt.alloc(), &BEGUN)?)
 }
 
 const MADE_BEFORE: Exchanges = &[(Sent::Lease, Got::Fine), (Sent::Make(BOOT - 1), Got::Fine)];
@@ -71,8 +63,8 @@ const UNWRITTEN: Exchanges = &[
     (Sent::WriteImage, Got::Device),
 ];
 
-const GOES_ON: [Deed; 7] = [
-    Deed {
+const GOES_ON: [Mutant; 7] = [
+    Mutant {
         name: "a phase is done that was not let in",
         setting: Setting::Running,
         before: &[
@@ -82,7 +74,7 @@ const GOES_ON: [Deed; 7] = [
         wrong: COPIED,
         right: &[Line::Nested(ANNA, Want::Save, LIVE), COPIED],
     },
-    Deed {
+    Mutant {
         name: "a phase is passed over",
         setting: Setting::Running,
         before: &[
@@ -93,7 +85,7 @@ const GOES_ON: [Deed; 7] = [
         wrong: Line::Phase(ANNA, Phase::Poll, NONE_LEFT, Next::On(Phase::Take), &[]),
         right: &[COPIED],
     },
-    Deed {
+    Mutant {
         name: "a new boot gets the number of an earlier one",
         setting: Setting::ShutOff,
         before: &[
@@ -104,7 +96,7 @@ const GOES_ON: [Deed; 7] = [
         wrong: Line::Phase(ANNA, Phase::Make, MADE_BEFORE, Next::On(Phase::Run), &[]),
         right: &[Line::Phase(ANNA, Phase::Make, MADE, Next::On(Phase::Run), &[])],
     },
-    Deed {
+    Mutant {
         name: "a guest that is not set going is left as it is",
         setting: Setting::ShutOff,
         before: &[
@@ -123,8 +115,8 @@ const GOES_ON: [Deed; 7] = [
             FAILED,
         )],
     },
-    Deed {
-        name: "a save goes on behind an abort",
+    Mutant {
+        name: "a save goes on after an abort",
         setting: Setting::Saving,
         before: &[
             Line::Admit(BERT, Want::Abort, LIVE),
@@ -134,7 +126,7 @@ const GOES_ON: [Deed; 7] = [
         wrong: Line::Phase(ANNA, Phase::Poll, NONE_LEFT, Next::On(Phase::Take), &[]),
         right: &[Line::Phase(ANNA, Phase::Poll, &[], Next::On(Phase::Cancel), &[])],
     },
-    Deed {
+    Mutant {
         name: "a guest is to end whose state was not written",
         setting: Setting::Saving,
         before: &[
@@ -145,7 +137,7 @@ const GOES_ON: [Deed; 7] = [
         wrong: Line::Phase(ANNA, Phase::Take, UNWRITTEN, Next::On(Phase::Quit), &[]),
         right: &[Line::Phase(ANNA, Phase::Take, UNWRITTEN, Next::On(Phase::Cancel), &[])],
     },
-    Deed {
+    Mutant {
         name: "a save goes on whose boot has ended",
         setting: Setting::Saving,
         before: &[
@@ -162,78 +154,36 @@ const GOES_ON: [Deed; 7] = [
 
 #[test]
 fn an_operation_that_goes_on_wrongly_is_found(rt: HostRuntime) -> Result<(), Fail> {
-    for deed in &GOES_ON {
-        assert_eq!(rt;
-            both_verdicts(rt.alloc(), deed)?,
-            found(deed),
-            "{}",
-            deed.name
-        );
-    }
-    Ok(())
+    Ok(all_found(&rt, rt.alloc(), &GOES_ON)?)
 }
 
-const SAVE_OVER: &[Line] = &[
-    Line::Nested(ANNA, Want::Save, LIVE),
-    Line::Phase(ANNA, Phase::Poll, NONE_LEFT, Next::On(Phase::Take), &[]),
-    Line::Nested(ANNA, Want::Save, LIVE),
-    Line::Phase(ANNA, Phase::Take, WRITTEN, Next::On(Phase::Quit), &[]),
-    Line::Nested(ANNA, Want::Save, LIVE),
-    Line::Phase(ANNA, Phase::Quit, QUIT, OVER, SAVED),
-];
-
-const SAVE_OVER_AND_NESTED: &[Line] = &[
-    Line::Nested(ANNA, Want::Save, LIVE),
-    Line::Phase(ANNA, Phase::Poll, NONE_LEFT, Next::On(Phase::Take), &[]),
-    Line::Nested(ANNA, Want::Save, LIVE),
-    Line::Phase(ANNA, Phase::Take, WRITTEN, Next::On(Phase::Quit), &[]),
-    Line::Nested(ANNA, Want::Save, LIVE),
-    Line::Phase(ANNA, Phase::Quit, QUIT, OVER, SAVED),
-    Line::Nested(ANNA, Want::Save, None),
-];
-
-const ENDED: [Deed; 4] = [
-    Deed {
+const ENDED: [Mutant; 3] = [
+    Mutant {
         name: "a save ends before it is over",
         setting: Setting::Saving,
         before: &[],
         wrong: Line::End(ANNA, FINE),
         right: SAVE_OVER,
     },
-    Deed {
+    Mutant {
         name: "a save ends for another caller",
         setting: Setting::Saving,
         before: SAVE_OVER,
         wrong: Line::End(BERT, FINE),
         right: &[Line::End(ANNA, FINE)],
     },
-    Deed {
+    Mutant {
         name: "a save ends with another reply than its last phase gave",
         setting: Setting::Saving,
         before: SAVE_OVER,
         wrong: Line::End(ANNA, GUEST_ENDED),
         right: &[Line::End(ANNA, FINE)],
     },
-    Deed {
-        name: "a save ends while a phase of it is let in",
-        setting: Setting::Saving,
-        before: SAVE_OVER_AND_NESTED,
-        wrong: Line::End(ANNA, FINE),
-        right: &[],
-    },
 ];
 
 #[test]
 fn an_operation_that_ends_wrongly_is_found(rt: HostRuntime) -> Result<(), Fail> {
-    for deed in &ENDED {
-        assert_eq!(rt;
-            both_verdicts(rt.alloc(), deed)?,
-            found(deed),
-            "{}",
-            deed.name
-        );
-    }
-    Ok(())
+    Ok(all_found(&rt, rt.alloc(), &ENDED)?)
 }
 
 const POLL: [Line; 2] = [
@@ -246,8 +196,8 @@ const GIVE_UP: [Line; 2] = [
     Line::Phase(ANNA, Phase::Poll, &[], Next::On(Phase::Cancel), &[]),
 ];
 
-// What the judge says of so many polls that saw as much left, and what came behind them.
-fn behind_polls(alloc: Global, polls: u32, last: &[Line]) -> Result<Verdict, NoMemory> {
+// What the judge says of so many polls that saw as much left, and what came after them.
+fn after_polls(alloc: Global, polls: u32, last: &[Line]) -> Result<Verdict, NoMemory> {
     verdict(
         alloc,
         Setting::Saving,
@@ -257,12 +207,12 @@ fn behind_polls(alloc: Global, polls: u32, last: &[Line]) -> Result<Verdict, NoM
 
 // The first poll compares with nothing, so the 65th is the 64th that saw no less left.
 #[test]
-fn a_save_is_given_up_behind_65_polls_alike(rt: HostRuntime) -> Result<(), Fail> {
+fn a_save_is_given_up_after_65_polls_alike(rt: HostRuntime) -> Result<(), Fail> {
     let alloc = rt.alloc();
-    assert_eq!(rt; behind_polls(alloc, 65, &GIVE_UP)?, Verdict::Legal);
-    let counted_from_the_first = behind_polls(alloc, 64, &GIVE_UP)?;
+    assert_eq!(rt; after_polls(alloc, 65, &GIVE_UP)?, Verdict::Legal);
+    let counted_from_the_first = after_polls(alloc, 64, &GIVE_UP)?;
     assert_eq!(rt; counted_from_the_first, Verdict::Fault(2 * 64 + 1));
-    let never_given_up = behind_polls(alloc, 65, &POLL)?;
+    let never_given_up = after_polls(alloc, 65, &POLL)?;
     assert_eq!(rt; never_given_up, Verdict::Fault(2 * 65 + 1));
     Ok(())
 }

@@ -1,8 +1,8 @@
 // A history in short: one line for each mark, in words that need no memory.
 use virt_types::{
     DEFINED_ADDED, EndReason, GuestEvent, Job, OpKind, Phase, RESUMED_UNPAUSED, RefusalCode,
-    STARTED_BOOTED, STOPPED_CRASHED, STOPPED_DESTROYED, STOPPED_FAILED, STOPPED_SAVED,
-    STOPPED_SHUTDOWN, SUSPENDED_PAUSED, Transition, UNDEFINED_REMOVED, Who,
+    STARTED_BOOTED, STOPPED_CRASHED, STOPPED_DESTROYED, STOPPED_FAILED, STOPPED_MIGRATED,
+    STOPPED_SAVED, STOPPED_SHUTDOWN, SUSPENDED_PAUSED, Transition, UNDEFINED_REMOVED, Who,
 };
 
 /// Who calls: the number of a pass, and that of a session.
@@ -38,6 +38,9 @@ pub(crate) enum Want {
     Start,
     Save,
     Dump,
+    Perform,
+    Confirm(bool),
+    Finish(bool),
 }
 
 /// What was asked.
@@ -80,6 +83,8 @@ pub(crate) enum Said {
     Fine,
     Defined,
     Memory(u64),
+    /// The guest that leaves, with its state.
+    Left,
     No(RefusalCode, &'static str),
 }
 
@@ -88,15 +93,18 @@ pub(crate) enum Said {
 pub(crate) enum Next {
     On(Phase),
     Over(Said),
+    Rest(Said),
 }
 
-/// The record that a refused call looked at: which job and which operation were held, by whom, and how
-/// many others waited.
+/// The record that a refused call saw: which job and which operation were held, by whom, whether
+/// that rested, how many others waited, and how often the first of them is listed again.
 #[derive(Clone, Copy)]
 pub(crate) struct Record {
     pub(crate) active: Option<(Job, Caller)>,
     pub(crate) op: Option<(OpKind, Caller)>,
+    pub(crate) rests: bool,
     pub(crate) others: u64,
+    pub(crate) again: u64,
 }
 
 /// What was asked, and what each ask was answered.
@@ -117,6 +125,7 @@ pub(crate) enum Line {
     Done(Caller, Want, Option<u64>, Exchanges, Said, Events),
     Refused(Caller, Want, RefusalCode, Record),
     Start(Caller, Want, Option<u64>),
+    TakeUp(Caller, Want),
     Phase(Caller, Phase, Exchanges, Next, Events),
     /// A phase found no memory before its first ask.
     Starved(Caller, Phase, Next),
@@ -135,7 +144,7 @@ pub(crate) const BOOT: u64 = 3;
 
 pub(crate) const LIVE: Option<u64> = Some(BOOT);
 
-/// The boot behind that.
+/// The boot after that.
 pub(crate) const NEXT: Option<u64> = Some(BOOT + 1);
 
 pub(crate) const ANNA: Caller = Caller {
@@ -204,6 +213,9 @@ pub(crate) const CLASS_3: Said = Said::No(RefusalCode::OperationFailed, "class 3
 
 pub(crate) const ABORTED: Said = Said::No(RefusalCode::OperationAborted, "");
 
+/// What a call is told that a paused guest excludes.
+pub(crate) const PAUSED_GUEST: Said = Said::No(RefusalCode::OperationInvalid, "paused");
+
 pub(crate) const OVER: Next = Next::Over(FINE);
 
 pub(crate) const DEFINED: Events = &[DEFINED_ADDED];
@@ -225,3 +237,52 @@ pub(crate) const CRASHED: Events = &[STOPPED_CRASHED];
 pub(crate) const SAVED: Events = &[STOPPED_SAVED];
 
 pub(crate) const FAILED: Events = &[STOPPED_FAILED];
+
+/// The rest of a save that was polled last.
+pub(crate) const SAVE_OVER: &[Line] = &[
+    Line::Nested(ANNA, Want::Save, LIVE),
+    Line::Phase(ANNA, Phase::Poll, NONE_LEFT, Next::On(Phase::Take), &[]),
+    Line::Nested(ANNA, Want::Save, LIVE),
+    Line::Phase(ANNA, Phase::Take, WRITTEN, Next::On(Phase::Quit), &[]),
+    Line::Nested(ANNA, Want::Save, LIVE),
+    Line::Phase(ANNA, Phase::Quit, QUIT, OVER, SAVED),
+];
+
+/// A migration of `ANNA`'s to another host, up to where it rests.
+pub(crate) const LEAVES: &[Line] = &[
+    Line::Admit(ANNA, Want::Perform, LIVE),
+    Line::Start(ANNA, Want::Perform, LIVE),
+    Line::Nested(ANNA, Want::Perform, LIVE),
+    Line::Phase(
+        ANNA,
+        Phase::MigrateCopy,
+        &[(Sent::CopyBegin, Got::Fine)],
+        Next::On(Phase::Poll),
+        &[],
+    ),
+    Line::Nested(ANNA, Want::Perform, LIVE),
+    Line::Phase(
+        ANNA,
+        Phase::Poll,
+        NONE_LEFT,
+        Next::On(Phase::MigrateTake),
+        &[],
+    ),
+    Line::Nested(ANNA, Want::Perform, LIVE),
+    Line::Phase(
+        ANNA,
+        Phase::MigrateTake,
+        &[(Sent::Stop, Got::Fine), (Sent::CopyTake, Got::Copied)],
+        Next::Rest(Said::Left),
+        PAUSED,
+    ),
+];
+
+/// That migration is taken up by `BERT`, and its guest goes.
+pub(crate) const LEFT: &[Line] = &[
+    Line::Admit(BERT, Want::Confirm(true), LIVE),
+    Line::TakeUp(BERT, Want::Confirm(true)),
+    Line::Nested(BERT, Want::Confirm(true), LIVE),
+    Line::Phase(BERT, Phase::MigrateQuit, QUIT, OVER, &[STOPPED_MIGRATED]),
+    Line::End(BERT, FINE),
+];

@@ -2,7 +2,6 @@
 use Rattle.std.specs.Prelude.{◌≡◌}
 use Rattle.virt_types.specs.declared.domain_def.DomainDef.{DomainDef}
 use Rattle.virt_types.specs.declared.operation.Op.{Op}
-use Rattle.virt_types.specs.declared.domain.Domain.{Domain}
 
 pub record AreNamedAlike (a b : DomainDef) : Type 0 where
   pub kind : a.kind ≡ b.kind
@@ -50,17 +49,3 @@ pub record HaveComeAlike (a b : Op) : Type 0 where
   pub refusal : a.refusal ≡ b.refusal
   pub limit : a.limit ≡ b.limit
   pub rests : a.rests ≡ b.rests
-
-pub record AreKnownAlike (a b : Domain) : Type 0 where
-  pub uuid : a.uuid ≡ b.uuid
-  pub name : a.name ≡ b.name
-  pub stored : a.stored ≡ b.stored
-  pub live : a.live ≡ b.live
-  pub autostart : a.autostart ≡ b.autostart
-
-pub record StandAlike (a b : Domain) : Type 0 where
-  pub snaps : a.snaps ≡ b.snaps
-  pub current : a.current ≡ b.current
-  pub op : a.op ≡ b.op
-  pub boots : a.boots ≡ b.boots
-  pub last : a.last ≡ b.last

@@ -1,9 +1,9 @@
 // What a cell of a domain holds.
 ghost use Rattle.std.specs.Prelude.{◌↔◌, IsTrue};
-ghost use Rattle.same.specs.Groups.{AreBegunAlike, AreKnownAlike, HaveComeAlike, StandAlike};
+ghost use Rattle.same.specs.Groups.{AreBegunAlike, HaveComeAlike};
 
 use crate::parts::Same;
-use virt_types::{Domain, Live, Op, Refusal, Snap, SnapInfo, State};
+use virt_types::{Live, Op, Refusal, Snap, SnapInfo};
 
 impl Same for Refusal {
     fn same(&self, other: &Refusal) -> bool {
@@ -62,46 +62,5 @@ fn have_come_alike(one: &Op, other: &Op) -> bool
 impl Same for Op {
     fn same(&self, other: &Op) -> bool {
         are_begun_alike(self, other) && have_come_alike(self, other)
-    }
-}
-
-fn are_known_alike(one: &Domain, other: &Domain) -> bool
-    ensures { IsTrue result ↔ AreKnownAlike one.now other.now }
-{
-    one.uuid.same(&other.uuid)
-        && one.name.same(&other.name)
-        && one.stored.same(&other.stored)
-        && one.live.same(&other.live)
-        && one.autostart == other.autostart
-}
-
-fn stand_alike(one: &Domain, other: &Domain) -> bool
-    ensures { IsTrue result ↔ StandAlike one.now other.now }
-{
-    one.snaps.same(&other.snaps)
-        && one.current.same(&other.current)
-        && one.op.same(&other.op)
-        && one.boots == other.boots
-        && one.last.same(&other.last)
-}
-
-impl Same for Domain {
-    fn same(&self, other: &Domain) -> bool {
-        are_known_alike(self, other) && stand_alike(self, other)
-    }
-}
-
-impl Same for State {
-    fn same(&self, other: &State) -> bool {
-        match self {
-            State::Vacant { boots } => match other {
-                State::Vacant { boots: other_boots } => *boots == *other_boots,
-                _ => false,
-            },
-            State::Held(it) => match other {
-                State::Held(that) => it.same(that),
-                _ => false,
-            },
-        }
     }
 }

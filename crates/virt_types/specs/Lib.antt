@@ -7,4 +7,7 @@ pub mod Name
 pub mod Numbers
 pub mod Refusal
 pub mod Room
+pub mod SnapNodes
+pub mod SnapNodesFall
+pub mod Snapshots
 pub mod Transition

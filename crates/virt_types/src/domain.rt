@@ -7,6 +7,7 @@ use crate::memory::NoMemory;
 use crate::name::Name;
 use crate::operation::Op;
 use crate::run_state::{EndReason, RunState};
+use crate::snap_list::SnapList;
 use crate::text::Text;
 use uuid::Uuid;
 
@@ -91,9 +92,6 @@ impl TryCopy for Snap {
         })
     }
 }
-
-/// Snapshots, by rising name.
-pub type SnapList = ListOf<Snap>;
 
 /// A domain (libvirt's domain object, `virDomainObj` of `domain_conf.h`). It has a stored
 /// definition or a live part, or an operation is to give it one.

@@ -1,14 +1,15 @@
 // A copy can be made of each value that takes memory. That it is equal is proved.
 use crate::fixtures::{
-    bytes, character_device, definition, disk, graphics, interface, list, live, mac, name, network,
-    operation, os, snapshot, text, uuid,
+    bytes, character_device, definition, disk, graphics, interface, list, live, mac, name, named,
+    network, operation, os, snapshot, text, uuid,
 };
 use std::alloc::Global;
 use std::test::Fail;
 use virt_types::{
     Answer, AnswerValue, Ask, Boxed, Call, Command, DeviceDef, Domain, DomainRef, DomainRequest,
-    DomainRow, DomainState, DomainTarget, ListOf, MigratedText, NoMemory, Note, PoolDef, PoolType,
-    Query, Reply, Request, SnapInfo, State, Status, TitleRow, TryCopy, Value, VolDef, both,
+    DomainRow, DomainState, DomainTarget, MigratedText, NoMemory, Note, Phase, PoolDef, PoolType,
+    Query, Reply, Request, Snap, SnapInfo, SnapList, State, Status, TitleRow, TryCopy, Value,
+    VolDef, both,
 };
 
 fn copied<T: TryCopy + Drop>(it: Result<T, NoMemory>) -> Result<(), NoMemory> {
@@ -49,6 +50,29 @@ fn volume(alloc: Global) -> Result<VolDef, NoMemory> {
     })
 }
 
+fn snapshots(alloc: Global) -> Result<SnapList, NoMemory> {
+    let mut snapshots = SnapList::new();
+    for own in [b"s2".as_slice(), b"s3", b"s1"] {
+        snapshots.insert(alloc, snapshot(alloc, own)?)?;
+    }
+    Ok(snapshots)
+}
+
+#[test]
+fn snapshots_stand_by_rising_name(rt: HostRuntime) -> Result<(), Fail> {
+    let alloc = rt.alloc();
+    let mut snapshots = SnapList::of(alloc, snapshots(alloc)?.to_list(alloc)?)?;
+    let last = named(alloc, b"s3")?;
+    assert!(rt; snapshots.find(&last).is_some());
+    snapshots.remove(&last);
+    assert!(rt; snapshots.find(&last).is_none());
+    let names = snapshots.names(alloc)?;
+    assert_eq!(rt; names.len(), 2);
+    assert_eq!(rt; names.as_slice()[0].as_str(), "s1");
+    assert_eq!(rt; snapshots.get(1).map(|snap| snap.name.as_str()), Some("s2"));
+    Ok(())
+}
+
 fn domain(alloc: Global) -> Result<Domain, NoMemory> {
     let (definition, live) = both(definition(alloc), live(alloc))?;
     Ok(Domain {
@@ -57,7 +81,7 @@ fn domain(alloc: Global) -> Result<Domain, NoMemory> {
         stored: Some(definition),
         live: Some(live),
         autostart: true,
-        snaps: ListOf::new(alloc),
+        snaps: snapshots(alloc)?,
         current: None,
         op: Some(operation(alloc)?),
         boots: 3,
@@ -73,7 +97,7 @@ fn states_are_copied(rt: HostRuntime) -> Result<(), Fail> {
     Ok(())
 }
 
-fn boxed(alloc: Global) -> Result<Boxed<virt_types::Snap>, NoMemory> {
+fn boxed(alloc: Global) -> Result<Boxed<Snap>, NoMemory> {
     Boxed::new(alloc, snapshot(alloc, b"s1")?)
 }
 
@@ -84,7 +108,7 @@ fn status(alloc: Global) -> Result<Status, NoMemory> {
         boot: 1,
         state: DomainState::Running,
         op: None,
-        phase: virt_types::Phase::Nothing,
+        phase: Phase::Nothing,
     })
 }
 

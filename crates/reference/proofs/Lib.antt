@@ -1,4 +1,0 @@
-pub mod Copies
-pub mod Masks
-pub mod Places
-pub mod Snaps

@@ -1,0 +1,139 @@
+// The snapshots of a domain.
+ghost use Rattle.std.specs.Prelude.{◌≡◌, ◌==◌, [], IfOk, OnOk, OnErr, filter, length, map, not, option_map, slice_get};
+ghost use Rattle.virt_types.specs.Snapshots.{IsRising, is_named, snapshot_named, with_snapshot};
+
+use crate::copy::TryCopy;
+use crate::domain::Snap;
+use crate::list::ListOf;
+use crate::memory::NoMemory;
+use crate::name::Name;
+use crate::snap_tree::SnapTree;
+use std::alloc::Global;
+use std::marker::Model;
+
+/// Snapshots by rising name, as a tree of boxes. Contracts see their list.
+#[derive(Drop)]
+pub struct SnapList {
+    tree: SnapTree,
+    count: usize,
+}
+
+impl Model for SnapList {
+    ghost use Rattle.std.specs.Prelude.{◌≡◌, List, length};
+    ghost use Rattle.virt_types.specs.declared.domain.Snap.{Snap as TheSnap};
+
+    ghost Value = { List TheSnap };
+
+    ghost view = { λ s. s.tree };
+
+    ghost invariant = { λ s. s.count ≡ length s.tree };
+}
+
+impl SnapList {
+    /// No snapshots. It takes no memory.
+    pub fn new() -> SnapList
+        ensures { result ≡ [] }
+    {
+        SnapList {
+            tree: SnapTree::new(),
+            count: 0,
+        }
+    }
+
+    /// The snapshots of this list.
+    pub fn of(alloc: Global, snaps: ListOf<Snap>) -> Result<SnapList, NoMemory>
+        requires { IsRising snaps }
+        ensures { IfOk result (λ list. list ≡ snaps) }
+    {
+        let mut list = SnapList::new();
+        for snap in snaps.into_vec() {
+            list.insert(alloc, snap)?;
+        }
+        Ok(list)
+    }
+
+    /// Copies of the snapshots, as a list.
+    pub fn to_list(&self, alloc: Global) -> Result<ListOf<Snap>, NoMemory>
+        ensures value { IfOk result (λ list. list ≡ self.now) }
+        ensures rising { IsRising self.now }
+    {
+        self.tree.rises();
+        let mut list = ListOf::new(alloc);
+        self.tree.copy_into(&mut list)?;
+        Ok(list)
+    }
+
+    /// The names.
+    pub fn names(&self, alloc: Global) -> Result<ListOf<Name>, NoMemory>
+        ensures { IfOk result (λ names. names ≡ map (λ s. s.name) self.now) }
+    {
+        let mut names = ListOf::new(alloc);
+        self.tree.copy_names_into(&mut names)?;
+        Ok(names)
+    }
+
+    /// How many there are.
+    pub fn len(&self) -> usize
+        ensures { result ≡ length self.now }
+    {
+        self.count
+    }
+
+    /// Whether there are none.
+    pub fn is_empty(&self) -> bool
+        ensures { result ≡ (length self.now == 0) }
+    {
+        self.count == 0
+    }
+
+    /// The snapshot at this place, from 0.
+    pub fn get(&self, place: usize) -> Option<&Snap>
+        ensures { option_map (λ s. s.now) result ≡ slice_get self.now place }
+    {
+        if self.count <= place {
+            return None;
+        }
+        self.tree.get(place)
+    }
+
+    /// The first snapshot of this name.
+    pub fn find(&self, name: &Name) -> Option<&Snap>
+        ensures value { option_map (λ s. s.now) result ≡ snapshot_named self.now name.now }
+        ensures rising { IsRising self.now }
+    {
+        self.tree.rises();
+        self.tree.find(name)
+    }
+
+    /// Puts a snapshot behind those whose names are not greater.
+    #[tactic(auto, using(crate::proofs::RisingSnaps::length_with))]
+    pub fn insert(&mut self, alloc: Global, new: Snap) -> Result<(), NoMemory>
+        ensures ok { OnOk result (self.new ≡ with_snapshot self.old new) }
+        ensures err { OnErr result (self.new ≡ self.old) }
+    {
+        if self.count == usize::MAX {
+            return Err(NoMemory);
+        }
+        self.tree.insert(alloc, new)?;
+        self.count += 1;
+        Ok(())
+    }
+
+    /// Takes out the snapshots of this name. It takes no memory.
+    #[tactic(auto, using(crate::proofs::RisingSnaps::length_filter_le))]
+    pub fn remove(&mut self, name: &Name)
+        ensures { self.new ≡ filter (λ s. not (is_named name.now s)) self.old }
+    {
+        self.tree.remove(name);
+        self.count = self.tree.count();
+    }
+}
+
+impl TryCopy for SnapList {
+    fn copy(&self) -> Result<SnapList, NoMemory> {
+        Ok(SnapList {
+            tree: self.tree.copy()?,
+            count: self.count,
+        })
+    }
+}
