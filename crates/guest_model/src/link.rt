@@ -1,5 +1,7 @@
 // Links to modelled guests. The parts of a link share one guest under a lock, so each may go to a thread
 // of its own; where one is let go, the others still work.
+ghost use Rattle.std.specs.Prelude.{IfErr};
+
 use crate::guest::SimGuest;
 use monitor_link::{Counts, Ears, Guests, Heard, Killer, Link, Monitor};
 use std::alloc::Global;
@@ -118,7 +120,10 @@ impl<H: Wait + Copy + Send + Sync> Guests for SimGuests<H> {
         })
     }
 
-    fn another(&mut self) -> Result<SimGuests<H>, NoMemory> {
+    /// It takes no memory, so there is always another.
+    fn another(&mut self) -> Result<SimGuests<H>, NoMemory>
+        ensures { IfErr result (λ _. ⊥) }
+    {
         Ok(SimGuests {
             rt: self.rt,
             alloc: self.alloc,

@@ -3,6 +3,7 @@ ghost use Rattle.std.specs.Prelude.{ℕ, ◌≡◌, ◌≤◌, [], IfOk, OnErr};
 ghost use Rattle.monitor_link.specs.Causes.{IsAnswerCaused, IsOfGuest};
 ghost use Rattle.monitor_link.specs.Faking.{IsAnsweredBy, next_answer};
 ghost use Rattle.monitor_link.specs.Exchanges.{Reports, exchanges_after};
+ghost use Rattle.monitor_link.specs.declared.link.Heard.TheVariants as heard;
 
 use crate::counts::Counts;
 use crate::exchange::Exchange;
@@ -90,13 +91,18 @@ impl Ears for Fake {
 
     ghost unheard = { λ _. None };
 
-    fn hear(&mut self) -> Heard {
+    fn hear(&mut self) -> Heard
+        ensures heard { result ≡ heard.Quiet }
+        ensures link { self.new ≡ self.old }
+    {
         Heard::Quiet
     }
 }
 
 impl Killer for Fake {
-    fn kill(&mut self) {}
+    fn kill(&mut self)
+        ensures { self.new ≡ self.old }
+    {}
 }
 
 // The next of these answers, which is added to the exchanges.
