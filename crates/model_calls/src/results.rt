@@ -22,8 +22,8 @@ use std::alloc::Global;
 use virt_types::{
     Answer, AnswerValue, Call, Cause, DEFINED_ADDED, DEFINED_UPDATED, DeviceDef, Domain, DomainDef,
     EndReason, ListOf, Live, Name, NoMemory, Op, RESUMED_UNPAUSED, Refusal, Reply, RunState,
-    STOPPED_DESTROYED, SUSPENDED_PAUSED, SnapList, State, Transition, TryCopy, UNDEFINED_REMOVED, Uuid,
-    Value,
+    STOPPED_DESTROYED, SUSPENDED_PAUSED, SnapList, State, Transition, TryCopy, UNDEFINED_REMOVED,
+    Uuid, Value,
 };
 
 /// The call is refused: nothing changes, and nobody is told.

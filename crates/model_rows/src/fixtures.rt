@@ -4,8 +4,8 @@ use std::alloc::Global;
 use virt_types::{
     Answer, AnswerValue, Bytes, CrashAction, DeviceDef, Disk, DiskDevice, DiskTarget, DiskType,
     Domain, DomainDef, DomainType, Interface, InterfaceSource, InterfaceType, LifecycleAction,
-    ListOf, Live, Mac, Name, NoMemory, Os, RunState, Script, Snap, SnapInfo, SnapList, State,
-    Text, Uuid, both,
+    ListOf, Live, Mac, Name, NoMemory, Os, RunState, Script, Snap, SnapInfo, SnapList, State, Text,
+    Uuid, both,
 };
 
 pub(crate) fn name(alloc: Global, text: &str) -> Result<Name, NoMemory> {

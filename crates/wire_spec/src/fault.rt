@@ -85,7 +85,10 @@ impl fmt::Display for XdrFault {
             XdrFault::Short { at } => write!(f, "the item at {at} passes the end"),
             XdrFault::Pad { at } => write!(f, "the padding at {at} is not 0"),
             XdrFault::Flag { at } => write!(f, "the truth value at {at} is neither 0 nor 1"),
-            XdrFault::TooLong { at, length } => write!(f, "the length {length} at {at} is too great"),
+            XdrFault::TooLong { at, length } => write!(
+                f,
+                "the length {length} at {at} is too great"
+            ),
             XdrFault::Extra { at } => write!(f, "there are more bytes at {at}"),
             XdrFault::Text { at } => write!(f, "the text is not UTF-8 at {at}"),
         }
