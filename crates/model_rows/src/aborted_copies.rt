@@ -2,15 +2,17 @@
 use crate::steps::Asked::{Abort, Dump, Save, Suspend};
 use crate::steps::Said::{Copied, Done, Number, Refused};
 use crate::steps::Step::{Call, GoOn};
-use crate::stories::{Begins, Story, all_show};
+use crate::stories::{Begins, shows};
 use std::test::Fail;
 
-const COPIES: &[Story] = &[
-    // A script: `slow 5`.
-    Story {
-        name: "a save that is aborted after its second poll",
-        begins: Begins::Running,
-        rows: &[
+// A script: `slow 5`.
+#[test]
+fn a_save_that_is_aborted_after_its_second_poll(rt: HostRuntime) -> Result<(), Fail> {
+    Ok(shows(
+        &rt,
+        rt.alloc(),
+        Begins::Running,
+        &[
             (
                 Call(Save("s")),
                 &[Done, Done, Number(4), Number(3)],
@@ -24,29 +26,44 @@ const COPIES: &[Story] = &[
             ),
             (Call(Abort), &[], "| 55 running | running"),
         ],
-    },
-    // A script: `slow 5; stall`. The first poll compares with nothing, and the next 64 see no less left.
-    Story {
-        name: "a save that makes no headway in 64 polls",
-        begins: Begins::Stalling,
-        rows: &[(
+    )?)
+}
+
+// A script: `slow 5; stall`. The first poll compares with nothing, and the next 64 see no less left.
+#[test]
+fn a_save_that_makes_no_headway_in_64_polls(rt: HostRuntime) -> Result<(), Fail> {
+    Ok(shows(
+        &rt,
+        rt.alloc(),
+        Begins::Stalling,
+        &[(
             GoOn,
             &[Number(5), Done, Done],
             "poll: CopyPoll | poll: | cancel: CopyCancel Cont (4,0) | 207 5 | running",
         )],
-    },
-    Story {
-        name: "a save that makes headway at last",
-        begins: Begins::Stalling,
-        rows: &[
+    )?)
+}
+
+#[test]
+fn a_save_that_makes_headway_at_last(rt: HostRuntime) -> Result<(), Fail> {
+    Ok(shows(
+        &rt,
+        rt.alloc(),
+        Begins::Stalling,
+        &[
             (GoOn, &[Number(4)], "poll: CopyPoll | due poll | paused"),
             (GoOn, &[Number(4)], "poll: CopyPoll | due poll | paused"),
         ],
-    },
-    Story {
-        name: "a dump whose guest is suspended meanwhile",
-        begins: Begins::Running,
-        rows: &[
+    )?)
+}
+
+#[test]
+fn a_dump_whose_guest_is_suspended_meanwhile(rt: HostRuntime) -> Result<(), Fail> {
+    Ok(shows(
+        &rt,
+        rt.alloc(),
+        Begins::Running,
+        &[
             (
                 Call(Dump("d")),
                 &[Done, Done, Number(0)],
@@ -59,11 +76,16 @@ const COPIES: &[Story] = &[
                 "take: CopyTake WriteImage(running 8) | Ok | paused",
             ),
         ],
-    },
-    Story {
-        name: "refusals on the way of a dump",
-        begins: Begins::Running,
-        rows: &[
+    )?)
+}
+
+#[test]
+fn refusals_on_the_way_of_a_dump(rt: HostRuntime) -> Result<(), Fail> {
+    Ok(shows(
+        &rt,
+        rt.alloc(),
+        Begins::Running,
+        &[
             (
                 Call(Dump("d")),
                 &[Done, Refused(1), Done],
@@ -80,10 +102,5 @@ const COPIES: &[Story] = &[
                 "copy: Stop CopyBegin (3,0) | poll: CopyPoll | take: CopyTake WriteImage(running 8) | cancel: CopyCancel | 9 class 1 | paused",
             ),
         ],
-    },
-];
-
-#[test]
-fn copies_are_given_up(rt: HostRuntime) -> Result<(), Fail> {
-    Ok(all_show(&rt, rt.alloc(), COPIES)?)
+    )?)
 }

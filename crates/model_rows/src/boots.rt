@@ -4,15 +4,17 @@ use crate::steps::Asked::{
 };
 use crate::steps::Said::{Crashed, Device, Done, Lost, NoMemory, Number, Refused};
 use crate::steps::Step::{Call, Event, Exit, GoOn};
-use crate::stories::{Begins, Story, all_show};
+use crate::stories::{Begins, shows};
 use std::test::Fail;
 use virt_types::{EndReason, GuestEvent};
 
-const BOOTS: &[Story] = &[
-    Story {
-        name: "a domain without a stored definition goes with its guest",
-        begins: Begins::Defined,
-        rows: &[
+#[test]
+fn a_domain_without_a_stored_definition_goes_with_its_guest(rt: HostRuntime) -> Result<(), Fail> {
+    Ok(shows(
+        &rt,
+        rt.alloc(),
+        Begins::Defined,
+        &[
             (
                 Call(Start),
                 &[Done, Done, Done],
@@ -22,11 +24,16 @@ const BOOTS: &[Story] = &[
             (Call(Destroy), &[Done], "Quit | Ok (5,1) | vacant"),
             (Call(Suspend), &[], "| 42 | vacant"),
         ],
-    },
-    Story {
-        name: "a vacant cell keeps its number of boots",
-        begins: Begins::Vacant(6),
-        rows: &[
+    )?)
+}
+
+#[test]
+fn a_vacant_cell_keeps_its_number_of_boots(rt: HostRuntime) -> Result<(), Fail> {
+    Ok(shows(
+        &rt,
+        rt.alloc(),
+        Begins::Vacant(6),
+        &[
             (
                 Call(Create),
                 &[Done, Done, Done],
@@ -41,22 +48,32 @@ const BOOTS: &[Story] = &[
             ),
             (Call(Start), &[], "| 42 | vacant"),
         ],
-    },
-    Story {
-        name: "a domain is defined again and undefined",
-        begins: Begins::Vacant(0),
-        rows: &[
+    )?)
+}
+
+#[test]
+fn a_domain_is_defined_again_and_undefined(rt: HostRuntime) -> Result<(), Fail> {
+    Ok(shows(
+        &rt,
+        rt.alloc(),
+        Begins::Vacant(0),
+        &[
             (Call(Define), &[Device], "Put | 38 | vacant"),
             (Call(Define), &[Done], "Put | Ok id -1 (0,0) | shut off"),
             (Call(Define), &[Done], "Put | Ok id -1 (0,1) | shut off"),
             (Call(Autostart), &[Done], "Put | Ok | shut off"),
             (Call(Undefine), &[Done], "Drop | Ok (1,0) | vacant"),
         ],
-    },
-    Story {
-        name: "a start that is refused leaves no guest",
-        begins: Begins::OnNetwork,
-        rows: &[
+    )?)
+}
+
+#[test]
+fn a_start_that_is_refused_leaves_no_guest(rt: HostRuntime) -> Result<(), Fail> {
+    Ok(shows(
+        &rt,
+        rt.alloc(),
+        Begins::OnNetwork,
+        &[
             (
                 Call(Start),
                 &[Refused(11)],
@@ -78,21 +95,31 @@ const BOOTS: &[Story] = &[
                 "make: Lease(default) Make(4) (5,5) | 202 | shut off",
             ),
         ],
-    },
-    // An undo is answered Ended: the boot's end comes before the phase is done.
-    Story {
-        name: "a guest that ends at an undo",
-        begins: Begins::Defined,
-        rows: &[(
+    )?)
+}
+
+// An undo is answered Ended: the boot's end comes before the phase is done.
+#[test]
+fn a_guest_that_ends_at_an_undo(rt: HostRuntime) -> Result<(), Fail> {
+    Ok(shows(
+        &rt,
+        rt.alloc(),
+        Begins::Defined,
+        &[(
             Call(Start),
             &[Done, Refused(1), Crashed],
             "make: Make(1) | run: QueryStatus Quit (5,2) | 201 boot 1 | shut off",
         )],
-    },
-    Story {
-        name: "commands before their boot is made are not sent",
-        begins: Begins::Defined,
-        rows: &[
+    )?)
+}
+
+#[test]
+fn commands_before_their_boot_is_made_are_not_sent(rt: HostRuntime) -> Result<(), Fail> {
+    Ok(shows(
+        &rt,
+        rt.alloc(),
+        Begins::Defined,
+        &[
             (Call(Start), &[], "due make | paused"),
             (
                 Call(MemoryStats),
@@ -103,11 +130,16 @@ const BOOTS: &[Story] = &[
             (Call(Destroy), &[Done], "Quit | Ok (5,1) | shut off"),
             (GoOn, &[], "make: | 201 boot 1 | shut off"),
         ],
-    },
-    Story {
-        name: "what a guest does by itself",
-        begins: Begins::Defined,
-        rows: &[
+    )?)
+}
+
+#[test]
+fn what_a_guest_does_by_itself(rt: HostRuntime) -> Result<(), Fail> {
+    Ok(shows(
+        &rt,
+        rt.alloc(),
+        Begins::Defined,
+        &[
             (
                 Call(Start),
                 &[Done, Done, Done],
@@ -128,10 +160,5 @@ const BOOTS: &[Story] = &[
             (Event(GuestEvent::Shutdown), &[], "(6,0) | running"),
             (Exit(EndReason::Shutdown), &[], "(5,0) | shut off"),
         ],
-    },
-];
-
-#[test]
-fn guests_start_and_end(rt: HostRuntime) -> Result<(), Fail> {
-    Ok(all_show(&rt, rt.alloc(), BOOTS)?)
+    )?)
 }

@@ -219,13 +219,12 @@ impl Cell {
         &mut self,
         rt: &impl Abort,
         alloc: Global,
-        name: &str,
         row: Row,
     ) -> Result<(), NoMemory> {
         let (step, said, wanted) = row;
         let answers = answers_of(alloc, said)?;
         let shown = self.step_row(alloc, step, answers.as_slice())?;
-        assert_eq!(rt; shown.as_str(), wanted, "{}", name);
+        assert_eq!(rt; shown.as_str(), wanted);
         Ok(())
     }
 }

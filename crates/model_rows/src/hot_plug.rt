@@ -2,15 +2,17 @@
 use crate::steps::Asked::{Attach, AttachInterface, Detach, Kick, SetMemory, SetVcpus};
 use crate::steps::Said::{Done, Refused};
 use crate::steps::Step::{Call, Event};
-use crate::stories::{Begins, Story, all_show};
+use crate::stories::{Begins, shows};
 use std::test::Fail;
 use virt_types::GuestEvent;
 
-const DEVICES: &[Story] = &[
-    Story {
-        name: "disks take the slots in order",
-        begins: Begins::Running,
-        rows: &[
+#[test]
+fn disks_take_the_slots_in_order(rt: HostRuntime) -> Result<(), Fail> {
+    Ok(shows(
+        &rt,
+        rt.alloc(),
+        Begins::Running,
+        &[
             (
                 Call(Attach("vda")),
                 &[Done, Done],
@@ -37,12 +39,17 @@ const DEVICES: &[Story] = &[
                 "AddBackend(3) AddDevice(3) | Ok | running",
             ),
         ],
-    },
-    // Thirty disks, vd2 to vd31, each attached at the slot of its number.
-    Story {
-        name: "one disk too many",
-        begins: Begins::FullOfDisks,
-        rows: &[
+    )?)
+}
+
+// Thirty disks, vd2 to vd31, each attached at the slot of its number.
+#[test]
+fn one_disk_too_many(rt: HostRuntime) -> Result<(), Fail> {
+    Ok(shows(
+        &rt,
+        rt.alloc(),
+        Begins::FullOfDisks,
+        &[
             (Call(Attach("vda")), &[], "| 209 | running"),
             (
                 Call(Detach("vd5")),
@@ -56,11 +63,16 @@ const DEVICES: &[Story] = &[
             ),
             (Call(Attach("vdb")), &[], "| 209 | running"),
         ],
-    },
-    Story {
-        name: "devices that are there and that are not",
-        begins: Begins::Running,
-        rows: &[
+    )?)
+}
+
+#[test]
+fn devices_that_are_there_and_that_are_not(rt: HostRuntime) -> Result<(), Fail> {
+    Ok(shows(
+        &rt,
+        rt.alloc(),
+        Begins::Running,
+        &[
             (
                 Call(Attach("vda")),
                 &[Done, Done],
@@ -76,11 +88,16 @@ const DEVICES: &[Story] = &[
             (Event(GuestEvent::DeviceDeleted(2)), &[], "| running"),
             (Call(Detach("vda")), &[], "| 8 vda | running"),
         ],
-    },
-    Story {
-        name: "an interface on a network gets an address first",
-        begins: Begins::Running,
-        rows: &[
+    )?)
+}
+
+#[test]
+fn an_interface_on_a_network_gets_an_address_first(rt: HostRuntime) -> Result<(), Fail> {
+    Ok(shows(
+        &rt,
+        rt.alloc(),
+        Begins::Running,
+        &[
             (
                 Call(AttachInterface),
                 &[Refused(12)],
@@ -93,11 +110,16 @@ const DEVICES: &[Story] = &[
             ),
             (Call(AttachInterface), &[], "| 55 running | running"),
         ],
-    },
-    Story {
-        name: "memory and processors within the definition",
-        begins: Begins::Running,
-        rows: &[
+    )?)
+}
+
+#[test]
+fn memory_and_processors_within_the_definition(rt: HostRuntime) -> Result<(), Fail> {
+    Ok(shows(
+        &rt,
+        rt.alloc(),
+        Begins::Running,
+        &[
             (
                 Call(SetMemory(1024)),
                 &[Done],
@@ -107,10 +129,5 @@ const DEVICES: &[Story] = &[
             (Call(SetVcpus(0)), &[], "| 8 0 1 | running"),
             (Call(Kick(6)), &[], "| 8 6 5 | running"),
         ],
-    },
-];
-
-#[test]
-fn devices_come_and_go(rt: HostRuntime) -> Result<(), Fail> {
-    Ok(all_show(&rt, rt.alloc(), DEVICES)?)
+    )?)
 }

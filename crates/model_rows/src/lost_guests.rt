@@ -2,24 +2,31 @@
 use crate::steps::Asked::{Attach, Destroy, Start, Suspend};
 use crate::steps::Said::{Crashed, Done, Lost, Refused};
 use crate::steps::Step::{Call, CallOn, Exit, MetByEnd};
-use crate::stories::{Begins, Story, all_show};
+use crate::stories::{Begins, shows};
 use std::test::Fail;
 use virt_types::EndReason;
 
-const LOST: &[Story] = &[
-    Story {
-        name: "boot 1 command 1 end",
-        begins: Begins::Defined,
-        rows: &[(
+#[test]
+fn boot_1_command_1_end(rt: HostRuntime) -> Result<(), Fail> {
+    Ok(shows(
+        &rt,
+        rt.alloc(),
+        Begins::Defined,
+        &[(
             Call(Start),
             &[Done, Crashed],
             "make: Make(1) | run: QueryStatus (5,2) | 201 boot 1 | shut off",
         )],
-    },
-    Story {
-        name: "boot 1 command 2 end",
-        begins: Begins::Defined,
-        rows: &[
+    )?)
+}
+
+#[test]
+fn boot_1_command_2_end(rt: HostRuntime) -> Result<(), Fail> {
+    Ok(shows(
+        &rt,
+        rt.alloc(),
+        Begins::Defined,
+        &[
             (
                 Call(Start),
                 &[Done, Done, Crashed],
@@ -31,11 +38,16 @@ const LOST: &[Story] = &[
                 "make: Make(2) | run: QueryStatus Cont (2,0) | Ok | running",
             ),
         ],
-    },
-    Story {
-        name: "boot 1 command 3 end",
-        begins: Begins::Defined,
-        rows: &[
+    )?)
+}
+
+#[test]
+fn boot_1_command_3_end(rt: HostRuntime) -> Result<(), Fail> {
+    Ok(shows(
+        &rt,
+        rt.alloc(),
+        Begins::Defined,
+        &[
             (
                 Call(Start),
                 &[Done, Done, Done],
@@ -47,11 +59,16 @@ const LOST: &[Story] = &[
                 "Stop (5,2) | 201 boot 1 | shut off",
             ),
         ],
-    },
-    Story {
-        name: "boot 1 command 4 end",
-        begins: Begins::Running,
-        rows: &[
+    )?)
+}
+
+#[test]
+fn boot_1_command_4_end(rt: HostRuntime) -> Result<(), Fail> {
+    Ok(shows(
+        &rt,
+        rt.alloc(),
+        Begins::Running,
+        &[
             (
                 MetByEnd(EndReason::Crashed, Attach("vda")),
                 &[Done, Crashed],
@@ -63,11 +80,16 @@ const LOST: &[Story] = &[
                 "make: Make(2) | run: QueryStatus Cont (2,0) | Ok | running",
             ),
         ],
-    },
-    Story {
-        name: "boot 1 command 4 refuse",
-        begins: Begins::Running,
-        rows: &[
+    )?)
+}
+
+#[test]
+fn boot_1_command_4_refuse(rt: HostRuntime) -> Result<(), Fail> {
+    Ok(shows(
+        &rt,
+        rt.alloc(),
+        Begins::Running,
+        &[
             (
                 Call(Attach("vda")),
                 &[Done, Refused(1), Done],
@@ -79,19 +101,29 @@ const LOST: &[Story] = &[
                 "AddBackend(2) AddDevice(2) | Ok | running",
             ),
         ],
-    },
-    Story {
-        name: "boot 1 command 3 lost",
-        begins: Begins::Running,
-        rows: &[
+    )?)
+}
+
+#[test]
+fn boot_1_command_3_lost(rt: HostRuntime) -> Result<(), Fail> {
+    Ok(shows(
+        &rt,
+        rt.alloc(),
+        Begins::Running,
+        &[
             (Call(Suspend), &[Lost], "Stop | 202 | running"),
             (Exit(EndReason::Lost), &[], "(5,5) | shut off"),
         ],
-    },
-    Story {
-        name: "calls whose boot is gone",
-        begins: Begins::Running,
-        rows: &[
+    )?)
+}
+
+#[test]
+fn calls_whose_boot_is_gone(rt: HostRuntime) -> Result<(), Fail> {
+    Ok(shows(
+        &rt,
+        rt.alloc(),
+        Begins::Running,
+        &[
             (
                 MetByEnd(EndReason::Killed, Suspend),
                 &[Done],
@@ -107,10 +139,5 @@ const LOST: &[Story] = &[
             (CallOn(Some(1), Suspend), &[Done], "| 201 boot 1 | running"),
             (CallOn(Some(1), Destroy), &[Done], "| Ok | running"),
         ],
-    },
-];
-
-#[test]
-fn calls_meet_the_end_of_their_guest(rt: HostRuntime) -> Result<(), Fail> {
-    Ok(all_show(&rt, rt.alloc(), LOST)?)
+    )?)
 }

@@ -4,16 +4,18 @@ use crate::steps::Asked::{
 };
 use crate::steps::Said::{CopiedLarge, Done, Number, Refused};
 use crate::steps::Step::{Call, Event, Exit, GoOn};
-use crate::stories::{Begins, Story, all_show};
+use crate::stories::{Begins, shows};
 use std::test::Fail;
 use virt_types::{EndReason, GuestEvent};
 
-const MOVES: &[Story] = &[
-    // A script: `slow 3`.
-    Story {
-        name: "a guest goes on at the other host",
-        begins: Begins::Running,
-        rows: &[
+// A script: `slow 3`.
+#[test]
+fn a_guest_goes_on_at_the_other_host(rt: HostRuntime) -> Result<(), Fail> {
+    Ok(shows(
+        &rt,
+        rt.alloc(),
+        Begins::Running,
+        &[
             (
                 Call(Perform),
                 &[Done, Number(2), Number(1), Number(0), Done, CopiedLarge],
@@ -29,11 +31,16 @@ const MOVES: &[Story] = &[
                 "mquit: Quit (5,3) | Ok | shut off",
             ),
         ],
-    },
-    Story {
-        name: "a guest goes on here after all",
-        begins: Begins::Running,
-        rows: &[
+    )?)
+}
+
+#[test]
+fn a_guest_goes_on_here_after_all(rt: HostRuntime) -> Result<(), Fail> {
+    Ok(shows(
+        &rt,
+        rt.alloc(),
+        Begins::Running,
+        &[
             (
                 Call(Perform),
                 &[Done, Number(0), Done, CopiedLarge],
@@ -51,11 +58,16 @@ const MOVES: &[Story] = &[
             ),
             (Call(Confirm(false)), &[], "| 55 running | running"),
         ],
-    },
-    Story {
-        name: "a limit of 2 spares a poll",
-        begins: Begins::Running,
-        rows: &[
+    )?)
+}
+
+#[test]
+fn a_limit_of_2_spares_a_poll(rt: HostRuntime) -> Result<(), Fail> {
+    Ok(shows(
+        &rt,
+        rt.alloc(),
+        Begins::Running,
+        &[
             (Call(Limit(2)), &[], "| 55 running | running"),
             (
                 Call(Perform),
@@ -74,11 +86,16 @@ const MOVES: &[Story] = &[
                 "poll: CopyPoll | mtake: Stop CopyTake (3,0) | rests Ok running 0000000000100000 | paused",
             ),
         ],
-    },
-    Story {
-        name: "a guest that is not to leave after all was never stopped",
-        begins: Begins::Running,
-        rows: &[
+    )?)
+}
+
+#[test]
+fn a_guest_that_is_not_to_leave_after_all_was_never_stopped(rt: HostRuntime) -> Result<(), Fail> {
+    Ok(shows(
+        &rt,
+        rt.alloc(),
+        Begins::Running,
+        &[
             (
                 Call(Perform),
                 &[Done, Number(2)],
@@ -91,20 +108,30 @@ const MOVES: &[Story] = &[
                 "poll: | mcancel: CopyCancel | 78 | running",
             ),
         ],
-    },
-    Story {
-        name: "a guest whose state can't be taken goes on",
-        begins: Begins::Running,
-        rows: &[(
+    )?)
+}
+
+#[test]
+fn a_guest_whose_state_can_not_be_taken_goes_on(rt: HostRuntime) -> Result<(), Fail> {
+    Ok(shows(
+        &rt,
+        rt.alloc(),
+        Begins::Running,
+        &[(
             Call(Perform),
             &[Done, Number(0), Done, Refused(1), Done, Done],
             "mcopy: CopyBegin | poll: CopyPoll | mtake: Stop CopyTake Cont | mcancel: CopyCancel | 9 class 1 | running",
         )],
-    },
-    Story {
-        name: "a guest comes from another host",
-        begins: Begins::Defined,
-        rows: &[
+    )?)
+}
+
+#[test]
+fn a_guest_comes_from_another_host(rt: HostRuntime) -> Result<(), Fail> {
+    Ok(shows(
+        &rt,
+        rt.alloc(),
+        Begins::Defined,
+        &[
             (
                 Call(PrepareRunning),
                 &[Done, Done],
@@ -118,11 +145,16 @@ const MOVES: &[Story] = &[
             ),
             (Call(PrepareRunning), &[], "| 55 running | running"),
         ],
-    },
-    Story {
-        name: "a guest that was paused comes paused",
-        begins: Begins::Defined,
-        rows: &[
+    )?)
+}
+
+#[test]
+fn a_guest_that_was_paused_comes_paused(rt: HostRuntime) -> Result<(), Fail> {
+    Ok(shows(
+        &rt,
+        rt.alloc(),
+        Begins::Defined,
+        &[
             (
                 Call(PreparePaused),
                 &[Done, Done],
@@ -130,11 +162,18 @@ const MOVES: &[Story] = &[
             ),
             (Call(Finish(true)), &[], "mrun: (2,1) (3,0) | Ok | paused"),
         ],
-    },
-    Story {
-        name: "a guest that came is given up, and another can't be loaded",
-        begins: Begins::Vacant(4),
-        rows: &[
+    )?)
+}
+
+#[test]
+fn a_guest_that_came_is_given_up_and_another_can_not_be_loaded(
+    rt: HostRuntime,
+) -> Result<(), Fail> {
+    Ok(shows(
+        &rt,
+        rt.alloc(),
+        Begins::Vacant(4),
+        &[
             (
                 Call(PrepareRunning),
                 &[Done, Done],
@@ -151,11 +190,16 @@ const MOVES: &[Story] = &[
                 "make: Make(6) | mload: LoadState(8) Quit (5,5) | 9 class 1 | vacant",
             ),
         ],
-    },
-    Story {
-        name: "a guest ends that came",
-        begins: Begins::Vacant(0),
-        rows: &[
+    )?)
+}
+
+#[test]
+fn a_guest_ends_that_came(rt: HostRuntime) -> Result<(), Fail> {
+    Ok(shows(
+        &rt,
+        rt.alloc(),
+        Begins::Vacant(0),
+        &[
             (
                 Call(PrepareRunning),
                 &[Done, Done],
@@ -165,10 +209,5 @@ const MOVES: &[Story] = &[
             (Call(Finish(true)), &[], "mrun: | 201 boot 1 | vacant"),
             (Call(Finish(true)), &[], "| 42 | vacant"),
         ],
-    },
-];
-
-#[test]
-fn guests_are_moved_between_hosts(rt: HostRuntime) -> Result<(), Fail> {
-    Ok(all_show(&rt, rt.alloc(), MOVES)?)
+    )?)
 }

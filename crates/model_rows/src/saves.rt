@@ -2,14 +2,16 @@
 use crate::steps::Asked::{Dump, RestorePaused, RestoreRunning, Save};
 use crate::steps::Said::{Copied, CopiedLong, Done, Number, Refused};
 use crate::steps::Step::Call;
-use crate::stories::{Begins, Story, all_show};
+use crate::stories::{Begins, shows};
 use std::test::Fail;
 
-const SAVES: &[Story] = &[
-    Story {
-        name: "a guest is saved and restored",
-        begins: Begins::Running,
-        rows: &[
+#[test]
+fn a_guest_is_saved_and_restored(rt: HostRuntime) -> Result<(), Fail> {
+    Ok(shows(
+        &rt,
+        rt.alloc(),
+        Begins::Running,
+        &[
             (
                 Call(Save("s")),
                 &[Done, Done, Number(0), Copied, Done, Done],
@@ -22,11 +24,16 @@ const SAVES: &[Story] = &[
             ),
             (Call(RestoreRunning), &[], "| 55 running | running"),
         ],
-    },
-    Story {
-        name: "a guest that was saved paused is restored paused",
-        begins: Begins::Defined,
-        rows: &[
+    )?)
+}
+
+#[test]
+fn a_guest_that_was_saved_paused_is_restored_paused(rt: HostRuntime) -> Result<(), Fail> {
+    Ok(shows(
+        &rt,
+        rt.alloc(),
+        Begins::Defined,
+        &[
             (
                 Call(RestorePaused),
                 &[Done, Done],
@@ -38,11 +45,16 @@ const SAVES: &[Story] = &[
                 "copy: CopyBegin | poll: CopyPoll | take: CopyTake WriteImage(paused 8) | quit: Quit (5,4) | Ok | shut off",
             ),
         ],
-    },
-    Story {
-        name: "more than 4096 bytes are no state",
-        begins: Begins::Running,
-        rows: &[
+    )?)
+}
+
+#[test]
+fn more_than_4096_bytes_are_no_state(rt: HostRuntime) -> Result<(), Fail> {
+    Ok(shows(
+        &rt,
+        rt.alloc(),
+        Begins::Running,
+        &[
             (
                 Call(Dump("d")),
                 &[Done, Done, Number(0), CopiedLong(4096), Done, Done],
@@ -54,19 +66,19 @@ const SAVES: &[Story] = &[
                 "copy: Stop CopyBegin (3,0) | poll: CopyPoll | take: CopyTake WriteImage(running 0) Cont (4,0) | Ok | running",
             ),
         ],
-    },
-    Story {
-        name: "a state that is refused leaves no guest",
-        begins: Begins::Defined,
-        rows: &[(
+    )?)
+}
+
+#[test]
+fn a_state_that_is_refused_leaves_no_guest(rt: HostRuntime) -> Result<(), Fail> {
+    Ok(shows(
+        &rt,
+        rt.alloc(),
+        Begins::Defined,
+        &[(
             Call(RestoreRunning),
             &[Done, Refused(1), Done],
             "make: Make(1) | load: LoadState(8) Quit (5,5) | 9 class 1 | shut off",
         )],
-    },
-];
-
-#[test]
-fn guests_are_saved_and_restored(rt: HostRuntime) -> Result<(), Fail> {
-    Ok(all_show(&rt, rt.alloc(), SAVES)?)
+    )?)
 }

@@ -5,14 +5,16 @@ use crate::steps::Asked::{
 };
 use crate::steps::Said::{Copied, Done, Number};
 use crate::steps::Step::{Call, Snapshots};
-use crate::stories::{Begins, Story, all_show};
+use crate::stories::{Begins, shows};
 use std::test::Fail;
 
-const SNAPSHOTS: &[Story] = &[
-    Story {
-        name: "children take the parent of a snapshot that goes",
-        begins: Begins::WithThree,
-        rows: &[
+#[test]
+fn children_take_the_parent_of_a_snapshot_that_goes(rt: HostRuntime) -> Result<(), Fail> {
+    Ok(shows(
+        &rt,
+        rt.alloc(),
+        Begins::WithThree,
+        &[
             (Call(SnapDelete("s2")), &[], "| Ok | running"),
             (Snapshots, &[], "s1 | s3 of s1 | current s3"),
             (
@@ -23,22 +25,32 @@ const SNAPSHOTS: &[Story] = &[
             (Snapshots, &[], "s1 | s3 of s1 | current s1"),
             (Call(Snapshot("s1")), &[], "| 208 s1 | running"),
         ],
-    },
-    Story {
-        name: "children go with a snapshot",
-        begins: Begins::WithThree,
-        rows: &[
+    )?)
+}
+
+#[test]
+fn children_go_with_a_snapshot(rt: HostRuntime) -> Result<(), Fail> {
+    Ok(shows(
+        &rt,
+        rt.alloc(),
+        Begins::WithThree,
+        &[
             (Call(SnapDeleteChildren("s2")), &[], "| Ok | running"),
             (Snapshots, &[], "s1 | current s1"),
             (Call(SnapDelete("s2")), &[], "| 72 s2 | running"),
             (Call(SnapDelete("s1")), &[], "| Ok | running"),
             (Snapshots, &[], "none current"),
         ],
-    },
-    Story {
-        name: "an inactive domain goes back to a guest",
-        begins: Begins::WithThree,
-        rows: &[
+    )?)
+}
+
+#[test]
+fn an_inactive_domain_goes_back_to_a_guest(rt: HostRuntime) -> Result<(), Fail> {
+    Ok(shows(
+        &rt,
+        rt.alloc(),
+        Begins::WithThree,
+        &[
             (Call(Destroy), &[Done], "Quit | Ok (5,1) | shut off"),
             (Call(Undefine), &[], "| 55 shut off | shut off"),
             (
@@ -48,11 +60,16 @@ const SNAPSHOTS: &[Story] = &[
             ),
             (Snapshots, &[], "s1 | s2 of s1 | s3 of s2 | current s1"),
         ],
-    },
-    Story {
-        name: "a snapshot without a guest",
-        begins: Begins::Defined,
-        rows: &[
+    )?)
+}
+
+#[test]
+fn a_snapshot_without_a_guest(rt: HostRuntime) -> Result<(), Fail> {
+    Ok(shows(
+        &rt,
+        rt.alloc(),
+        Begins::Defined,
+        &[
             (Call(Snapshot("s")), &[], "take: | Ok s | shut off"),
             (Call(Revert("s")), &[], "nothing: | Ok | shut off"),
             (
@@ -66,11 +83,16 @@ const SNAPSHOTS: &[Story] = &[
                 "quit: Quit (5,6) | Ok | shut off",
             ),
         ],
-    },
-    Story {
-        name: "a guest that was paused is gone back to paused",
-        begins: Begins::Running,
-        rows: &[
+    )?)
+}
+
+#[test]
+fn a_guest_that_was_paused_is_gone_back_to_paused(rt: HostRuntime) -> Result<(), Fail> {
+    Ok(shows(
+        &rt,
+        rt.alloc(),
+        Begins::Running,
+        &[
             (Call(Suspend), &[Done], "Stop | Ok (3,0) | paused"),
             (
                 Call(Snapshot("s")),
@@ -84,24 +106,29 @@ const SNAPSHOTS: &[Story] = &[
                 "load: Stop LoadState(8) (5,6) (2,3) (3,0) | Ok | paused",
             ),
         ],
-    },
-    Story {
-        name: "snapshots without a name",
-        begins: Begins::Defined,
-        rows: &[
+    )?)
+}
+
+#[test]
+fn snapshots_without_a_name(rt: HostRuntime) -> Result<(), Fail> {
+    Ok(shows(
+        &rt,
+        rt.alloc(),
+        Begins::Defined,
+        &[
             (Call(SnapshotUnnamed), &[], "take: | Ok snap1 | shut off"),
             (Call(SnapshotUnnamed), &[], "take: | Ok snap2 | shut off"),
             (Snapshots, &[], "snap1 | snap2 of snap1 | current snap2"),
         ],
-    },
-    Story {
-        name: "a snapshot beside 64 others",
-        begins: Begins::FullOfSnapshots,
-        rows: &[(Call(SnapshotUnnamed), &[], "| 204 64 | shut off")],
-    },
-];
+    )?)
+}
 
 #[test]
-fn snapshots_are_taken_deleted_and_gone_back_to(rt: HostRuntime) -> Result<(), Fail> {
-    Ok(all_show(&rt, rt.alloc(), SNAPSHOTS)?)
+fn a_snapshot_beside_64_others(rt: HostRuntime) -> Result<(), Fail> {
+    Ok(shows(
+        &rt,
+        rt.alloc(),
+        Begins::FullOfSnapshots,
+        &[(Call(SnapshotUnnamed), &[], "| 204 64 | shut off")],
+    )?)
 }

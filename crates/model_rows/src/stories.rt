@@ -1,9 +1,9 @@
-// Stories: a cell as it is at first, and what it shows at one step after the other.
+// What a cell is at first, and what it shows at one step after the other.
 use crate::cell::Cell;
 use crate::fixtures::{defined, disk, full_of_snapshots, on_network, running, vacant};
 use crate::steps::Asked::{Save, Snapshot};
 use crate::steps::Said::{Copied, Done, Number};
-use crate::steps::{Row, Said, Step};
+use crate::steps::{Row, Step};
 use std::alloc::Global;
 use std::process::Abort;
 use virt_types::{Answer, AnswerValue, Call, NoMemory};
@@ -29,14 +29,6 @@ pub(crate) enum Begins {
     Stalling,
 }
 
-/// A cell, and what it shows at one step after the other.
-#[derive(Clone, Copy)]
-pub(crate) struct Story {
-    pub(crate) name: &'static str,
-    pub(crate) begins: Begins,
-    pub(crate) rows: &'static [Row],
-}
-
 fn full_of_disks(rt: &impl Abort, alloc: Global) -> Result<Cell, NoMemory> {
     let mut a = running(alloc)?;
     let answers = [
@@ -53,54 +45,59 @@ fn full_of_disks(rt: &impl Abort, alloc: Global) -> Result<Cell, NoMemory> {
     Ok(a)
 }
 
-const SNAPSHOT: &[Said] = &[Done, Done, Number(0), Copied, Done];
-
-const THREE: &[Row] = &[
-    (
-        Step::Call(Snapshot("s1")),
-        SNAPSHOT,
-        "copy: Stop CopyBegin (3,0) | poll: CopyPoll | take: CopyTake Cont (4,0) | Ok s1 | running",
-    ),
-    (
-        Step::Call(Snapshot("s2")),
-        SNAPSHOT,
-        "copy: Stop CopyBegin (3,0) | poll: CopyPoll | take: CopyTake Cont (4,0) | Ok s2 | running",
-    ),
-    (
-        Step::Call(Snapshot("s3")),
-        SNAPSHOT,
-        "copy: Stop CopyBegin (3,0) | poll: CopyPoll | take: CopyTake Cont (4,0) | Ok s3 | running",
-    ),
-    (
-        Step::Snapshots,
-        &[],
-        "s1 | s2 of s1 | s3 of s2 | current s3",
-    ),
-];
+// One more snapshot of `a`, as it runs.
+fn take_snapshot(
+    rt: &impl Abort,
+    alloc: Global,
+    a: &mut Cell,
+    name: &'static str,
+    wanted: &'static str,
+) -> Result<(), NoMemory> {
+    let said = &[Done, Done, Number(0), Copied, Done];
+    a.shows(rt, alloc, (Step::Call(Snapshot(name)), said, wanted))
+}
 
 fn with_three(rt: &impl Abort, alloc: Global) -> Result<Cell, NoMemory> {
     let mut a = running(alloc)?;
-    show(rt, alloc, &mut a, "three snapshots", THREE)?;
+    take_snapshot(
+        rt,
+        alloc,
+        &mut a,
+        "s1",
+        "copy: Stop CopyBegin (3,0) | poll: CopyPoll | take: CopyTake Cont (4,0) | Ok s1 | running",
+    )?;
+    take_snapshot(
+        rt,
+        alloc,
+        &mut a,
+        "s2",
+        "copy: Stop CopyBegin (3,0) | poll: CopyPoll | take: CopyTake Cont (4,0) | Ok s2 | running",
+    )?;
+    take_snapshot(
+        rt,
+        alloc,
+        &mut a,
+        "s3",
+        "copy: Stop CopyBegin (3,0) | poll: CopyPoll | take: CopyTake Cont (4,0) | Ok s3 | running",
+    )?;
     Ok(a)
 }
 
-const BEGUN: &[Row] = &[(
-    Step::Call(Save("s")),
-    &[Done, Done, Number(5)],
-    "copy: Stop CopyBegin (3,0) | poll: CopyPoll | due poll | paused",
-)];
-
-const POLLED: &[Row] = &[(
-    Step::GoOn,
-    &[Number(5)],
-    "poll: CopyPoll | due poll | paused",
-)];
-
 fn stalling(rt: &impl Abort, alloc: Global) -> Result<Cell, NoMemory> {
     let mut a = running(alloc)?;
-    show(rt, alloc, &mut a, "a save", BEGUN)?;
+    let begun: Row = (
+        Step::Call(Save("s")),
+        &[Done, Done, Number(5)],
+        "copy: Stop CopyBegin (3,0) | poll: CopyPoll | due poll | paused",
+    );
+    a.shows(rt, alloc, begun)?;
+    let polled: Row = (
+        Step::GoOn,
+        &[Number(5)],
+        "poll: CopyPoll | due poll | paused",
+    );
     for _ in 0..63 {
-        show(rt, alloc, &mut a, "a save that makes no headway", POLLED)?;
+        a.shows(rt, alloc, polled)?;
     }
     Ok(a)
 }
@@ -118,24 +115,16 @@ fn cell_of(rt: &impl Abort, alloc: Global, begins: Begins) -> Result<Cell, NoMem
     }
 }
 
-fn show(
+/// The cell is so at first, and has each row at one step after the other.
+pub(crate) fn shows(
     rt: &impl Abort,
     alloc: Global,
-    cell: &mut Cell,
-    name: &str,
+    begins: Begins,
     rows: &[Row],
 ) -> Result<(), NoMemory> {
+    let mut cell = cell_of(rt, alloc, begins)?;
     for row in rows {
-        cell.shows(rt, alloc, name, *row)?;
-    }
-    Ok(())
-}
-
-/// Each story goes as it is told.
-pub(crate) fn all_show(rt: &impl Abort, alloc: Global, stories: &[Story]) -> Result<(), NoMemory> {
-    for story in stories {
-        let mut cell = cell_of(rt, alloc, story.begins)?;
-        show(rt, alloc, &mut cell, story.name, story.rows)?;
+        cell.shows(rt, alloc, *row)?;
     }
     Ok(())
 }
