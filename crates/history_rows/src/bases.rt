@@ -135,7 +135,7 @@ fn saving(alloc: Global) -> Result<State, NoMemory> {
     domain(
         alloc,
         Some(RunState::Paused(Cause::Job)),
-        ListOf::new(alloc),
+        SnapList::new(),
         None,
         Some(save()),
     )
