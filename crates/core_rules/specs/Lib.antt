@@ -5,4 +5,3 @@ pub mod Next
 pub mod Place
 pub mod Reasons
 pub mod Refusing
-pub mod Slots

@@ -1,9 +1,11 @@
 // Where the ask that is next stands in a plan.
 ghost use Rattle.std.specs.Prelude.{◌≡◌, ◌<◌, length};
-ghost use Rattle.domain_spec.specs.Asks.{first_bad};
-ghost use Rattle.core_rules.specs.Place.{place_after, place_behind};
+ghost use Rattle.domain_spec.specs.Asks.{asks_left, first_bad};
+ghost use Rattle.core_rules.specs.Next.{next_of};
+ghost use Rattle.core_rules.specs.Place.{next_at, place_after, place_behind};
 
 use crate::answers::{bad_place, first_bad, is_undone};
+use domain_spec::PlannedAsk;
 use virt_types::Answer;
 
 /// Where the ask that is next stands in a plan.
@@ -52,3 +54,9 @@ fn place_behind(answers: &[Answer], of: usize) -> Place
         }
     }
 }
+
+/// The ask that is next of those left of a plan is the one at that place.
+#[tactic(auto, using(crate::proofs::NextAsk::next_is_at))]
+pub fn next_is_at(plan: &[PlannedAsk], answers: &[Answer])
+    ensures { next_of (asks_left plan.now answers.now) ≡ next_at plan.now (place_after answers.now) }
+{}

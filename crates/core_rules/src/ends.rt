@@ -181,10 +181,10 @@ impl PhaseTexts {
 
 /// A call that carries a boot which is not live: a Destroy has what it wanted, others are told that
 /// it ended, and nothing changes.
-pub fn call_ended(_state: &State, call: &Call, boot: Option<u64>, texts: Texts) -> CallEnd
-    ensures reply { Says result (ended_step _state.now call.now boot).reply }
-    ensures state { (ended_step _state.now call.now boot).state ≡ _state.now }
-    ensures transitions { (ended_step _state.now call.now boot).transitions ≡ [] }
+pub fn call_ended(state: &State, call: &Call, boot: Option<u64>, texts: Texts) -> CallEnd
+    ensures reply { Says result (ended_step state.now call.now boot).reply }
+    ensures state { (ended_step state.now call.now boot).state ≡ state.now }
+    ensures transitions { (ended_step state.now call.now boot).transitions ≡ [] }
 {
     match call {
         Call::Destroy => CallEnd::done(),

@@ -24,7 +24,7 @@ pub use answers::{
 };
 pub use call_reading::{is_on_stored, meets_ended, operation_begun};
 pub use cores::{Core, core_due, core_of_call, core_of_phase};
-pub use course::{Place, place_after};
+pub use course::{Place, next_is_at, place_after};
 pub use ends::{CallEnd, PhaseEnd, PhaseTexts, Texts, call_ended};
 pub use kept::KeptText;
 pub use next::Next;
