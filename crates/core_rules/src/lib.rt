@@ -8,6 +8,7 @@
 
 mod answers;
 mod call_reading;
+mod checks;
 mod cores;
 mod course;
 mod ends;
@@ -23,6 +24,9 @@ pub use answers::{
     bad_place, failure_of, first_bad, first_value, is_ok_answer, is_undone, last_value,
 };
 pub use call_reading::{is_on_stored, meets_ended, operation_begun};
+pub use checks::{
+    Check, active, crashed, first_failing, inactive, invalid_if, moved, none_stored, outside, spent,
+};
 pub use cores::{Core, core_due, core_of_call, core_of_phase};
 pub use course::{Place, next_is_at, place_after};
 pub use ends::{CallEnd, PhaseEnd, PhaseTexts, Texts, call_ended};
