@@ -127,6 +127,7 @@ impl KeptText {
     }
 
     /// A refusal that keeps of this text the longest front of whole characters within 1,024 bytes.
+    #[tactic(auto, unfolding(virt_types::specs::Refusal::kept_cut))]
     pub fn cut(self, code: RefusalCode, text: &str) -> Refusal
         ensures { result ≡ refusal code (kept_cut text.now) }
     {
