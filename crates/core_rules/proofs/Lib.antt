@@ -1,3 +1,4 @@
 pub mod NextAsk
+pub mod Plans
 pub mod RefusedKinds
 pub mod SlotCounts
