@@ -1,3 +1,4 @@
+pub mod Answered
 pub mod NextAsk
 pub mod Plans
 pub mod RefusedKinds

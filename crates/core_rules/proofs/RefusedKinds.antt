@@ -1,5 +1,6 @@
 -- A phase that was refused leaves what its kind says.
 use Rattle.std.proofs.Common.{◌≡◌, ◌∷◌, ◌++◌, ◌∙◌, [], List, Bool, true, false, Option, None, Some, if◌then◌else◌, refl, sym, ap}
+use Rattle.std.proofs.lemmas.List.{append-nil}
 use Rattle.domain_spec.specs.Types.{Domain, Live, Op, Phase, Refusal, State, Transition}
 use Rattle.domain_spec.specs.Types.phase
 use Rattle.domain_spec.specs.Types.reason
@@ -101,4 +102,4 @@ refused_by_kind (state.Held d) r = by_operation d d.op r refl
 pub quiet : (s : State) (r : Refusal) (k : Refused) (told : List Transition) → k ≡ refused_kind s → (refused_so k s r).transitions ≡ [] → told ≡ told ++ (refused_in s r).transitions
 quiet s r k told e nothing =
     let same : (refused_in s r).transitions ≡ [] = ap (λ step. step.transitions) (refused_by_kind s r) ∙ (sym (ap (λ kind. (refused_so kind s r).transitions) e) ∙ nothing) in
-    sym (ap (λ events. told ++ events) same ∙ append_nil told)
+    sym (ap (λ events. told ++ events) same ∙ append-nil told)

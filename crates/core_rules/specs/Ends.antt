@@ -1,6 +1,6 @@
 -- What a phase leaves that was refused, in the state where its operation is.
-use Rattle.std.specs.Prelude.{[], ◌∷◌, Bool, false, is_some, Option, None, Some, if◌then◌else◌}
-use Rattle.domain_spec.specs.Types.{Answer, Domain, Op, Refusal, State}
+use Rattle.std.specs.Prelude.{List, [], ◌∷◌, Bool, false, is_some, Option, None, Some, if◌then◌else◌}
+use Rattle.domain_spec.specs.Types.{Answer, Call, Domain, Op, Refusal, State}
 use Rattle.domain_spec.specs.Types.reason
 use Rattle.domain_spec.specs.Types.reply
 use Rattle.domain_spec.specs.Types.state
@@ -10,8 +10,8 @@ use Rattle.domain_spec.specs.Asks.{is_undone}
 use Rattle.domain_spec.specs.CopyResult.{cancels, over}
 use Rattle.domain_spec.specs.Exit.{exit_state}
 use Rattle.domain_spec.specs.Migration.{rests}
-use Rattle.domain_spec.specs.Phase.{phase_refused}
-use Rattle.domain_spec.specs.Refusals.{failure_of, monitor_lost}
+use Rattle.domain_spec.specs.Phase.{phase_done, phase_refused}
+use Rattle.domain_spec.specs.Refusals.{failure_of, monitor_lost, no_domain}
 
 -- the domain has an operation
 abbrev pub has_operation : State → Bool
@@ -27,6 +27,16 @@ refused_on d (Some op) r = phase_refused d d.live op r
 unfoldable pub refused_in : State → Refusal → PhaseStep
 refused_in (state.Vacant boots) r = over (state.Vacant boots) [] (reply.No r)
 refused_in (state.Held d) r = refused_on d d.op r
+
+-- the due phase, where each answer is Ok; without an operation there is no domain for it
+abbrev pub done_on : Domain → Option Op → Call → List Answer → PhaseStep
+done_on d None c answers = over (state.Held d) [] (reply.No no_domain)
+done_on d (Some op) c answers = phase_done d d.live op c answers
+
+-- the due phase of this state, where each answer is Ok
+abbrev pub done_in : State → Call → List Answer → PhaseStep
+done_in (state.Vacant boots) c answers = over (state.Vacant boots) [] (reply.No no_domain)
+done_in (state.Held d) c answers = done_on d d.op c answers
 
 -- an ask of the due phase was answered so, and that is not Ok; after Lost nothing changes but that
 -- the boot's end is marked

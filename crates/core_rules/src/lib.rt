@@ -35,7 +35,8 @@ pub use kept::KeptText;
 pub use leases::{has_lease, lease_of};
 pub use next::Next;
 pub use phases::{
-    cancels, end_guest, goes_on, phase_ended, phase_failed, phase_refused, rests, start_failed,
+    cancels, end_guest, goes_on, phase_course, phase_ended, phase_failed, phase_refused, rests,
+    start_failed,
 };
 pub use reading::{
     boot_in, carries_ended, has_crashed, has_moved, has_operation, id_of, is_crashed,

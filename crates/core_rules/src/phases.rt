@@ -1,11 +1,14 @@
 // How phases of operations end, in place and without memory.
-ghost use Rattle.std.specs.Prelude.{◌≡◌, ◌++◌, ◌≤◌, [], Some, true};
-ghost use Rattle.domain_spec.specs.CopyResult.{cancel_phase};
+ghost use Rattle.std.specs.Prelude.{◌≡◌, ◌++◌, ◌≤◌, [], None, Some, false, true};
+ghost use Rattle.domain_spec.specs.CopyResult.{cancel_phase, over};
 ghost use Rattle.domain_spec.specs.Exit.{exit_state};
-ghost use Rattle.domain_spec.specs.Phase.{ended_reply, quit_was_done};
+ghost use Rattle.domain_spec.specs.Phase.{ended_reply, phase_of, quit_was_done};
+ghost use Rattle.domain_spec.specs.Asks.{first_bad};
+ghost use Rattle.domain_spec.specs.Reading.{carries_ended};
+ghost use Rattle.domain_spec.specs.Types.{Answer as TheAnswer};
 ghost use Rattle.domain_spec.specs.Types.phase;
 ghost use Rattle.domain_spec.specs.declared.step.Outcome.TheVariants as outcome;
-ghost use Rattle.core_rules.specs.Ends.{failed_in, gives_up_in, refused_in, rests_in, start_failed_in};
+ghost use Rattle.core_rules.specs.Ends.{done_in, failed_in, gives_up_in, has_operation, refused_in, rests_in, start_failed_in};
 ghost use Rattle.core_rules.specs.Led.{Says, led_in};
 ghost use Rattle.core_rules.specs.Reasons.{refusal_for};
 
@@ -225,3 +228,12 @@ pub fn phase_ended(operation: &OpenOperation, answers: &[Answer], texts: Texts) 
         }
     }
 }
+
+/// What the due phase of an operation leaves: its reply where its boot has ended; where its boot is
+/// live, what its first answer that is not Ok makes of it, or its own step.
+#[tactic(auto, using(crate::proofs::Answered::phase_not_live, crate::proofs::Answered::phase_fails, crate::proofs::Answered::phase_goes_through))]
+pub fn phase_course(state: &State, operation: &OpenOperation, answers: &[Answer])
+    ensures ended { carries_ended state.now operation.now.boot ≡ true → phase_of state.now operation.now answers.now ≡ over state.now [] (ended_reply operation.now operation.now.boot answers.now) }
+    ensures fails { (bad : TheAnswer) → carries_ended state.now operation.now.boot ≡ false → has_operation state.now ≡ true → first_bad answers.now ≡ Some bad → phase_of state.now operation.now answers.now ≡ failed_in state.now bad }
+    ensures done { carries_ended state.now operation.now.boot ≡ false → first_bad answers.now ≡ None → phase_of state.now operation.now answers.now ≡ done_in state.now operation.now.call answers.now }
+{}
