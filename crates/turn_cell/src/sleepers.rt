@@ -1,4 +1,4 @@
-//! Where passes sleep. Nothing here tells a pass anything, and no clause speaks of it.
+//! Where passes sleep. A pass learns nothing here, and no clause speaks of it.
 use std::array;
 use std::sync::Wait;
 use std::sync::atomic::{AtomicU64, Ordering};

@@ -32,7 +32,7 @@ const LOOKS: u32 = 32;
 /// How many milliseconds a rest takes where no mark is left.
 const REST_MILLIS: u64 = 100;
 
-/// What a turn left behind that others wait for.
+/// What a turn left that others wait for.
 #[derive(Drop)]
 pub(crate) struct Left {
     /// The low bits of the front.
