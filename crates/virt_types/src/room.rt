@@ -33,7 +33,7 @@ impl<T> RoomyList<T> {
         })
     }
 
-    /// Puts a value behind the others, into room that is there.
+    /// Puts a value after the others, into room that is there.
     pub fn push(&mut self, entry: T)
         requires { 0 < self.old.room }
         ensures list { self.new.list ≡ self.old.list ++ entry ∷ [] }
