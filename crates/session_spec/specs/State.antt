@@ -1,4 +1,4 @@
--- What a session goes by from call to call.
+-- What a session keeps from call to call.
 use Rattle.std.specs.Prelude.{ℕ, List, Option}
 use Rattle.session_spec.specs.Definitions.{Definitions}
 

@@ -1,4 +1,4 @@
-// A list with room that was set aside, so that a later turn can add to it and want no memory.
+// A list with room that was set aside, so that a later turn can add to it without taking memory.
 ghost use Rattle.std.specs.Prelude.{◌≡◌, ◌++◌, ◌∷◌, ◌+◌, ◌<◌, ◌≤◌, [], IfOk, length};
 
 use crate::list::ListOf;
