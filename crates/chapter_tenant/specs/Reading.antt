@@ -15,7 +15,7 @@ latest before readings = value_or before (slice_get readings (length readings - 
 abbrev pub new_readings : History ℕ Reading
 new_readings = record { chapter = 0; base = 0; marks = [] }
 
--- the chapter in which the next reading stands: the present one, or the next where it has eight
+-- the chapter of the next reading: the present one, or the next where it has eight
 abbrev pub open_chapter : History ℕ Reading → History ℕ Reading
 open_chapter h = if nat_lt (length h.marks) 8 then h else record { chapter = h.chapter + 1; base = latest h.base h.marks; marks = [] }
 

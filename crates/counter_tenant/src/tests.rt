@@ -9,7 +9,7 @@ use turn_cell::TurnCell;
 
 const LAST: u64 = 4_611_686_018_427_387_904;
 
-// The ticket that a spent pass is told.
+// The ticket in the answer to a spent pass.
 fn told<R: Wait>(rt: &R, cell: &TurnCell<Counter>, pass: CounterPass) -> Option<(CounterPass, u64)>
     requires { pass.cell ≡ cell.now }
     ensures { IfSome result (λ r. r.0 ≡ record pass { spent = true }) }

@@ -60,7 +60,7 @@ unfoldable pub devices_in : Option Tree → Devices
 devices_in None = no_devices
 devices_in (Some t) = devices_of t
 
--- ---- faults of the devices, by the element in which they stand
+-- ---- faults of the devices, by the element that they are in
 -- the elements of a name in one that may be absent
 abbrev pub all_in : ElementName → Option Tree → List Tree
 all_in n None = []

@@ -1,4 +1,4 @@
--- The pieces of what stands after a separator, and entries after others.
+-- The pieces of what comes after a separator, and entries after others.
 use Rattle.std.specs.Prelude.{ℕ, List, [], ◌∷◌, ◌++◌, Option, Some, None}
 use Rattle.virt_types.specs.declared.script.ScriptEntry.{ScriptEntry}
 use Rattle.text_spec.specs.GuestScript.{pieces_of}

@@ -8,7 +8,7 @@ by_tests a b m n false true true x y z e = inr (eqb-true a b y, ltb-true m n z)
 by_tests a b m n false true false x y z e = absurd cc
 by_tests a b m n false false r x y z e = absurd cc
 
--- what the test tells
+-- what the test shows
 pub front_lt-true : (x y : Front) → front_lt x y ≡ true → (x.chapter < y.chapter) ⊎ ((x.chapter ≡ y.chapter) × (x.marks < y.marks))
 front_lt-true x y e = by_tests x.chapter y.chapter x.marks y.marks (ltb x.chapter y.chapter) (eqb x.chapter y.chapter) (ltb x.marks y.marks) refl refl refl e
 

@@ -47,7 +47,7 @@ module _ {B M : Type 0} where
       let more : drop (length a.marks) b.marks ≡ p.marks.0 = ap (drop (length a.marks)) (sym p.marks.1) ∙ drop_own a.marks p.marks.0 in
       ap (λ (l : List M). a.marks ++ l) (here ∙ more) ∙ p.marks.1
 
-  -- where marks stand after those of the chapter, they are what was added
+  -- where marks come after those of the chapter, they are what was added
   pub added-more : (a b : History B M) (more : List M) → a.chapter ≡ b.chapter → a.marks ++ more ≡ b.marks → added a b ≡ more
   added-more a b more same is = ap (λ (t : Bool). cond t (drop (length a.marks) b.marks) b.marks) (eq-eqb a.chapter b.chapter same) ∙ (ap (drop (length a.marks)) (sym is) ∙ drop_own a.marks more)
 

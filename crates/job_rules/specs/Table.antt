@@ -3,7 +3,7 @@ use Rattle.std.specs.Prelude.{◌≡◌, ℕ, ◌-◌, ◌≤◌, List, ◌++◌
 use Rattle.domain_spec.specs.Open.{AreDistinct}
 use Rattle.domain_spec.specs.Types.{Who}
 
--- what stands at a place where nobody waits
+-- what is at a place where nobody waits
 abbrev pub nobody : Who
 nobody = record { session = 0; lane = 0; count = 0 }
 

@@ -9,7 +9,7 @@ use virt_types::Who;
 // How many calls may wait for one domain.
 const MOST: usize = 32;
 
-// What stands at a place where nobody waits.
+// What is at a place where nobody waits.
 const NOBODY: Who = Who {
     session: 0,
     lane: 0,
@@ -28,7 +28,7 @@ pub struct WaitersFull {
 /// they came.
 #[derive(Clone, Copy)]
 pub struct Waiters {
-    // The callers come first; nobody stands at the places after them.
+    // The callers come first; nobody is at the places after them.
     places: [Who; 32],
     count: usize,
 }

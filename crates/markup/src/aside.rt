@@ -209,7 +209,7 @@ fn after_less<'a>(
     }
 }
 
-/// The text that a comment, an instruction or a section adds, and what follows it. Sections stand
+/// The text that a comment, an instruction or a section adds, and what follows it. Sections are
 /// only inside an element.
 #[tactic(auto, unfolding(text_spec::specs::Aside::aside_at))]
 pub(crate) fn aside_at(inside: bool, chars: &[char]) -> Result<(&[char], &[char]), Flaw>

@@ -95,7 +95,7 @@ fn yes_or_no(told: Flaw, chars: &[char]) -> Result<&[char], Flaw>
     }
 }
 
-/// What follows the word on standing alone.
+/// What follows `standalone`.
 #[tactic(auto, unfolding(text_spec::specs::Declaration::standalone_at))]
 fn standalone_at(told: Flaw, chars: &[char]) -> Result<&[char], Flaw>
     ensures reads { Tells (λ r. r.now) result (spec.standalone_at told chars.now) }

@@ -1,5 +1,5 @@
 // The link to a guest. Nothing is assumed of what the far end says; but each cause that a call names is
-// counted, so that contracts can tell a guest that ended and a link that was lost from an answer that
+// counted, so that contracts see a guest that ended and a link that was lost apart from an answer that
 // was made up.
 ghost use Rattle.std.specs.Prelude.{ℕ, ◌≤◌, List, IfErr, IfOk};
 ghost use Rattle.std.specs.declared.option.Option.{Option};

@@ -1,7 +1,7 @@
--- When a fault of the outside may be told: its count of faults rose in this very call.
+-- When a fault of the outside may be reported: its count of faults rose in this very call.
 use Rattle.std.specs.Prelude.{ℕ, ◌+◌, ◌-◌, ◌^◌, ◌≤◌, min, Result, OnErr}
 
--- the count has risen; one that stands at the end of its type counts as risen
+-- the count has risen; one that is at the end of its type counts as risen
 abbrev pub Rose : ℕ → ℕ → Type 0
 Rose before now = min (before + 1) (2 ^ 64 - 1) ≤ now
 

@@ -1,2 +1,2 @@
-//! When a fault of the outside may be told: the definitions that sources, sinks, stores and worlds share.
+//! When a fault of the outside may be reported: the definitions that sources, sinks, stores and worlds share.
 #![tactic(auto)]

@@ -18,7 +18,7 @@ pub each-one_more : (packets : List Packet) (packet : Packet) → AllByRecursion
 each-one_more [] packet h p = (p, tt)
 each-one_more (x ∷ xs) packet h p = (h.0, each-one_more xs packet h.1 p)
 
--- some packets of the bytes, up to a place, stand after those that were ready
+-- some packets of the bytes, up to a place, come after those that were ready
 pub record Decoding (ready : List Packet) (bytes : List ℕ) (now : List Packet) (used : ℕ) : Type 0 where
   pub more : List Packet
   pub behind : now ≡ ready ++ more

@@ -1,4 +1,4 @@
--- Laws of streams, over all bytes: each stands on a function of `src/laws.rt`.
+-- Laws of streams, over all bytes: each is on a function of `src/laws.rt`.
 use Rattle.std.specs.Prelude.{◌≡◌, ℕ, List, [], ◌∷◌, ◌++◌, None, Some}
 use Rattle.std.specs.List.{AllByRecursion}
 use Rattle.wire_spec.specs.Packets.{IsPacket, fault, spelling}

@@ -6,7 +6,7 @@ use Rattle.wire_spec.specs.declared.message.Packet.{Packet}
 use Rattle.wire_spec.specs.Packets.{IsPacket, fault}
 use Rattle.wire_spec.specs.Split.{IsRest, stream}
 
--- whole packets of the bytes stand after those that were ready; from the place `used` on there is no whole one
+-- whole packets of the bytes come after those that were ready; from the place `used` on there is no whole one
 pub record Decodes (ready : List Packet) (bytes : List ℕ) (now : List Packet) (used : ℕ) (bad : Option BadPacket) : Type 0 where
   pub whole : stream now (drop used bytes) ≡ stream ready bytes
   pub each : AllByRecursion IsPacket ready → AllByRecursion IsPacket now

@@ -19,7 +19,7 @@ pub record HasWords (h : Header) : Type 0 where
   pub procedure : h.procedure < 2 ^ 32
   pub serial : h.serial < 2 ^ 32
 
--- the length word stands in place of the first word of what was written, or all is too long
+-- the length word is in place of the first word of what was written, or all is too long
 abbrev pub Frames : List ℕ → Result (List ℕ) (OrNoMemory WriteFault) → Type 0
 Frames written (Ok bytes) = (bytes ≡ word (length written) ++ drop 4 written) × (length written ≤ MOST_BYTES)
 Frames written (Err (Fault (TooBig l))) = (l ≡ length written) × (MOST_BYTES < length written)

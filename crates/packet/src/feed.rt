@@ -78,7 +78,7 @@ impl Feed {
         self.ready.pop_front()
     }
 
-    /// How many bytes of the packet begun stand after the whole ones; 0 where they are those of no
+    /// How many bytes of the packet begun come after the whole ones; 0 where they are those of no
     /// packet.
     pub fn rest(&self) -> u32
         ensures rest { result ≡ begun self.now.rest }

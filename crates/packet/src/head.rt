@@ -1,4 +1,4 @@
-// What stands at the front of some bytes: a packet, a part of one, or what no packet begins with.
+// What is at the front of some bytes: a packet, a part of one, or what no packet begins with.
 ghost use Rattle.std.specs.Prelude.{◌≡◌, ◌+◌, ◌≤◌, ◌++◌, length, drop, None, IfOk};
 ghost use Rattle.wire_spec.specs.Packets.{word_at, fault, length_fault, kind_fault, status_fault, spelling, IsPacket};
 ghost use Rattle.packet.specs.Front.{Begins, StandsAt, header_at};
@@ -9,7 +9,7 @@ use wire_spec::{
     BadPacket, CALL, CONTINUE, HEADER_LENGTH, Header, MESSAGE, MOST_BYTES, OK, Packet,
 };
 
-/// What stands at the front of some bytes.
+/// What is at the front of some bytes.
 #[derive(Drop)]
 pub(crate) enum Front {
     /// Not yet a whole packet.

@@ -1,4 +1,4 @@
-//! A source and a sink in memory, for tests: they tell their bytes, and fail where they are told to.
+//! A source and a sink in memory, for tests: they report their bytes, and fail where they are to.
 ghost use Rattle.std.specs.Prelude.{◌≡◌, ◌+◌, ◌<◌, ◌≤◌, ◌++◌, [], length, take, drop};
 ghost use Rattle.packet.specs.Memory.{empty_sink, source_of};
 

@@ -9,7 +9,7 @@ use virt_types::Failed;
 
 /// Where bytes come from: a connection, standard input, or memory.
 pub trait Source {
-    // The bytes that are left, where the source tells them.
+    // The bytes that are left, where the source reports them.
     ghost left: { Self → Option (List ℕ) };
 
     // How often it failed.
@@ -26,7 +26,7 @@ pub trait Source {
 
 /// Where bytes go to: a connection, standard output, or memory.
 pub trait Sink {
-    // The bytes that it holds, where the sink tells them.
+    // The bytes that it holds, where the sink reports them.
     ghost held: { Self → Option (List ℕ) };
 
     // How often it failed.

@@ -39,7 +39,7 @@ ended : {A : Type 0} (b : Bool) (f : XdrFault) (x y : A) → cond b (Ok x) (Err 
 ended true f x y e = (refl, cc)
 ended false f x y e = absurd cc
 
--- what was read, and that nothing stands after it
+-- what was read, and that nothing comes after it
 pub record IsAll (first : Left → Result (Request × Left) XdrFault) (payload : List ℕ) (r : Request) : Type 0 where
   pub left : Left
   pub read : first (all_of payload) ≡ Ok (r, left)

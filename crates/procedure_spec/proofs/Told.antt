@@ -45,7 +45,7 @@ IsTold-then a b f g p q = record {
 pub IsTold-as : (a b : List ℕ) (f : Left → Result Left ArgFault) → a ≡ b → IsTold a f → IsTold b f
 IsTold-as a b f e p = subst (λ (s : List ℕ). IsTold s f) e p
 
--- a part with what has to stand after it
+-- a part with what has to come after it
 pub IsPart-then : {A : Type 0} (IsValue : A → Type 0) (one other : A → List ℕ) (first : Left → Result (A × Left) ArgFault) (second : A → Left → Result Left ArgFault) → IsPart IsValue one first → ((a : A) → IsTold (other a) (second a)) → IsPart IsValue (λ a. one a ++ other a) (λ l. first l >>= λ x. second x.0 x.1 >>= λ r. Ok (x.0, r))
 IsPart-then {A = A} IsValue one other first second part next = record {
   found = λ l x fits e.

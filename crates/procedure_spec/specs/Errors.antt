@@ -6,7 +6,7 @@ use Rattle.wire_spec.specs.Xdr.{IsString, opaque, optional, word}
 use Rattle.procedure_spec.specs.declared.words.TheConstants.{ERROR_DOMAIN, ERROR_LEVEL}
 use Rattle.procedure_spec.specs.declared.words.TheConstants.{PACKET_BOUND}
 
--- a kept text stands there where it is not empty
+-- a kept text is there where it is not empty
 abbrev pub kept_string : List ℕ → Option (List ℕ)
 kept_string [] = None
 kept_string (b ∷ bs) = Some (b ∷ bs)
@@ -23,11 +23,11 @@ tail = word 0 ++ word 0 ++ word 0 ++ word 0 ++ word 0
 abbrev pub error_payload : ℕ → List ℕ → List ℕ → List ℕ
 error_payload code message kept = head code message ++ optional opaque (kept_string kept) ++ tail
 
--- the payload of the error that tells a refusal
+-- the payload of the error that reports a refusal
 abbrev pub refusal_payload : Refusal → List ℕ
 refusal_payload r = error_payload (refusal_number r.code) (refusal_message r.code) r.kept
 
--- the payload is that of the error that tells this refusal
+-- the payload is that of the error that reports this refusal
 pub record IsErrorOf (payload : List ℕ) (r : Refusal) : Type 0 where
   pub kept : IsString PACKET_BOUND r.kept
   pub spelled : payload ≡ refusal_payload r

@@ -1,4 +1,4 @@
--- Reading the payload of an error: the refusal that it tells, or the first fault. Of an item, that it is well spelled comes before what it says.
+-- Reading the payload of an error: the refusal that it reports, or the first fault. Of an item, that it is well spelled comes before what it says.
 use Rattle.std.specs.Prelude.{◌==◌, ℕ, not, Bool, false, List, [], ◌∷◌, Option, None, Some, Result, Ok, Err, if◌then◌else◌}
 use Rattle.std.specs.Str.{bytes_eq}
 use Rattle.virt_types.specs.Refusal.{refusal_message}
@@ -22,7 +22,7 @@ told_word wanted l = do
   word ← item first_word l
   told l.place (word.0 == wanted) word.1
 
--- nothing, where something might stand
+-- nothing, where something might be
 unfoldable pub told_absent : Left → Result Left ArgFault
 told_absent l = do
   there ← item first_truth l
@@ -88,6 +88,6 @@ first_refusal l = do
   rest ← told_tail kept.1
   Ok (record { code = code.0; kept = kept.0 }, rest)
 
--- the refusal that all of a payload tells
+-- the refusal that all of a payload reports
 abbrev pub error_of : List ℕ → Result Refusal ArgFault
 error_of payload = all first_refusal payload

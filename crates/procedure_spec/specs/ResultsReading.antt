@@ -18,7 +18,7 @@ use Rattle.procedure_spec.specs.declared.procedure.ResultShape.{ResultShape}
 use Rattle.procedure_spec.specs.declared.procedure.ResultShape.TheVariants as shape
 use Rattle.procedure_spec.specs.declared.words.TheConstants.{NAMES_BOUND, PACKET_BOUND}
 
--- why a string whose length word stands at a place is no name
+-- why a string whose length word is at a place is no name
 abbrev pub name_fault : ℕ → List ℕ → Option ArgFault
 name_fault place bytes = option_map (λ wrong. fault.Name (place + 4 + wrong)) (bad_place bytes)
 

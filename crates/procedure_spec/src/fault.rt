@@ -16,7 +16,7 @@ pub enum ArgFault {
     Procedure,
     /// The payload does not spell what the procedure's payloads hold.
     Xdr(XdrFault),
-    /// A string stands where a name has to, and is no name.
+    /// A string is where a name has to be, and is no name.
     Name {
         /// The first byte that is wrong, or the one after the string where only its length or the
         /// whole is.

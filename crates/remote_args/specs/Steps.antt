@@ -20,7 +20,7 @@ Passes first old (Ok v) new = first old ≡ Ok new
 Passes first old (Err (Fault f)) new = first old ≡ Err f
 Passes first old (Err NoMemory) new = Unit {0}
 
--- a fault of an item is told as a fault of a payload
+-- a fault of an item is reported as a fault of a payload
 abbrev pub Lifts : {A : Type 0} → Result A (OrNoMemory XdrFault) → Result A (OrNoMemory ArgFault) → Type 0
 Lifts (Ok x) result = result ≡ Ok x
 Lifts (Err (Fault f)) result = result ≡ Err (Fault (Xdr f))

@@ -47,7 +47,7 @@ fn put_head(writer: &mut Writer, code: RefusalCode) -> Result<(), NoMemory>
     writer.put_optional(false)
 }
 
-/// Writes the payload of the error that tells a refusal.
+/// Writes the payload of the error that reports a refusal.
 pub(crate) fn put_refusal(writer: &mut Writer, refusal: &Refusal) -> Result<(), NoMemory>
     requires { length refusal.now.kept < 2 ^ 32 }
     ensures written { OnOk result (writer.new ≡ writer.old ++ refusal_payload refusal.now) }

@@ -147,7 +147,7 @@ fn whole(alloc: Global, payload: &[u8]) -> Result<Refusal, OrNoMemory<ArgFault>>
     Ok(refusal)
 }
 
-/// The refusal that the payload of an error tells. Items of an error that are well spelled and say
+/// The refusal that the payload of an error reports. Items of an error that are well spelled and say
 /// anything else than this project's errors do are refused as `Foreign`.
 pub fn read_error(alloc: Global, payload: &[u8]) -> Result<Refusal, OrNoMemory<ArgFault>>
     ensures found { IfOk result (IsErrorOf payload.now) }

@@ -53,7 +53,7 @@ fn rewritten(
     }
 }
 
-// A reply to a call that was read, both as they stand in their packets.
+// A reply to a call that was read, both as they are in their packets.
 fn rewritten_reply(alloc: Global, header: &Header, call: &[u8], payload: &[u8]) -> Option<Bytes> {
     match read_call(alloc, header, call) {
         Ok(request) => rewritten(alloc, header, call, &request, payload),

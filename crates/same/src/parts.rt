@@ -3,7 +3,7 @@ ghost use Rattle.std.specs.Prelude.{◌≡◌, ◌↔◌, IsTrue};
 
 use virt_types::{Boxed, Bytes, ListOf, Name, Text};
 
-/// A value of which can be told whether another is the same.
+/// A value that can be compared with another.
 pub trait Same {
     /// Whether the other is the same.
     fn same(&self, other: &Self) -> bool

@@ -1,4 +1,4 @@
-// Plain values, which `==` tells apart.
+// Plain values, which `==` compares.
 use crate::parts::Same;
 use virt_types::{
     BootDevice, DomainInfo, EndReason, Front, Job, JobInfo, LeaseRow, Mac, OpKind, Phase, RunState,

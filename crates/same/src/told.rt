@@ -1,4 +1,4 @@
-// What is told of domains without a call, and what queries ask.
+// What is reported of domains without a call, and what queries ask.
 use crate::parts::Same;
 use virt_types::{DomainState, Note, Query, Status};
 

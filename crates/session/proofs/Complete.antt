@@ -29,7 +29,7 @@ not_begun bytes all packets rest each_all is_all each is begun =
     let some : 0 < length {A = ℕ} [] = subst (λ (t : List ℕ). 0 < length t) (sym one.1) begun.some in
     omega (arith, some)
 
--- nor do bytes stand among them with which no packet begins
+-- nor are there bytes among them with which no packet begins
 no_bad_front : (others : List Packet) (rest more : List ℕ) (bad : BadPacket) → AllByRecursion IsPacket others → rest ++ more ≡ stream others [] → fault rest ≡ Some bad → ⊥
 no_bad_front [] [] more bad each is bad_is = cc
 no_bad_front [] (x ∷ xs) more bad each is bad_is = cc
@@ -53,7 +53,7 @@ all_taken taken more bytes is short over = ⊎_elim
     over
 
 -- a packet of these closes the session, and none of those that were answered does: then one more whole
--- packet stood before the bytes that were left
+-- packet came before the bytes that were left
 no_close : (a b : Bool) → a ≡ false → (a || b) ≡ true → b ≡ true
 no_close true b off is = absurd cc
 no_close false b off is = is
@@ -71,11 +71,11 @@ not_open (a ∷ others) (p ∷ ps) behind rest more each_all each stays is close
     let same = same_packet a p (stream others behind) (stream ps rest ++ more) each_all.0 each.0 (sym front ∙ (is ∙ back)) in
     not_open others ps behind rest more each_all.1 each.1 stays.1 same.1 (close_stays a p others same.0 stays.0 close) none
 
--- no whole packet stands where one has begun, or where no packet begins
+-- no whole packet is where one has begun, or where no packet begins
 none_begun : (rest : List ℕ) → IsRest rest → (p : Packet) (tail : List ℕ) → IsPacket p → rest ++ [] ≡ spelling p ++ tail → ⊥
 none_begun rest part p tail is e = no_rest p tail is (subst IsRest (sym (append-nil rest) ∙ e) part)
 
--- the end of a session that was told whole packets, and met no fault of its two ends
+-- the end of a session whose source reports whole packets, and met no fault of its two ends
 record IsInput (bytes : List ℕ) (all : List Packet) (behind : List ℕ) : Type 0 where
   pub each : AllByRecursion IsPacket all
   pub whole : bytes ≡ stream all behind

@@ -144,7 +144,7 @@ closed_ends m after ready rest held wrote s each =
       ends = still after;
     }
 
--- all were answered, and after them stands what no packet begins with
+-- all were answered, and after them comes what no packet begins with
 pub bad_ends : (m after : SessionState) (ready : List Packet) (rest : List ℕ) (held wrote : Option (List ℕ)) (bad : _) → ServesFront m ready [] held wrote after → AllByRecursion IsPacket ready → fault rest ≡ Some bad → PieceEnds m (stream ready rest) held wrote after (BadPacket bad)
 bad_ends m after ready rest held wrote bad s each is =
     let all : AllByRecursion IsPacket (s.served ++ []) = rw (← s.parts) each in
@@ -163,7 +163,7 @@ bad_ends m after ready rest held wrote bad s each is =
       ends = (is, still after);
     }
 
--- all were answered, and what stands after them is the front of a packet
+-- all were answered, and what comes after them is the front of a packet
 pub piece_done : (m after : SessionState) (ready : List Packet) (rest : List ℕ) (held wrote : Option (List ℕ)) → ServesFront m ready [] held wrote after → AllByRecursion IsPacket ready → IsRest rest → fault rest ≡ None → PieceDone m (stream ready rest) rest held wrote after
 piece_done m after ready rest held wrote s each part sound =
     let all : AllByRecursion IsPacket (s.served ++ []) = rw (← s.parts) each in

@@ -1,4 +1,4 @@
--- What is read and filled in is told by a text that is not too long to be read.
+-- What is read and filled in is reported by a text that is not too long to be read.
 use Rattle.std.proofs.Common.{◌≡◌, ◌≤◌, ℕ, Bool, true, false, List, length, refl, arith}
 use Rattle.std.specs.Prelude.{Result, Ok, Err, ◌&&◌, nat_le}
 use Rattle.std.proofs.lemmas.Bool.Decides.{nat_tests}

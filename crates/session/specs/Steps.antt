@@ -89,7 +89,7 @@ pub record Stopped (s : SessionState) (ready : List Packet) (held wrote : Option
   pub written : Appends held wrote (text messages ++ extra)
   pub stops : StopsAt then next extra why after
 
--- all whole packets of the bytes were answered, none closes the session, and no fault stands after them
+-- all whole packets of the bytes were answered, none closes the session, and no fault comes after them
 pub record PieceDone (s : SessionState) (bytes after : List ℕ) (held wrote : Option (List ℕ)) (then : SessionState) : Type 0 where
   pub packets : List Packet
   pub messages : List Packet

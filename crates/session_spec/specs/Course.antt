@@ -15,13 +15,13 @@ use Rattle.wire_spec.specs.declared.message.Packet.{Packet}
 abbrev pub IsOver : Option (List ℕ) → List ℕ → Type 0
 IsOver left taken = IsAtEnd left ⊎ (length taken ≡ 2 ^ 62)
 
--- some bytes of a packet came, and no fault stands in them
+-- some bytes of a packet came, and no fault is in them
 pub record IsBegun (rest : List ℕ) : Type 0 where
   pub some : 0 < length rest
   pub part : IsRest rest
   pub sound : fault rest ≡ None
 
--- a front, and not the whole, of the reply to the packet that stands next; that call was done
+-- a front, and not the whole, of the reply to the packet that comes next; that call was done
 pub record IsCutReply (s : SessionState) (rest extra : List ℕ) (after : SessionState) : Type 0 where
   pub packet : Packet
   pub behind : List ℕ
@@ -74,7 +74,7 @@ Ends s left taken rest extra SourceFault after = (fault rest ≡ None) × IsRest
 Ends s left taken rest extra SinkFault after = IsCutReply s rest extra after
 Ends s left taken rest extra NoMemory after = IsLost s extra after
 
--- what was taken of a source and put into a sink, where they tell it: packets and a rest, and the
+-- what was taken of a source and put into a sink, where they report it: packets and a rest, and the
 -- replies to these packets, in order; and what became of the map, and was drawn by these calls
 pub record Course (before : SessionState) (left now held wrote : Option (List ℕ)) (end : End) (after : SessionState) : Type 0 where
   pub packets : List Packet
@@ -89,7 +89,7 @@ pub record Course (before : SessionState) (left now held wrote : Option (List �
   pub has_end : HasEnd end packets
   pub ends : Ends then now (stream packets rest) rest extra end after
 
--- the bytes are told, fewer than a session takes: whole packets and no more, or whole packets of which
+-- the bytes are reported, fewer than a session takes: whole packets and no more, or whole packets of which
 -- one closes the session, and any bytes after them
 abbrev pub IsWhole : Option (List ℕ) → Type 0
 IsWhole None = ⊥

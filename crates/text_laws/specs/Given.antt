@@ -40,7 +40,7 @@ IsDisk d = (length d.target.dev == 0) ≡ false
 abbrev pub IsInterface : Interface → Type 0
 IsInterface i = IsMacOf i.mac
 
--- a device that stands alone
+-- a device on its own
 abbrev pub IsDevice : DeviceDef → Type 0
 IsDevice (device.Disk d) = IsDisk d
 IsDevice (device.Interface i) = IsInterface i

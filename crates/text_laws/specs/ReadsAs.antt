@@ -21,7 +21,7 @@ pub record ReadsAsDevice (text : List ℕ) (d : DeviceDef) : Type 0 where
   pub is_device : device_read tree ≡ Ok d
 
 -- a domain within its ranges and of texts that a text may hold, whose own text is within the limits
--- of a text once it is filled in, and so as it stands
+-- of a text once it is filled in, and so as it is
 pub record IsSound (d : DomainDef) : Type 0 where
   pub values : IsDomain d
   pub texts : IsDomainText d

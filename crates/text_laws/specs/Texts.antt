@@ -1,5 +1,5 @@
 -- The texts that a definition which reading can give is made of: characters of XML, with no blank at
--- an end where they stand between tags.
+-- an end where they are between tags.
 use Rattle.std.specs.Prelude.{Option, Some, None}
 use Rattle.std.specs.List.{AllByRecursion}
 use Rattle.virt_types.specs.declared.device_def.DeviceDef.{DeviceDef}

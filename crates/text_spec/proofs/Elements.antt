@@ -83,7 +83,7 @@ text_closed child k room s w more are blanks enough =
     ∙ ap (after_inside (s ++ w) []) (content_step child read.0 room (60 ∷ 47 ∷ more) ahead.ClosingTag (closing_ahead more))
     ∙ ap (λ text. Ok (record { text = text; children = none; room = room; rest = 60 ∷ 47 ∷ more })) (append-nil (s ++ w))
 
--- what an element's reading owes
+-- what has to be shown of reading an element
 abbrev pub ElementRead : ElementReading → ℕ → List ℕ → Tree → Type 0
 ElementRead child room inset t = (rest : List ℕ) → child room (core inset t ++ rest) ≡ Ok (record { tree = t; room = room - size t; rest = rest })
 

@@ -1,6 +1,6 @@
 // What begins at the place that reading has reached inside an element.
 
-/// What begins at a place inside an element, as its first two characters tell.
+/// What begins at a place inside an element, by its first two characters.
 #[derive(Clone, Copy, Debug, PartialEq, Eq)]
 pub enum Ahead {
     /// Nothing: the text ends here, or after a `<`.

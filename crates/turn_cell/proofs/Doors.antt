@@ -277,7 +277,7 @@ module _ {T B M S : Type 0} (K : Meaning T B M S) where
     counts = λ i v e. subst (Counts first) (only (newcomer K x first) i v e).1 (record { first = λ p. refl; gone = λ e. refl });
   }
 
-  -- a pass with all parts stands alone
+  -- a pass with all parts is the only one
   pub stands_alone : (s : St) (x : T) (d : Door K s x) (id : ℕ) (v : View T B M S) → parts_of v ≡ 4611686018427387904 → get_elem? s.views id ≡ some v → (i : ℕ) (u : View T B M S) → get_elem? s.views i ≡ some u → i ≢ id → parts_of u ≡ 0
   stands_alone s x d id v all at i u e ne = omega (arith, two_le parts_of s.views id i v u at e (λ k. ne (sym k)), d.all_parts)
 

@@ -1,4 +1,4 @@
--- What callers are told at the ends of a turn.
+-- What callers know at the ends of a turn.
 use Rattle.std.proofs.Common.{◌≡◌, ℕ, Option, sym, ap, ◌∙◌, subst}
 use Rattle.atomic_table.specs.Table.{Me}
 use Rattle.atomic_table.specs.Seated.{TableId}

@@ -1,4 +1,4 @@
--- The rule's second half where two passes are put together, and what it then tells.
+-- The rule's second half where two passes are put together, and what they then know.
 use Rattle.std.proofs.Common.{◌≡◌, ◌≢◌, ◌⊎◌, ℕ, ◌<◌, true, List, ◌∷◌, length, set, sym, ap, ◌∙◌, subst, ⊎_elim, inl, inr, arith, length-set}
 use mathlib.Core.Option.{some}
 use mathlib.Core.Logic.{dite}
@@ -61,7 +61,7 @@ module _ {T B M S : Type 0} (K : Meaning T B M S) where
       (λ (e : b.number ≡ n). alive n id a at some_parts m other b there some_parts' (sym e ∙ is))
       (λ (e : IsAmong n b.ended). apart (sym (g.joined_once id other a b n at there some_parts some_parts' m e)))
       o) in
-      -- a living view there: the one that has both, or one that stood there before
+      -- a living view there: the one that has both, or one that was there before
       let living : (i : ℕ) (u : Knows B M S) → get_elem? after i ≡ some u → 0 < u.parts → ((i ≡ id) × (both ≡ u)) ⊎ ((i ≢ id) × (i ≢ other) × (get_elem? all i ≡ some u)) = λ i u e p. ⊎_elim
       (λ (x : (i ≡ other) × (gone ≡ u)). absurd (let none_left : u.parts ≡ 0 = ap (λ (z : Knows B M S). z.parts) (sym x.1) ∙ no_parts in omega arith))
       (λ (x : (i ≢ other) × (get_elem? mid i ≡ some u)). ⊎_elim

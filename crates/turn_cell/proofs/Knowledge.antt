@@ -1,4 +1,4 @@
--- The rule's second half: what passes know, after a turn and at the start, and what it tells them.
+-- The rule's second half: what passes know, after a turn and at the start.
 use Rattle.std.proofs.Common.{◌≡◌, ◌≢◌, ◌⊎◌, ℕ, zero, suc, ◌+◌, ◌<◌, ◌≤◌, Bool, true, false, true≢false, cond, eqb, List, [], ◌∷◌, ◌++◌, length, set, Option, None, Some, refl, sym, ap, ◌∙◌, subst, ⊎_elim, inl, inr, arith, length-set, append-nil, eq-eqb, ne_eqb}
 use Rattle.std.specs.Prelude.{MatchBool}
 use Rattle.std.proofs.lemmas.Bool.{cases_lt}
@@ -116,7 +116,7 @@ module _ {T B M S : Type 0} (K : Meaning T B M S) where
   ended_after found left marks_of more all id n k w at some_parts is others = ended_moved found left marks_of (marks_after marks_of id more) all (set all id w) (omega (arith, length-set all id w))
       (λ i l none. let ne : i ≢ id = living_apart all id i k at some_parts none in (sym (marks_after-other marks_of id more i ne), others i (λ x. ne (x ∙ is)), λ u there. none u (sym (set_else all id i w ne) ∙ there)))
 
-  -- a view that stands where the old ones stood, with the same ended ones
+  -- a view that is where the old ones were, with the same ended ones
   pub same_ended : (all : List (Knows B M S)) (id : ℕ) (k w : Knows B M S) → get_elem? all id ≡ some k → w.ended ≡ k.ended → 0 < k.parts → (i n : ℕ) (a : Knows B M S) → get_elem? (set all id w) i ≡ some a → 0 < a.parts → IsAmong n a.ended
       → (b : Knows B M S) × (get_elem? all i ≡ some b) × (0 < b.parts) × IsAmong n b.ended
   same_ended all id k w at e some_parts i n a there parts among = ⊎_elim
@@ -302,7 +302,7 @@ module _ {T B M S : Type 0} (K : Meaning T B M S) where
         apart = known_apart value marks_of all g id k at some_parts;
       }
 
-  -- a number whose marks stand in the history was made
+  -- a number whose marks are in the history was made
   tail_none : (b : Bool) (m : M) (ms : List M) → cond b (m ∷ ms) ms ≡ [] → (b ≡ false) × (ms ≡ [])
   tail_none true m ms e = absurd cc
   tail_none false m ms e = (refl, e)

@@ -52,7 +52,7 @@ module _ {T B M S : Type 0} (K : Meaning T B M S) where
   pub still_ended : (all : List (Knows B M S)) (id : ℕ) (k w : Knows B M S) → get_elem? all id ≡ some k → 0 < k.parts → (n : ℕ) → ((u : Knows B M S) → get_elem? all n ≡ some u → u.parts ≡ 0) → (u : Knows B M S) → get_elem? (set all id w) n ≡ some u → u.parts ≡ 0
   still_ended all id k w at some_parts n gone u there = gone u (sym (set_else all id n w (living_apart K all id n k at some_parts gone)) ∙ there)
 
-  -- the marks that a number had are those that it has in what it is told of
+  -- the marks that a number had are those that it has in what it learns
   pub own_further : (i : ℕ) (mine : List (ℕ × M)) (a b : History B M) → IsBegun K a b → HasMarks K i mine a → ((c : ℕ) → a.chapter < c → in_chapter c mine ≡ []) → IsPrefix (own_in K i b) (in_chapter b.chapter mine) → HasMarks K i mine b
   own_further i mine a b p has later within = ⊎_elim
       (λ (x : SameChapter a b).
@@ -85,7 +85,7 @@ module _ {T B M S : Type 0} (K : Meaning T B M S) where
       let none_yet : own_in K (length all) k.seen ≡ [] = prefix_whole (own_in K (length all) k.seen) [] (subst (λ (l : List (ℕ × M)). IsPrefix (own_in K (length all) k.seen) (in_chapter k.seen.chapter l)) new.0 (mine.others (length all))) (omega arith) in
       let ended : (es : List (Ended M)) → AllEnded K value marks_of all es → AllEnded K value marks_of after es = ended_there value marks_of all after (omega arith)
       (λ n l gone x there. ⊎_elim (λ (e : get_elem? mid n ≡ some x). still_ended all id k w at some_parts n gone x e) (λ (e : (n ≡ length mid) × (u ≡ x)). absurd (omega (arith, e.0, long))) (at_end mid u x n there)) in
-      -- what stood at a place before
+      -- what was at a place before
       let before : (i : ℕ) (a : Knows B M S) → get_elem? mid i ≡ some a → 0 < a.parts → (b : Knows B M S) × (get_elem? all i ≡ some b) × (0 < b.parts) × (a.seen ≡ b.seen) × (a.ended ≡ b.ended) =
       each_set (λ i a. 0 < a.parts → (b : Knows B M S) × (get_elem? all i ≡ some b) × (0 < b.parts) × (a.seen ≡ b.seen) × (a.ended ≡ b.ended)) all id w (λ _. (k, at, some_parts, refl, refl)) (λ j a ne e p. (a, e, p, refl, refl)) in
       -- each view that saw something, and who had seen it before

@@ -47,7 +47,7 @@ module _ {T B M S : Type 0} where
   idle_ticket : (v : View T B M S) (t : ℕ) → v.stage ≡ Idle → ticket v.stage ≡ Some t → ⊥
   idle_ticket v t e k = let h : ticket v.stage ≡ None = ap ticket e in cc
 
-  -- where each view that is not idle stood there before, no two share a ticket
+  -- where each view that is not idle was there before, no two share a ticket
   idle_apart : (views after : List (View T B M S))
       → ((i j : ℕ) (v u : View T B M S) (t : ℕ) → get_elem? views i ≡ some v → get_elem? views j ≡ some u → ticket v.stage ≡ Some t → ticket u.stage ≡ Some t → i ≡ j)
       → ((i : ℕ) (v : View T B M S) → get_elem? after i ≡ some v → (get_elem? views i ≡ some v) ⊎ (v.stage ≡ Idle))
@@ -67,7 +67,7 @@ module _ {T B M S : Type 0} where
       → (i : ℕ) (v : View T B M S) → get_elem? after i ≡ some v → (get_elem? views i ≡ some v) ⊎ (v.stage ≡ Idle)
   then_off views mid after p q i v e = ⊎_elim (λ (x : get_elem? mid i ≡ some v). p i v x) (λ (x : v.stage ≡ Idle). inr x) (q i v e)
 
-  -- a view that has the turn stands where no idle view stands
+  -- a view that has the turn is where no idle view is
   turn_apart : (views : List (View T B M S)) (i j : ℕ) (v u : View T B M S) → get_elem? views i ≡ some v → has_turn v.stage ≡ true → get_elem? views j ≡ some u → u.stage ≡ Idle → i ≢ j
   turn_apart views i j v u a holds b idle same = true≢false (sym holds ∙ (ap (λ (z : View T B M S). has_turn z.stage) (one_at views i j v u a b same) ∙ ap has_turn idle))
 

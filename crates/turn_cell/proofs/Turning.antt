@@ -108,7 +108,7 @@ module _ {T B M S : Type 0} (K : Meaning T B M S) where
     held_seen = λ l. q.held_seen (p.held_seen l);
   }
 
-  -- one turn, as its calls tell it
+  -- one turn, by its calls
   pub turn_tells : NoMarkLowers K → NewBaseKeeps K → TurnTells K
   turn_tells lowers keeps more before after turn now enters same change left =
       let t : HasTurned K before after turn.entry now.value = has_turned before after turn now enters same left in

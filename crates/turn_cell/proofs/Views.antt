@@ -73,7 +73,7 @@ module _ {A C : Type 0} (f : A → C) where
   map_set (x ∷ xs) zero w = refl
   map_set (x ∷ xs) (suc i) w = ap (λ (t : List C). f x ∷ t) (map_set xs i w)
 
-  -- what stands at a place of the mapped list
+  -- what is at a place of the mapped list
   pub at_mapped : (l : List A) (i : ℕ) (c : C) → get_elem? (map f l) i ≡ some c → (a : A) × (get_elem? l i ≡ some a) × (f a ≡ c)
   at_mapped [] i c e = absurd (some-ne-none c (sym e))
   at_mapped (x ∷ xs) zero c e = (x, refl, some-injective (f x) c e)

@@ -24,7 +24,7 @@ pub record Passed (B M S : Type 0) : Type 0 where
   pub seen : History B M
   -- its own marks, with the numbers of their chapters
   pub mine : List (ℕ × M)
-  -- the history as it stood when the pass last left a mark of its own
+  -- the history as it was when the pass last left a mark of its own
   pub held : History B M
   -- what the value keeps for its number
   pub share : S

@@ -1,4 +1,4 @@
--- What each step of a seat tells it.
+-- What a seat learns in each step.
 use Rattle.std.specs.Prelude.{◌≡◌, ◌≢◌, ℕ, ◌+◌, ◌-◌, ◌++◌, ◌||◌, ◌<◌, ◌≤◌, ◌==◌, Bool, true, false, nat_lt, List, [], ◌∷◌, Option, Some, MatchBool}
 use Rattle.atomic_table.specs.Table.{Step, Me, rest}
 use Rattle.history_spec.specs.declared.history.History.{History}
@@ -136,7 +136,7 @@ module _ {T B M S : Type 0} (K : Meaning T B M S) where
   abbrev pub is_named : Step (Option T) → Me (Option T) (View T B M S) → ℕ → Me (Option T) (View T B M S) → Type 0
   is_named st me found now = (n : ℕ) × IsNew n me.0.knows × (now ≡ (record me.0 { knows = record me.0.knows { named = true; number = n } }, me.1))
 
-  -- the view that is left behind
+  -- the view that is left of the one joined
   abbrev pub used_up : View T B M S
   used_up = let h : History B M = record { chapter = 0; base = K.any_base; marks = [] } in record {
     stage = Idle;

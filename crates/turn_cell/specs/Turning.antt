@@ -1,4 +1,4 @@
--- What turns tell the caller of a cell, whatever the value.
+-- What the caller of a cell knows after turns, whatever the value.
 use Rattle.std.specs.Prelude.{◌≡◌, ℕ, ◌+◌, ◌++◌, false, List, [], ◌∷◌, Some}
 use Rattle.history_spec.specs.Chapter.{GoesOn, added, tagged}
 use Rattle.history_spec.specs.Pass.{own, AreOf, mine_after, held_after}
@@ -56,7 +56,7 @@ module _ {T B M S : Type 0} (K : Meaning T B M S) where
     pub held : Holds more before after
     pub held_seen : IsBegun K before.held before.seen → IsBegun K after.held after.seen
 
-  -- a turn with a change tells all this to its caller
+  -- after a turn with a change its caller knows all this
   abbrev pub TurnTells : Type 0
   TurnTells = (more : List M) (before after : Passed B M S) (turn now : Turned T B M S) → Enters K before turn → now ≡ record turn { value = now.value } → Changes turn.pass.number more turn.value now.value → after ≡ left_by K now
       → HasTurned before after turn.entry now.value × Went 1 (tagged (K.history now.value).chapter more) before after

@@ -1,4 +1,4 @@
-//! What turns tell, whatever the value. The functions do nothing; proofs use what they promise.
+//! What is known after turns, whatever the value. The functions do nothing; proofs use what they promise.
 ghost use Rattle.turn_cell.specs.Turning.{TurnTells, TurnsAddUp};
 
 use crate::kept::Kept;

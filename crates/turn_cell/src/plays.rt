@@ -1,4 +1,4 @@
-//! The rule of the table, and what each step tells.
+//! The rule of the table, and what a seat learns in each step.
 use crate::home::Home;
 use crate::kept::Kept;
 use crate::view::View;

@@ -1,4 +1,4 @@
-//! Where passes sleep. Nothing here tells a pass anything, and no clause speaks of it.
+//! Where passes sleep. A pass learns nothing here, and no clause speaks of it.
 use std::array;
 use std::sync::Wait;
 use std::sync::atomic::{AtomicU64, Ordering};
@@ -19,6 +19,8 @@ const OUTSIDE_MILLIS: u64 = 10;
 pub struct Sleepers {
     /// The places of those who have a ticket.
     places: [AtomicU64; 64],
+    /// 1 while a pass looks whether it may draw one.
+    looking: AtomicU64,
     /// How many sleep before they draw one.
     outside: AtomicU64,
     /// The calls to these. It is odd until whoever was called last has come.
@@ -31,10 +33,24 @@ impl Sleepers {
     pub(crate) fn new() -> Sleepers {
         Sleepers {
             places: array::from_fn(|_| AtomicU64::new(0)),
+            looking: AtomicU64::new(0),
             outside: AtomicU64::new(0),
             calls: AtomicU64::new(0),
             resting: AtomicU64::new(0),
         }
+    }
+
+    /// Whether a pass may look, until it says that it has: one does at a time.
+    pub(crate) fn begin_looking(&self) -> bool {
+        self.looking.load(Ordering::SeqCst) == 0
+            && self
+                .looking
+                .compare_exchange(0, 1, Ordering::SeqCst, Ordering::SeqCst)
+                .is_ok()
+    }
+
+    pub(crate) fn end_looking(&self) {
+        self.looking.store(0, Ordering::SeqCst);
     }
 
     /// Notes that a pass is about to sleep before it draws a ticket. It has to look once more
@@ -58,9 +74,12 @@ impl Sleepers {
         self.turn_calls(1);
     }
 
-    /// Calls one of those outside in, where one is there and none is on its way.
+    /// Calls one of those outside in, where one is there and none is on its way. Whoever looks comes
+    /// in by itself, and calls the next one after its turn.
     pub(crate) fn call_in(&self) {
-        if self.outside.load(Ordering::SeqCst) > 0 && self.turn_calls(0) {
+        let is_awaited = self.outside.load(Ordering::SeqCst) > 0
+            && self.looking.load(Ordering::SeqCst) == 0;
+        if is_awaited && self.turn_calls(0) {
             self.calls.wake_one();
         }
     }

@@ -27,12 +27,12 @@ pub(crate) type Board<T> = Shared<Option<Home<T>>, ViewOf<T>, Opening<T>, InTurn
 pub(crate) type Place<T> = Seat<Option<Home<T>>, ViewOf<T>>;
 
 /// How often a pass that waits for its turn looks before it sleeps.
-const LOOKS: u32 = 32;
+const LOOKS: u32 = 64;
 
 /// How many milliseconds a rest takes where no mark is left.
 const REST_MILLIS: u64 = 100;
 
-/// What a turn left behind that others wait for.
+/// What a turn left that others wait for.
 #[derive(Drop)]
 pub(crate) struct Left {
     /// The low bits of the front.
@@ -49,17 +49,39 @@ pub(crate) struct Left {
 pub(crate) fn come_in<T: Kept, R: Wait>(rt: &R, board: &Board<T>, sleepers: &Sleepers)
     requires { board.now.table_id.words ≡ 3 }
 {
-    for _ in 0..LOOKS {
-        if is_free(board) {
-            return;
-        }
-        spin_loop();
+    if is_free(board) || becomes_free(board, sleepers) {
+        return;
     }
     let calls = sleepers.go_outside();
     if !is_free(board) {
         sleepers.sleep_outside(rt, calls);
     }
     sleepers.come_in();
+}
+
+// Looks a few times whether nobody has a ticket any more. Where another pass looks already it does
+// not: the more threads look, the longer takes each turn.
+fn becomes_free<T: Kept>(board: &Board<T>, sleepers: &Sleepers) -> bool
+    requires { board.now.table_id.words ≡ 3 }
+{
+    if !sleepers.begin_looking() {
+        return false;
+    }
+    let is_free = is_free_soon(board);
+    sleepers.end_looking();
+    is_free
+}
+
+fn is_free_soon<T: Kept>(board: &Board<T>) -> bool
+    requires { board.now.table_id.words ≡ 3 }
+{
+    for _ in 0..LOOKS {
+        if is_free(board) {
+            return true;
+        }
+        spin_loop();
+    }
+    false
 }
 
 // Nobody has a ticket.

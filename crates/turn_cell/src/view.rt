@@ -25,7 +25,7 @@ pub struct Knows<B, M, S> {
     pub met: (History<B, M>, History<B, M>),
     /// The pass's own marks, with the numbers of their chapters.
     pub mine: LinkedList<(u64, M)>,
-    /// The history as it stood when the pass last left a mark of its own.
+    /// The history as it was when the pass last left a mark of its own.
     pub held: History<B, M>,
     /// What the value keeps for its number.
     pub share: S,

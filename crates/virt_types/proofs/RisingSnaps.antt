@@ -96,7 +96,7 @@ irreflexive a e = cc (e, is_order.one_way a a e)
 same_name : (name : List ℕ) (s : Snap) → is_named name s ≡ true → s.name ≡ name
 same_name name s e = (bytes_eq-Decides s.name name).0 e
 
--- a name that is before another, or behind it, is not it
+-- a name that is before another, or after it, is not it
 unlike_before : (name : List ℕ) (s : Snap) → is_before name s.name ≡ true → is_named name s ≡ false
 unlike_before name s e = false_unless (is_named name s) (λ n. irreflexive name (subst (λ z. is_before name z ≡ true) (same_name name s n) e))
 
@@ -112,7 +112,7 @@ pub named_left : (name : List ℕ) (k : Snap) (l r : List Snap) → is_before na
 named_left name k [] r e h = rw (unlike_before name k e, none_named name k.name r e h.0)
 named_left name k (s ∷ l) r e h = ap (λ z. cond (is_named name s) (Some s) z) (named_left name k l r e h.1)
 
--- one behind it, to its right
+-- one after it, to its right
 pub named_right : (name : List ℕ) (k : Snap) (l r : List Snap) → is_before k.name name ≡ true → IsRising (l ++ k ∷ r) → snapshot_named (l ++ k ∷ r) name ≡ snapshot_named r name
 named_right name k [] r e h = rw (unlike_behind name k e)
 named_right name k (s ∷ l) r e h = rw (unlike_behind name s (earlier_before s.name k.name name (none_middle s.name l k r h.0) e)) (named_right name k l r e h.1)

@@ -1,8 +1,8 @@
--- The words drawn from a source of random words, where the source tells them.
+-- The words drawn from a source of random words, where the source reports them.
 use Rattle.std.specs.Prelude.{◌≡◌, ℕ, List, [], ⊤, Option, Some, None}
 use Rattle.std.specs.Io.KnownBytes.{Appends}
 
--- a new source tells its words where the one that it comes from does, and none is drawn from it yet
+-- a new source reports its words where the one that it comes from does, and none is drawn from it yet
 abbrev pub HasDrawnNone : Option (List ℕ) → Option (List ℕ) → Type 0
 HasDrawnNone None new = ⊤
 HasDrawnNone (Some words) new = new ≡ Some []

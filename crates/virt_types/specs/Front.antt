@@ -2,7 +2,7 @@
 use Rattle.std.specs.Prelude.{Bool, ◌&&◌, ◌||◌, ◌==◌, nat_lt, if◌then◌else◌}
 use Rattle.virt_types.specs.declared.caller.Front.{Front}
 
--- a is longer than b: it stands in a later chapter, or after more marks of the same chapter
+-- a is longer than b: it is in a later chapter, or after more marks of the same chapter
 abbrev pub is_longer : Front → Front → Bool
 is_longer a b = nat_lt b.chapter a.chapter || (b.chapter == a.chapter && nat_lt b.marks a.marks)
 

@@ -1,4 +1,4 @@
--- What a call that takes memory answers, against the answer without want of memory.
+-- What a call that takes memory answers, against the answer where there is memory enough.
 use Rattle.std.specs.Prelude.{◌≡◌, Result, Ok, Err}
 use Rattle.virt_types.specs.declared.memory.OrNoMemory.{OrNoMemory}
 use Rattle.virt_types.specs.declared.memory.OrNoMemory.TheVariants.{Fault, NoMemory}

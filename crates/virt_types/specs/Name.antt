@@ -1,4 +1,4 @@
--- Names of domains, networks, pools, volumes and snapshots: this project's own rule, since a name stands in files' names.
+-- Names of domains, networks, pools, volumes and snapshots: this project's own rule, since a name is in files' names.
 use Rattle.std.specs.Prelude.{◌≡◌, ℕ, ◌≤◌, Bool, ◌||◌, ◌==◌, nat_lt, false, List, All, IsUtf8, codes, bytes_eq, length, min, Option, Some, None, if◌then◌else◌}
 use Rattle.std.specs.List.{position_or_len}
 use Rattle.std.specs.Str.{byte}
@@ -7,7 +7,7 @@ use Rattle.virt_types.specs.declared.memory.OrNoMemory.{OrNoMemory}
 use Rattle.virt_types.specs.declared.memory.OrNoMemory.TheVariants.{Fault, NoMemory}
 use Rattle.virt_types.specs.declared.name.BadName.{BadName}
 
--- a byte that stands in no name: a control character, the slash, or delete
+-- a byte that is in no name: a control character, the slash, or delete
 abbrev pub is_forbidden : ℕ → Bool
 is_forbidden b = nat_lt b 0x20 || b == byte "/" || b == 0x7f
 

@@ -1,4 +1,4 @@
--- Numbers and words by which the wire and files tell states, operations, jobs, phases and images. The numbers of states
+-- Numbers and words by which the wire and files name states, operations, jobs, phases and images. The numbers of states
 -- are libvirt's (virDomainState of libvirt-domain.h) and the words virsh's; the others are this project's own.
 use Rattle.std.specs.Prelude.{ℕ, List, codes, Option, Some, None}
 use Rattle.virt_types.specs.declared.answer.Job.{Job}
@@ -58,7 +58,7 @@ job_word job.Abort = codes "abort"
 job_word job.MigrationOp = codes "migration"
 job_word job.Nested = codes "nested"
 
--- the number by which an operation that may be absent is told
+-- the number by which an operation that may be absent is named
 abbrev pub job_number : Option OpKind → ℕ
 job_number None = 0
 job_number (Some kind) = op_number kind

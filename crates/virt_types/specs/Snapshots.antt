@@ -15,7 +15,7 @@ is_named name snap = bytes_eq snap.name name
 abbrev pub snapshot_named : List Snap → List ℕ → Option Snap
 snapshot_named snaps name = find (is_named name) snaps
 
--- with a new one, behind those whose names are not greater
+-- with a new one, after those whose names are not greater
 abbrev pub with_snapshot : List Snap → Snap → List Snap
 with_snapshot [] new = new ∷ []
 with_snapshot (snap ∷ snaps) new =

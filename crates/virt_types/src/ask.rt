@@ -212,12 +212,12 @@ impl TryCopy for Ask {
     }
 }
 
-/// What a guest tells of itself.
+/// What a guest reports of itself.
 #[derive(Clone, Copy, Debug, PartialEq, Eq)]
 pub enum GuestEvent {
     /// It shuts down.
     Shutdown,
-    /// It stands still.
+    /// It is paused.
     Stop,
     /// It goes on.
     Resume,

@@ -11,7 +11,7 @@ use crate::name::Name;
 /// that rests.
 #[derive(Drop)]
 pub enum Call {
-    /// The guest is to stand still.
+    /// The guest is to pause.
     Suspend,
     /// The guest is to go on.
     Resume,

@@ -1,4 +1,4 @@
-// Who calls, and where in a history a call stands.
+// Who calls, and where in a history a call is.
 ghost use Rattle.std.specs.Prelude.{◌≡◌};
 ghost use Rattle.virt_types.specs.Front.{is_longer, longer};
 
@@ -19,7 +19,7 @@ pub struct Who {
 pub struct Front {
     /// The number of the chapter, from 0.
     pub chapter: u64,
-    /// How many marks of that chapter stand before the place.
+    /// How many marks of that chapter come before the place.
     pub marks: u64,
 }
 

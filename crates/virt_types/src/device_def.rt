@@ -77,7 +77,7 @@ impl TryCopy for DiskSource {
 /// `target`: where the guest sees the disk.
 #[derive(Drop)]
 pub struct DiskTarget {
-    /// The attribute `dev`, as `vda`, by which disks are told apart.
+    /// The attribute `dev`, as `vda`, by which disks differ.
     pub dev: Text,
     /// The attribute `bus`.
     pub bus: Option<Text>,
@@ -105,7 +105,7 @@ pub struct Disk {
     pub source: Option<DiskSource>,
     /// The element `target`.
     pub target: DiskTarget,
-    /// Whether the element `readonly` stands.
+    /// Whether the element `readonly` is there.
     pub readonly: bool,
 }
 
@@ -175,7 +175,7 @@ impl TryCopy for InterfaceModel {
 pub struct Interface {
     /// The attribute `type`.
     pub kind: InterfaceType,
-    /// `mac` with `address`, by which interfaces are told apart; none before it is filled in.
+    /// `mac` with `address`, by which interfaces differ; none before it is filled in.
     pub mac: Option<Mac>,
     /// The element `source`.
     pub source: Option<InterfaceSource>,

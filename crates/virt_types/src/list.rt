@@ -65,7 +65,7 @@ impl<T> ListOf<T> {
         self.entries.is_empty()
     }
 
-    /// Puts a value behind the others.
+    /// Puts a value after the others.
     pub fn push(&mut self, entry: T) -> Result<(), NoMemory>
     where
         T: Drop,

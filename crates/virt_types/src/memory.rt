@@ -1,4 +1,4 @@
-// What a call answers besides its result: a fault of its input, want of memory, or a fault of the outside.
+// What a call answers besides its result: a fault of its input, that memory ran out, or a fault of the outside.
 use std::alloc::{AllocError, AllocFailed};
 use std::error::Error;
 use std::fmt;
@@ -104,7 +104,7 @@ impl<T: Drop> From<AllocFailed<T>> for Fault {
     }
 }
 
-/// Why a call that takes memory gave nothing: a fault that its input shows, or want of memory.
+/// Why a call that takes memory gave nothing: a fault that its input shows, or it ran out of memory.
 #[derive(Clone, Copy, Debug, PartialEq, Eq)]
 pub enum OrNoMemory<F> {
     /// What the input shows.

@@ -10,7 +10,7 @@ use std::fmt;
 use std::marker::Model;
 
 /// A name: 1 to 128 bytes of UTF-8 with no `/`, no byte below 0x20 and no 0x7f, which is neither
-/// `.` nor `..`. So it can stand in the name of a file.
+/// `.` nor `..`. So it can be in the name of a file.
 #[derive(Debug, Drop)]
 pub struct Name {
     text: String,

@@ -9,8 +9,8 @@ use crate::copy::TryCopy;
 use crate::memory::NoMemory;
 use crate::refusal::Refusal;
 
-/// What kind of operation it is. Its arguments stand in its call. The numbers are those by which
-/// the wire and status files tell it; 0 is none.
+/// What kind of operation it is. Its arguments are in its call. The numbers are those by which
+/// the wire and status files name it; 0 is none.
 #[derive(Clone, Copy, Debug, PartialEq, Eq)]
 pub enum OpKind {
     /// A guest is started, of a stored or of a given definition.
@@ -75,7 +75,7 @@ impl OpKind {
     }
 }
 
-/// A step of an operation, with the numbers by which the wire and status files tell it.
+/// A step of an operation, with the numbers by which the wire and status files name it.
 #[derive(Clone, Copy, Debug, PartialEq, Eq)]
 pub enum Phase {
     /// No step with asks: the one step of an operation whose row has none. Beside no operation it

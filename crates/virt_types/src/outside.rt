@@ -6,14 +6,14 @@ ghost use Rattle.virt_types.specs.Drawn.{HasDrawnNone};
 
 /// A source of words without a pattern, for new identifiers and addresses.
 pub trait Random {
-    // The words drawn so far, in order, where the source tells them.
+    // The words drawn so far, in order, where the source reports them.
     ghost drawn: { Self → Option (List ℕ) };
 
     /// The next word.
     fn word(&mut self) -> u64
         ensures { Appends (drawn self.old) (drawn self.new) (result ∷ []) };
 
-    /// A source of its own, for another activity. It tells its words where this one does.
+    /// A source of its own, for another activity. It reports its words where this one does.
     fn another(&mut self) -> Self
     where
         Self: Sized,

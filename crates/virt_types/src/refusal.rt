@@ -1,4 +1,4 @@
-// Refusals: why a call was not done, as an error on the wire tells it.
+// Refusals: why a call was not done, as an error on the wire reports it.
 ghost use Rattle.std.specs.Prelude.{◌≡◌, ◌==◌, ◌≢◌, IfOk, IfNone, IfSome, IsCharBoundary, find, take};
 ghost use Rattle.std.specs.Str.Lossy.{utf8_valid_len};
 ghost use Rattle.virt_types.specs.declared.refusal.RefusalCode.{RefusalCode as Code};
@@ -66,7 +66,7 @@ pub enum RefusalCode {
     SnapshotExists = 208,
     /// All slots for devices are taken.
     NoFreeSlot = 209,
-    /// More events came than wait for one registration. It is told by a message and not by an error.
+    /// More events came than wait for one registration. It is reported by a message and not by an error.
     EventsLost = 210,
     /// A count has reached its end.
     CountSpent = 211,

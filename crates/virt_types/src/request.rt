@@ -8,8 +8,8 @@ use crate::reference::{DomainTarget, NetworkTarget, PoolTarget};
 use crate::text::Text;
 use uuid::Uuid;
 
-/// What a session is asked. The procedures that are for one domain, network or pool stand in an enum
-/// of their own, behind the reference that is the first argument of each. Numbers and texts are as the
+/// What a session is asked. The procedures that are for one domain, network or pool are in an enum
+/// of their own, after the reference that is the first argument of each. Numbers and texts are as the
 /// wire has them: whether they are in their range is tested where the request is served.
 #[derive(Drop)]
 pub enum Request {

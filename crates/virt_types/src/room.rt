@@ -1,4 +1,4 @@
-// A list with room that was set aside, so that a later turn can add to it and want no memory.
+// A list with room that was set aside, so that a later turn can add to it without taking memory.
 ghost use Rattle.std.specs.Prelude.{◌≡◌, ◌++◌, ◌∷◌, ◌+◌, ◌<◌, ◌≤◌, [], IfOk, length};
 
 use crate::list::ListOf;
@@ -33,7 +33,7 @@ impl<T> RoomyList<T> {
         })
     }
 
-    /// Puts a value behind the others, into room that is there.
+    /// Puts a value after the others, into room that is there.
     pub fn push(&mut self, entry: T)
         requires { 0 < self.old.room }
         ensures list { self.new.list ≡ self.old.list ++ entry ∷ [] }

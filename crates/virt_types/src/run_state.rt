@@ -1,9 +1,9 @@
-// Whether a guest runs, why it stopped or ended, and the state of a domain as the wire tells it.
+// Whether a guest runs, why it stopped or ended, and the state of a domain as the wire has it.
 ghost use Rattle.std.specs.Prelude.{◌≡◌, ◌≢◌, IfNone, IfSome};
 ghost use Rattle.virt_types.specs.declared.run_state.DomainState.{DomainState as TheDomainState};
 ghost use Rattle.virt_types.specs.Numbers.{state_number, state_word};
 
-/// Why a guest that is live stands still.
+/// Why a guest that is live is paused.
 #[derive(Clone, Copy, Debug, PartialEq, Eq)]
 pub enum Cause {
     /// A caller suspended it, or the guest stopped itself.
@@ -21,7 +21,7 @@ pub enum Cause {
 pub enum RunState {
     /// It runs.
     Running,
-    /// It stands still.
+    /// It is paused.
     Paused(Cause),
     /// It reported that it can't go on.
     Crashed,
@@ -48,13 +48,13 @@ pub enum EndReason {
     Migrated,
 }
 
-/// The state of a domain as the wire tells it, with libvirt's numbers (`virDomainState` of
+/// The state of a domain as the wire has it, with libvirt's numbers (`virDomainState` of
 /// `libvirt-domain.h`).
 #[derive(Clone, Copy, Debug, PartialEq, Eq)]
 pub enum DomainState {
     /// Its guest runs.
     Running = 1,
-    /// Its guest stands still.
+    /// Its guest is paused.
     Paused = 3,
     /// It has no guest.
     ShutOff = 5,

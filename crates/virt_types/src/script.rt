@@ -42,7 +42,7 @@ impl TryCopy for ScriptEntry {
 /// Entries of a script in order.
 pub type ScriptEntryList = ListOf<ScriptEntry>;
 
-/// A script, kept as it was read, beside what it says. The empty one stands for none.
+/// A script, kept as it was read, beside what it says. The empty one means none.
 #[derive(Drop)]
 pub struct Script {
     /// The text as read, without blanks at its ends. It is printed again as it is.

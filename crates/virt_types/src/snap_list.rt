@@ -105,7 +105,7 @@ impl SnapList {
         self.tree.find(name)
     }
 
-    /// Puts a snapshot behind those whose names are not greater.
+    /// Puts a snapshot after those whose names are not greater.
     #[tactic(auto, using(crate::proofs::RisingSnaps::length_with))]
     pub fn insert(&mut self, alloc: Global, new: Snap) -> Result<(), NoMemory>
         ensures ok { OnOk result (self.new ≡ with_snapshot self.old new) }

@@ -20,7 +20,7 @@ pub(crate) struct SnapTree {
     node: SnapNode,
 }
 
-// The snapshots before one, that one, and those behind it.
+// The snapshots before one, that one, and those after it.
 #[cycle(snapshots)]
 #[derive(Drop)]
 enum SnapNode {

@@ -6,7 +6,7 @@ use crate::operation::{OpKind, Phase};
 use crate::run_state::DomainState;
 use uuid::Uuid;
 
-/// A live boot, as its status file tells it after a restart of the daemon.
+/// A live boot, as its status file reports it after a restart of the daemon.
 #[derive(Drop)]
 pub struct Status {
     /// The domain's identifier.

@@ -1,9 +1,9 @@
-// What is told of a domain to those who registered for its events.
+// What is reported of a domain to those who registered for its events.
 ghost use Rattle.std.specs.Prelude.{◌≡◌};
 ghost use Rattle.virt_types.specs.Transition.{transition};
 
 /// An event of a domain, with libvirt's numbers (`virDomainEventType` and the details of each type
-/// in `libvirt-domain.h`). A client gets any numbers; the daemon tells those of the constants.
+/// in `libvirt-domain.h`). A client gets any numbers; the daemon reports those of the constants.
 #[derive(Clone, Copy, Debug, PartialEq, Eq)]
 pub struct Transition {
     /// What came about.

@@ -110,7 +110,7 @@ impl TryCopy for TitleRow {
 /// Domains with their titles, in order.
 pub type TitleRowList = ListOf<TitleRow>;
 
-/// What a domain has (`remote_domain_get_info_ret`). The processor time is always told as 0.
+/// What a domain has (`remote_domain_get_info_ret`). The processor time is always given as 0.
 #[derive(Clone, Copy, Debug, PartialEq, Eq)]
 pub struct DomainInfo {
     /// Its state.
@@ -181,7 +181,7 @@ impl TryCopy for MigratedText {
 /// large is boxed, so that a value takes 64 bytes.
 #[derive(Drop)]
 pub enum Value {
-    /// Nothing to be told.
+    /// Nothing.
     Nothing,
     /// A domain.
     Domain(DomainRef),

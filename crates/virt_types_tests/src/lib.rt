@@ -1,4 +1,4 @@
-//! Tests of the shared types, apart from them: so the types are proved once, and what stands on them
+//! Tests of the shared types, apart from them: so the types are proved once, and what depends on them
 //! waits for no test.
 #![tactic(auto)]
 

@@ -16,7 +16,7 @@ use std::io::{ErrorKind, Read, Write};
 use std::rt::{Stderr, Stdin, Stdout};
 use virt_types::{Failed, NoMemory, Random};
 
-/// Standard input, with the number of its faults. It tells no bytes.
+/// Standard input, with the number of its faults. It reports no bytes.
 #[derive(Drop)]
 pub(crate) struct StandardInput {
     stream: Stdin,
@@ -41,7 +41,7 @@ impl Source for StandardInput {
     }
 }
 
-/// Standard output, with the number of its faults. It tells no bytes.
+/// Standard output, with the number of its faults. It reports no bytes.
 #[derive(Drop)]
 pub(crate) struct StandardOutput {
     stream: Stdout,

@@ -1,4 +1,4 @@
--- Values that are made of items that stand one after the other.
+-- Values that are made of items, one after the other.
 use Rattle.std.proofs.Common.{◌≡◌, ℕ, ◌+◌, List, ◌++◌, length, Result, Ok, Err, refl, sym, ap, subst, ◌∙◌, append_assoc, arith}
 use Rattle.std.proofs.lemmas.List.{length-append}
 use Rattle.wire_spec.specs.declared.fault.XdrFault.{XdrFault}

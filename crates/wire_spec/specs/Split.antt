@@ -4,7 +4,7 @@ use Rattle.std.specs.List.{flat_map, AllByRecursion}
 use Rattle.wire_spec.specs.Packets.{IsPacket, fault, spelling, word_at}
 use Rattle.wire_spec.specs.declared.message.Packet.{Packet}
 
--- no whole packet stands at the front: bytes are missing, or no packet begins so
+-- no whole packet is at the front: bytes are missing, or no packet begins so
 abbrev pub IsRest : List ℕ → Type 0
 IsRest bytes = (length bytes < 4) ⊎ ((length bytes < word_at 0 bytes) ⊎ IsSome (fault bytes))
 
@@ -18,6 +18,6 @@ pub record Splits (bytes : List ℕ) (packets : List Packet) (rest : List ℕ) :
   pub each : AllByRecursion IsPacket packets
   pub part : IsRest rest
 
--- how many bytes of a packet that has begun stand there: none where no packet begins so
+-- how many bytes there are of a packet that has begun: none where no packet begins so
 abbrev pub begun : List ℕ → ℕ
 begun rest = if is_some (fault rest) then 0 else length rest

@@ -1,4 +1,4 @@
--- What readers of XDR answer: a value exactly where one stands at the front, and otherwise the first fault.
+-- What readers of XDR answer: a value exactly where one is at the front, and otherwise the first fault.
 use Rattle.std.specs.Prelude.{◌≡◌, ℕ, ◌+◌, List, ◌++◌, length, Result, Ok, Err, IfOk, IsOk}
 use Rattle.virt_types.specs.Memory.{UnlessNoMemory}
 use Rattle.virt_types.specs.declared.memory.OrNoMemory.{OrNoMemory}
@@ -6,12 +6,12 @@ use Rattle.virt_types.specs.declared.memory.OrNoMemory.TheVariants.{Fault, NoMem
 use Rattle.wire_spec.specs.XdrReading.{Left}
 use Rattle.wire_spec.specs.declared.fault.XdrFault.{XdrFault}
 
--- the item stood at the front, and is taken
+-- the item was at the front, and is taken
 pub record Takes (old : Left) (item : List ℕ) (new : Left) : Type 0 where
   pub parts : old.bytes ≡ item ++ new.bytes
   pub place : new.place ≡ old.place + length item
 
--- a value is answered and taken exactly where its spelling stands at the front
+-- a value is answered and taken exactly where its spelling is at the front
 pub record Answers {A : Type 0} (IsValue : A → Type 0) (spelled : A → List ℕ) (old : Left) (result : Result A XdrFault) (new : Left) : Type 0 where
   pub found : IfOk result (λ v. IsValue v × Takes old (spelled v) new)
   pub only : (v : A) (rest : List ℕ) → IsValue v → old.bytes ≡ spelled v ++ rest → result ≡ Ok v

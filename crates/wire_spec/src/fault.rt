@@ -42,7 +42,7 @@ impl fmt::Display for BadPacket {
 
 impl Error for BadPacket {}
 
-/// Why no item of XDR stands at a place. Places count from the payload's first byte.
+/// Why no item of XDR is at a place. Places count from the payload's first byte.
 #[derive(Clone, Copy, Debug, PartialEq, Eq)]
 pub enum XdrFault {
     /// The item that begins here, with its length word and padding, passes the end.

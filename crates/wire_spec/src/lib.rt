@@ -1,4 +1,4 @@
-//! Frames on the wire: the items of XDR, packets, and what stands in a stream of bytes.
+//! Frames on the wire: the items of XDR, packets, and what is in a stream of bytes.
 #![tactic(auto)]
 
 mod fault;

@@ -21,7 +21,7 @@ StepsOrNoMemory read (Ok x) = read ≡ Ok (x.0, seen x.1)
 StepsOrNoMemory read (Err (Fault f)) = read ≡ Err f
 StepsOrNoMemory read (Err NoMemory) = IsOk read
 
--- after a value the reader stands after it, and after an error where it stood
+-- after a value the reader is after it, and after an error where it was
 abbrev pub Keeps : {A E : Type 0} → Rest → Result (A × Rest) E → Result A E → Rest → Type 0
 Keeps old (Ok x) result new = (result ≡ Ok x.0) × (new ≡ x.1)
 Keeps old (Err e) result new = (result ≡ Err e) × (new ≡ old)

@@ -8,7 +8,7 @@ use crate::number::word;
 use crate::rest::Rest;
 use wire_spec::XdrFault;
 
-/// How many bytes of padding stand after so many bytes.
+/// How many bytes of padding come after so many bytes.
 pub(crate) fn padding_length(size: usize) -> usize
     ensures { result ≡ padding_bytes size }
 {

@@ -29,7 +29,7 @@ impl<'a> Model for Reader<'a> {
     ghost view = { λ r. record { place = r.rest.place; bytes = r.rest.bytes.now } };
 }
 
-// Stands after what a step read; after an error, where it stood.
+// Goes to the place after what a step read; after an error, stays where it was.
 fn keep<'a, T, E>(rest: &mut Rest<'a>, step: Result<(T, Rest<'a>), E>) -> Result<T, E>
     ensures { Keeps rest.old step.entry result rest.new }
 {
