@@ -1,0 +1,4 @@
+pub mod Judged
+pub mod Places
+pub mod Planned
+pub mod TakenSlots
