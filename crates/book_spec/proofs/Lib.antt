@@ -1,0 +1,4 @@
+pub mod Positions
+pub mod SlotProofs
+pub mod StayProofs
+pub mod HoldProofs

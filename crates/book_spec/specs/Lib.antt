@@ -1,0 +1,4 @@
+pub mod Slots
+pub mod ListCalls
+pub mod ListHistory
+pub mod ListLaws
