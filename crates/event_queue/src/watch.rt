@@ -5,7 +5,7 @@ ghost use Rattle.event_queue.specs.Ring.{after_push, after_take, answer_to_push,
 use std::alloc::Global;
 use std::collections::VecDeque;
 use std::marker::Model;
-use virt_types::{ListOf, NoMemory, Transition, TransitionList};
+use virt_types::{ListOf, NoMemory, Transition};
 
 // How many transitions may pend.
 const MOST_PENDING: usize = 256;
@@ -89,7 +89,7 @@ impl Watch {
     }
 
     /// Copies of those that pend, the oldest first.
-    pub fn to_list(&self, alloc: Global) -> Result<TransitionList, NoMemory>
+    pub fn to_list(&self, alloc: Global) -> Result<ListOf<Transition>, NoMemory>
         ensures { IfOk result (λ list. list ≡ self.now.pending) }
     {
         Ok(ListOf::of(self.pending.iter().copied().collect(alloc)?))

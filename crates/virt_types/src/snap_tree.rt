@@ -3,6 +3,11 @@
 ghost use Rattle.std.specs.Prelude.{◌≡◌, ◌<◌, ◌^◌, [], ◌∷◌, ◌++◌, IfOk, OnOk, filter, is_ok, length, map, not, option_map, slice_get, if◌then◌else◌};
 ghost use Rattle.virt_types.specs.Snapshots.{IsRising, is_before, is_named, snapshot_named, with_snapshot};
 
+mod family;
+mod new_snap;
+
+pub use new_snap::NewSnap;
+
 use crate::boxed::Boxed;
 use crate::copy::{TryCopy, both};
 use crate::domain::Snap;

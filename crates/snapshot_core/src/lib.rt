@@ -1,0 +1,21 @@
+//! Snapshots of a domain: how they are taken, deleted and gone back to, in place and with no memory
+//! once the answers are there.
+#![tactic(auto)]
+
+mod calls;
+mod deletion;
+mod judging;
+mod names;
+mod phases;
+mod snaps;
+mod state_room;
+mod taking;
+#[cfg(test)]
+mod tests;
+
+pub use calls::{Parts, finish, next, parts};
+pub use deletion::{Deletion, Others};
+pub use phases::{PhaseParts, finish_phase, next_phase, phase_parts};
+pub use snaps::Snaps;
+pub use state_room::StateRoom;
+pub use taking::Taking;

@@ -1,0 +1,219 @@
+// The phases that take a snapshot, or make one the current one; and where no phase is due.
+ghost use Rattle.std.specs.Prelude.{◌≡◌, ◌++◌, ◌≤◌, [], IfOk, Some, false};
+ghost use Rattle.core_rules.specs.Cores.{core_due, core_of_phase};
+ghost use Rattle.core_rules.specs.Led.{Says, led_in};
+ghost use Rattle.core_rules.specs.Next.{next_if, next_of};
+ghost use Rattle.core_rules.specs.Place.{next_at, place_after};
+ghost use Rattle.core_rules.specs.declared.cores.Core.TheVariants as core;
+ghost use Rattle.domain_spec.specs.Phase.{phase_done, phase_in, phase_of, phase_still_asked, plan_in};
+ghost use Rattle.domain_spec.specs.Reading.{carries_ended};
+ghost use Rattle.domain_spec.specs.Types.state;
+ghost use Rattle.snapshot_core.specs.Fits.{IsForPhase, TakesIn, reverted_to};
+ghost use Rattle.snapshot_core.specs.Plan.{take_plan};
+ghost use Rattle.snapshot_core.specs.Taking.{FitsTaking};
+
+use crate::taking::{Taking, resumes, take_inactive, take_live, taking_for};
+use core_rules::{
+    CallEnd, Next, PhaseEnd, PhaseTexts, Place, Reason, carries_ended, first_bad, has_operation,
+    next_is_at, phase_ended, phase_failed, place_after,
+};
+use domain_spec::OpenOperation;
+use std::alloc::Global;
+use virt_types::{
+    Answer, Ask, Call, Command, Domain, Live, Name, NoMemory, Op, Phase, RefusalCode, State,
+    TransitionList, TryCopy,
+};
+
+/// All memory that a phase of an operation on snapshots needs.
+#[derive(Drop)]
+pub struct PhaseParts {
+    /// Room for its refusal.
+    pub texts: PhaseTexts,
+    /// The name of the snapshot that a revert makes the current one.
+    pub current: Option<Name>,
+    /// What a snapshot needs that is taken.
+    pub taking: Option<Taking>,
+}
+
+// The ask at this place of those that take a copy of a guest.
+fn take_ask(resumes: bool, place: Place) -> Option<Ask>
+    ensures { next_if result ≡ next_at (take_plan resumes) place }
+{
+    match place {
+        Place::Plan(0) => Some(Ask::Command(Command::CopyTake)),
+        Place::Plan(1) => {
+            if resumes {
+                Some(Ask::Command(Command::Cont))
+            } else {
+                None
+            }
+        }
+        _ => None,
+    }
+}
+
+// The ask of the due phase of a domain, of which only the one that takes a copy of a guest has any.
+fn due_ask(domain: &Domain, place: Place) -> Option<Ask>
+    ensures { next_if result ≡ next_at (due_plan domain.now) place }
+{
+    match (&domain.live, &domain.op) {
+        (Some(live), Some(op)) => {
+            if op.phase == Phase::Take {
+                take_ask(resumes(live, op), place)
+            } else {
+                None
+            }
+        }
+        _ => None,
+    }
+}
+
+/// What is next for the due phase.
+pub fn next_phase(
+    state: &State,
+    operation: &OpenOperation,
+    answers: &[Answer],
+) -> Result<Next, NoMemory>
+    requires core { core_due state.now operation.now.call ≡ core.Snapshot }
+    ensures { IfOk result (λ next. next ≡ next_of (phase_still_asked state.now operation.now answers.now)) }
+{
+    if carries_ended(state, operation.boot) {
+        return Ok(Next::Finish);
+    }
+    match state {
+        State::Vacant { .. } => Ok(Next::Finish),
+        State::Held(domain) => Ok(Next::of(due_ask(domain, place_after(answers)))),
+    }
+}
+
+fn reverted_to(call: &Call) -> Result<Option<Name>, NoMemory>
+    ensures { IfOk result (λ name. name ≡ reverted_to call.now) }
+{
+    match call {
+        Call::Revert(name) => Ok(Some(name.copy()?)),
+        _ => Ok(None),
+    }
+}
+
+fn taking_in(alloc: Global, state: &State, call: &Call) -> Result<Option<Taking>, NoMemory>
+    ensures { IfOk result (λ taking. TakesIn taking state.now call.now) }
+{
+    match state {
+        State::Vacant { .. } => Ok(None),
+        State::Held(domain) => taking_for(alloc, domain, call),
+    }
+}
+
+/// What the due phase needs in this state.
+pub fn phase_parts(
+    alloc: Global,
+    state: &State,
+    operation: &OpenOperation,
+) -> Result<PhaseParts, NoMemory>
+    ensures { IfOk result (λ parts. IsForPhase parts state.now operation.now.call) }
+{
+    let texts = PhaseTexts::new(alloc, state)?;
+    let current = reverted_to(&operation.call)?;
+    let taking = taking_in(alloc, state, &operation.call)?;
+    Ok(PhaseParts {
+        texts,
+        current,
+        taking,
+    })
+}
+
+// A snapshot becomes the current one: without a guest nothing else is done.
+fn go_back(domain: &mut Domain, _call: &Call, current: Option<Name>)
+    requires { current ≡ reverted_to _call.now }
+    ensures { domain.new ≡ record domain.old { current = current_after domain.old _call.now } }
+{
+    if current.is_some() {
+        domain.current = current;
+    }
+}
+
+// The due phase of a domain with an operation, whose answers are all Ok.
+fn finish_done(
+    domain: &mut Domain,
+    call: &Call,
+    answers: &[Answer],
+    parts: PhaseParts,
+    into: &mut TransitionList,
+) -> PhaseEnd
+    requires there { IsSome domain.old.op }
+    requires core { core_on domain.old.op call.now ≡ core.Snapshot }
+    requires fits { IsForPhase parts (state.Held domain.old) call.now }
+    requires room { 1 ≤ into.old.room }
+    ensures state { IfSome domain.old.op (λ op. state.Held domain.new ≡ (phase_done domain.old domain.old.live op call.now answers.now).state) }
+    ensures outcome { IfSome domain.old.op (λ op. result.outcome ≡ (phase_done domain.old domain.old.live op call.now answers.now).outcome) }
+    ensures in_mark { IfSome domain.old.op (λ op. result.in_mark ≡ (phase_done domain.old domain.old.live op call.now answers.now).outcome) }
+    ensures transitions { IfSome domain.old.op (λ op. into.new.list ≡ into.old.list ++ (phase_done domain.old domain.old.live op call.now answers.now).transitions) }
+{
+    match (phase_due(domain), call) {
+        (Phase::Take, Call::Snapshot(info)) => {
+            if domain.live.is_some() {
+                take_live(domain, info, answers, parts.taking, into)
+            } else {
+                take_inactive(domain, info, parts.taking, parts.texts.texts)
+            }
+        }
+        _ => {
+            if domain.live.is_none() {
+                go_back(domain, call, parts.current);
+            }
+            PhaseEnd::over(CallEnd::done())
+        }
+    }
+}
+
+// The due phase of a state with an operation.
+#[tactic(auto, unfolding(core_rules::specs::Ends::failed_in, core_rules::specs::Ends::refused_in))]
+fn finish_due(
+    state: &mut State,
+    call: &Call,
+    answers: &[Answer],
+    parts: PhaseParts,
+    into: &mut TransitionList,
+) -> PhaseEnd
+    requires there { has_operation state.old ≡ true }
+    requires core { core_due state.old call.now ≡ core.Snapshot }
+    requires fits { IsForPhase parts state.old call.now }
+    requires room { 1 ≤ into.old.room }
+    ensures state { state.new ≡ (phase_in state.old call.now answers.now).state }
+    ensures outcome { result.outcome ≡ (phase_in state.old call.now answers.now).outcome }
+    ensures in_mark { result.in_mark ≡ (phase_in state.old call.now answers.now).outcome }
+    ensures transitions { into.new.list ≡ into.old.list ++ (phase_in state.old call.now answers.now).transitions }
+{
+    match first_bad(answers) {
+        Some(bad) => phase_failed(state, bad, parts.texts, into),
+        None => match state {
+            State::Vacant { .. } => unreachable!(),
+            State::Held(domain) => finish_done(domain, call, answers, parts, into),
+        },
+    }
+}
+
+/// The due phase is done: the state, the transitions, and what it leads to.
+pub fn finish_phase(
+    state: &mut State,
+    operation: &OpenOperation,
+    answers: &[Answer],
+    parts: PhaseParts,
+    into: &mut TransitionList,
+) -> PhaseEnd
+    requires core { core_due state.old operation.now.call ≡ core.Snapshot }
+    requires fits { carries_ended state.old operation.now.boot ≡ false → IsForPhase parts state.old operation.now.call }
+    requires room { 3 ≤ into.old.room }
+    ensures state { state.new ≡ (phase_of state.old operation.now answers.now).state }
+    ensures outcome { result.outcome ≡ (phase_of state.old operation.now answers.now).outcome }
+    ensures in_mark { result.in_mark ≡ (phase_of state.old operation.now answers.now).outcome }
+    ensures transitions { into.new.list ≡ into.old.list ++ (phase_of state.old operation.now answers.now).transitions }
+{
+    if carries_ended(state, operation.boot) {
+        return phase_ended(operation, answers, parts.texts.texts);
+    }
+    if !has_operation(state) {
+        return PhaseEnd::over(parts.texts.texts.refused(Reason::Bare(RefusalCode::NoDomain)));
+    }
+    finish_due(state, &operation.call, answers, parts, into)
+}
