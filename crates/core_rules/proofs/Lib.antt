@@ -1,0 +1,3 @@
+pub mod NextAsk
+pub mod RefusedKinds
+pub mod SlotCounts

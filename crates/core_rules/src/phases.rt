@@ -1,0 +1,205 @@
+// How phases of operations end, in place and without memory.
+ghost use Rattle.std.specs.Prelude.{◌≡◌, ◌++◌, ◌≤◌, [], Some, true};
+ghost use Rattle.domain_spec.specs.CopyResult.{cancel_phase};
+ghost use Rattle.domain_spec.specs.Phase.{ended_reply, quit_was_done};
+ghost use Rattle.domain_spec.specs.Types.phase;
+ghost use Rattle.domain_spec.specs.declared.step.Outcome.TheVariants as outcome;
+ghost use Rattle.core_rules.specs.Ends.{ended_in, failed_in, gives_up_in, refused_in, rests_in, start_failed_in};
+ghost use Rattle.core_rules.specs.Led.{Says, led_in};
+ghost use Rattle.core_rules.specs.Reasons.{refusal_for};
+
+use crate::answers::{failure_of, first_value, is_undone};
+use crate::ends::{CallEnd, PhaseEnd, PhaseTexts, Texts};
+use crate::reason::Reason;
+use crate::refusing::{Refused, refused_kind};
+use domain_spec::{OpenOperation, Outcome};
+use virt_types::{
+    Answer, Call, EndReason, Op, OpKind, Phase, Refusal, RefusalCode, STOPPED_FAILED, State,
+    TransitionList,
+};
+
+/// The operation goes on with this phase.
+pub fn goes_on(op: &mut Op, next: Phase) -> PhaseEnd
+    ensures op { op.new ≡ record op.old { phase = next } }
+    ensures outcome { result.outcome ≡ outcome.On next }
+    ensures in_mark { result.in_mark ≡ outcome.On next }
+{
+    op.phase = next;
+    PhaseEnd::on(next)
+}
+
+fn cancel_phase(kind: OpKind) -> Phase
+    ensures { result ≡ cancel_phase kind }
+{
+    match kind {
+        OpKind::MigrateOut => Phase::MigrateCancel,
+        _ => Phase::Cancel,
+    }
+}
+
+/// The operation is given up, and ends with this refusal.
+pub fn cancels(op: &mut Op, refusal: Refusal) -> PhaseEnd
+    ensures op { op.new ≡ record op.old { refusal = Some refusal; phase = cancel_phase op.old.kind } }
+    ensures outcome { result.outcome ≡ outcome.On (cancel_phase op.old.kind) }
+    ensures in_mark { result.in_mark ≡ outcome.On (cancel_phase op.old.kind) }
+{
+    op.refusal = Some(refusal);
+    goes_on(op, cancel_phase(op.kind))
+}
+
+/// The operation rests until a call takes it up; the call that came so far is told this.
+pub fn rests(op: &mut Op, end: CallEnd) -> PhaseEnd
+    ensures op { op.new ≡ record op.old { phase = phase.Resting; rests = true } }
+    ensures outcome { result.outcome ≡ outcome.Rest end.reply }
+    ensures in_mark { result.in_mark ≡ outcome.Rest end.in_mark }
+{
+    op.phase = Phase::Resting;
+    op.rests = true;
+    PhaseEnd::rest(end)
+}
+
+/// The guest is gone, and ended so; the cell is vacant then where nothing is stored. Where there is
+/// no guest, nothing changes.
+#[tactic(auto, unfolding(crate::specs::Ends::ended_in))]
+pub fn end_guest(state: &mut State, why: EndReason)
+    ensures { state.new ≡ ended_in state.old why }
+{
+    match state {
+        State::Vacant { .. } => {}
+        State::Held(domain) => {
+            if let Some(live) = domain.live.take() {
+                domain.last = Some((live.boot, why));
+                if domain.stored.is_none() {
+                    *state = State::Vacant {
+                        boots: domain.boots,
+                    };
+                }
+            }
+        }
+    }
+}
+
+/// A new boot that could not be started is gone, and its operation is over.
+pub fn start_failed(
+    state: &mut State,
+    reason: Reason,
+    texts: Texts,
+    into: &mut TransitionList,
+) -> PhaseEnd
+    requires room { 1 ≤ into.old.room }
+    ensures state { state.new ≡ (start_failed_in state.old (refusal_for reason)).state }
+    ensures outcome { result.outcome ≡ (start_failed_in state.old (refusal_for reason)).outcome }
+    ensures in_mark { result.in_mark ≡ (start_failed_in state.old (refusal_for reason)).outcome }
+    ensures transitions { into.new.list ≡ into.old.list ++ (start_failed_in state.old (refusal_for reason)).transitions }
+{
+    end_guest(state, EndReason::Failed);
+    into.push(STOPPED_FAILED);
+    PhaseEnd::over(texts.refused(reason))
+}
+
+#[tactic(auto, unfolding(crate::specs::Ends::gives_up_in))]
+fn gives_up(state: &mut State, reason: Reason, texts: PhaseTexts) -> PhaseEnd
+    ensures state { state.new ≡ (gives_up_in state.old (refusal_for reason)).state }
+    ensures outcome { result.outcome ≡ (gives_up_in state.old (refusal_for reason)).outcome }
+    ensures in_mark { result.in_mark ≡ (gives_up_in state.old (refusal_for reason)).outcome }
+    ensures transitions { (gives_up_in state.old (refusal_for reason)).transitions ≡ [] }
+{
+    match state {
+        State::Vacant { .. } => PhaseEnd::over(texts.texts.refused(reason)),
+        State::Held(domain) => match &mut domain.op {
+            None => PhaseEnd::over(texts.texts.refused(reason)),
+            Some(op) => cancels(op, texts.for_operation.refusal(reason)),
+        },
+    }
+}
+
+#[tactic(auto, unfolding(crate::specs::Ends::rests_in))]
+fn rests_refused(state: &mut State, reason: Reason, texts: Texts) -> PhaseEnd
+    ensures state { state.new ≡ (rests_in state.old (refusal_for reason)).state }
+    ensures outcome { result.outcome ≡ (rests_in state.old (refusal_for reason)).outcome }
+    ensures in_mark { result.in_mark ≡ (rests_in state.old (refusal_for reason)).outcome }
+    ensures transitions { (rests_in state.old (refusal_for reason)).transitions ≡ [] }
+{
+    match state {
+        State::Vacant { .. } => PhaseEnd::over(texts.refused(reason)),
+        State::Held(domain) => match &mut domain.op {
+            None => PhaseEnd::over(texts.refused(reason)),
+            Some(op) => rests(op, texts.refused(reason)),
+        },
+    }
+}
+
+/// The due phase was refused: by its kind the operation is over, gives up or rests, or its new boot
+/// is gone. Without an operation the call alone is refused.
+#[tactic(auto, using(crate::proofs::RefusedKinds::refused_by_kind))]
+pub fn phase_refused(
+    state: &mut State,
+    reason: Reason,
+    texts: PhaseTexts,
+    into: &mut TransitionList,
+) -> PhaseEnd
+    requires room { 1 ≤ into.old.room }
+    requires led { Says texts.led (led_in state.old) }
+    ensures state { state.new ≡ (refused_in state.old (refusal_for reason)).state }
+    ensures outcome { result.outcome ≡ (refused_in state.old (refusal_for reason)).outcome }
+    ensures in_mark { result.in_mark ≡ (refused_in state.old (refusal_for reason)).outcome }
+    ensures transitions { into.new.list ≡ into.old.list ++ (refused_in state.old (refusal_for reason)).transitions }
+{
+    match refused_kind(state) {
+        Refused::Over => PhaseEnd::over(texts.texts.refused(reason)),
+        Refused::Led => PhaseEnd::over(texts.led),
+        Refused::GivesUp => gives_up(state, reason, texts),
+        Refused::Rests => rests_refused(state, reason, texts.texts),
+        Refused::StartFails => start_failed(state, reason, texts.texts, into),
+    }
+}
+
+/// An ask of the due phase was answered so, and not Ok. After Lost nothing changes but that the
+/// boot's end is marked.
+#[tactic(auto, unfolding(crate::specs::Ends::failed_in))]
+pub fn phase_failed(
+    state: &mut State,
+    bad: &Answer,
+    texts: PhaseTexts,
+    into: &mut TransitionList,
+) -> PhaseEnd
+    requires room { 1 ≤ into.old.room }
+    requires led { Says texts.led (led_in state.old) }
+    ensures state { state.new ≡ (failed_in state.old bad.now).state }
+    ensures outcome { result.outcome ≡ (failed_in state.old bad.now).outcome }
+    ensures in_mark { result.in_mark ≡ (failed_in state.old bad.now).outcome }
+    ensures transitions { into.new.list ≡ into.old.list ++ (failed_in state.old bad.now).transitions }
+{
+    if is_undone(bad) {
+        phase_refused(state, failure_of(bad), texts, into)
+    } else {
+        PhaseEnd::over(texts.texts.refused(Reason::Bare(RefusalCode::MonitorLost)))
+    }
+}
+
+fn quit_was_done(call: &Call, outcome: &Outcome, answers: &[Answer]) -> bool
+    ensures { result ≡ quit_was_done call.now outcome.now answers.now }
+{
+    match (call, outcome) {
+        (Call::Save(_), Outcome::On(Phase::Quit)) => first_value(answers).is_some(),
+        _ => false,
+    }
+}
+
+/// The boot of the operation is not live: the operation is over, and only a save that was told to
+/// quit has what it wanted.
+pub fn phase_ended(operation: &OpenOperation, answers: &[Answer], texts: Texts) -> PhaseEnd
+    ensures outcome { result.outcome ≡ outcome.Over (ended_reply operation.now operation.now.boot answers.now) }
+    ensures in_mark { result.in_mark ≡ outcome.Over (ended_reply operation.now operation.now.boot answers.now) }
+{
+    match operation.boot {
+        None => PhaseEnd::over(texts.refused(Reason::Bare(RefusalCode::NoDomain))),
+        Some(boot) => {
+            if quit_was_done(&operation.call, &operation.outcome, answers) {
+                PhaseEnd::over(CallEnd::done())
+            } else {
+                PhaseEnd::over(texts.refused(Reason::GuestEnded(boot)))
+            }
+        }
+    }
+}
