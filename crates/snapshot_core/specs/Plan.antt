@@ -1,5 +1,5 @@
 -- What the phase asks that takes a snapshot of a guest.
-use Rattle.std.specs.Prelude.{List, [], ◌++◌, Bool, Option, None, Some}
+use Rattle.std.specs.Prelude.{List, [], ◌++◌, Bool, false, true, Option, None, Some}
 use Rattle.domain_spec.specs.Types.{Ask, Domain, Live, Op, Phase}
 use Rattle.domain_spec.specs.Types.command
 use Rattle.domain_spec.specs.Types.phase
@@ -25,3 +25,13 @@ due_plan_on live op = []
 -- what the due phase of this domain asks
 abbrev pub due_plan : Domain → List PlannedAsk
 due_plan d = due_plan_on d.live d.op
+
+-- the phase asks nothing
+abbrev pub is_idle : Phase → Bool
+is_idle phase.Nothing = true
+is_idle other = false
+
+-- the due phase is there, and asks nothing
+abbrev pub is_nothing : Option Op → Bool
+is_nothing None = false
+is_nothing (Some op) = is_idle op.phase

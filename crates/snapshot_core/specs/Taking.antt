@@ -26,7 +26,7 @@ new_snapshot d info def = record {
 
 -- the snapshot is made, its name is at hand for the domain and for the reply, and it can be counted
 pub record FitsSnapshot (taking : Taking) (d : Domain) (info : SnapInfo) (def : DomainDef) : Type 0 where
-  pub new : taking.new ≡ new_snapshot d info def
+  pub snapshot : taking.new ≡ new_snapshot d info def
   pub current : taking.current ≡ snapshot_name d info
   pub end : Says taking.end (reply.Ok (value.Name (snapshot_name d info)))
   pub few : length d.snaps + 1 < 2 ^ 64

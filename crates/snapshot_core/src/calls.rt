@@ -16,7 +16,9 @@ use crate::deletion::{Deletion, delete};
 use crate::judging::{judge_deletion, judge_revert, judge_snapshot};
 use core_rules::{CallEnd, Next, Reason, Texts, call_ended, failure_of, first_bad, meets_ended};
 use std::alloc::Global;
-use virt_types::{Answer, Ask, Call, Domain, Name, NoMemory, RefusalCode, SnapInfo, State, TransitionList};
+use virt_types::{
+    Answer, Ask, Call, Domain, Name, NoMemory, RefusalCode, SnapInfo, State, TransitionList,
+};
 
 /// All memory that a call on snapshots needs.
 #[derive(Drop)]
@@ -28,7 +30,6 @@ pub struct Parts {
 }
 
 /// What is next for the call: it can be finished, since none of these calls asks anything.
-#[tactic(auto, using(crate::proofs::Calls::nothing_asked))]
 pub fn next(
     _state: &State,
     _call: &Call,
@@ -92,12 +93,7 @@ fn finish_deletion(
 }
 
 // A Snapshot as a call: it changes nothing.
-fn finish_snapshot(
-    domain: &Domain,
-    info: &SnapInfo,
-    answers: &[Answer],
-    texts: Texts,
-) -> CallEnd
+fn finish_snapshot(domain: &Domain, info: &SnapInfo, answers: &[Answer], texts: Texts) -> CallEnd
     ensures state { (held_seq domain.now (call.Snapshot info.now) None answers.now).state ≡ state.Held domain.now }
     ensures reply { Says result (held_seq domain.now (call.Snapshot info.now) None answers.now).reply }
     ensures transitions { (held_seq domain.now (call.Snapshot info.now) None answers.now).transitions ≡ [] }

@@ -1,9 +1,9 @@
 // How a snapshot is deleted, alone or with those that come from it.
-ghost use Rattle.std.specs.Prelude.{◌≡◌, ◌++◌, All, IfOk, drop, length, map, not, take};
+ghost use Rattle.std.specs.Prelude.{◌≡◌, All, IfOk, drop, length, map, not, option_map};
 ghost use Rattle.domain_spec.specs.CallResult.{snapshot_deleted};
-ghost use Rattle.domain_spec.specs.Snapshots.{comes_from, current_in, is_met, is_named, is_parent, parent_of, without_snapshot};
+ghost use Rattle.domain_spec.specs.Snapshots.{comes_from, current_in, is_met, is_named, without_snapshot};
 ghost use Rattle.domain_spec.specs.Types.state;
-ghost use Rattle.snapshot_core.specs.Deletion.{FitsDeletion, FitsOthers, count_children, parent_named};
+ghost use Rattle.snapshot_core.specs.Deletion.{FitsDeletion, FitsOthers, parent_named};
 
 use std::alloc::Global;
 use virt_types::{Domain, ListOf, Name, NoMemory, Snap, SnapList, TryCopy};

@@ -10,8 +10,6 @@ mod phases;
 mod snaps;
 mod state_room;
 mod taking;
-#[cfg(test)]
-mod tests;
 
 pub use calls::{Parts, finish, next, parts};
 pub use deletion::{Deletion, Others};

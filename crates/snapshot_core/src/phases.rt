@@ -1,26 +1,27 @@
 // The phases that take a snapshot, or make one the current one; and where no phase is due.
-ghost use Rattle.std.specs.Prelude.{◌≡◌, ◌++◌, ◌≤◌, [], IfOk, Some, false};
-ghost use Rattle.core_rules.specs.Cores.{core_due, core_of_phase};
-ghost use Rattle.core_rules.specs.Led.{Says, led_in};
+ghost use Rattle.std.specs.Prelude.{◌≡◌, ◌++◌, ◌≤◌, [], IfOk, IfSome, IsSome, false, true};
+ghost use Rattle.core_rules.specs.Cores.{core_due, core_on};
+ghost use Rattle.core_rules.specs.Ends.{has_operation};
 ghost use Rattle.core_rules.specs.Next.{next_if, next_of};
-ghost use Rattle.core_rules.specs.Place.{next_at, place_after};
+ghost use Rattle.core_rules.specs.Place.{next_at};
 ghost use Rattle.core_rules.specs.declared.cores.Core.TheVariants as core;
-ghost use Rattle.domain_spec.specs.Phase.{phase_done, phase_in, phase_of, phase_still_asked, plan_in};
+ghost use Rattle.domain_spec.specs.Phase.{phase_done, phase_in, phase_of, phase_still_asked};
 ghost use Rattle.domain_spec.specs.Reading.{carries_ended};
 ghost use Rattle.domain_spec.specs.Types.state;
 ghost use Rattle.snapshot_core.specs.Fits.{IsForPhase, TakesIn, reverted_to};
-ghost use Rattle.snapshot_core.specs.Plan.{take_plan};
-ghost use Rattle.snapshot_core.specs.Taking.{FitsTaking};
+ghost use Rattle.snapshot_core.specs.Plan.{due_plan, is_nothing, take_plan};
+ghost use Rattle.snapshot_core.specs.Steps.{nothing_done, take_done};
+ghost use Rattle.snapshot_core.specs.Taking.{FitsTaken, def_of};
 
 use crate::taking::{Taking, resumes, take_inactive, take_live, taking_for};
 use core_rules::{
-    CallEnd, Next, PhaseEnd, PhaseTexts, Place, Reason, carries_ended, first_bad, has_operation,
-    next_is_at, phase_ended, phase_failed, place_after,
+    CallEnd, Next, PhaseEnd, PhaseTexts, Place, Reason, Texts, carries_ended, first_bad,
+    has_operation, phase_ended, phase_failed, place_after,
 };
 use domain_spec::OpenOperation;
 use std::alloc::Global;
 use virt_types::{
-    Answer, Ask, Call, Command, Domain, Live, Name, NoMemory, Op, Phase, RefusalCode, State,
+    Answer, Ask, Call, Command, Domain, Name, NoMemory, Op, Phase, RefusalCode, SnapInfo, State,
     TransitionList, TryCopy,
 };
 
@@ -122,17 +123,59 @@ pub fn phase_parts(
     })
 }
 
-// A snapshot becomes the current one: without a guest nothing else is done.
-fn go_back(domain: &mut Domain, _call: &Call, current: Option<Name>)
-    requires { current ≡ reverted_to _call.now }
-    ensures { domain.new ≡ record domain.old { current = current_after domain.old _call.now } }
+// The phase that asks nothing: without a guest a snapshot becomes the current one.
+fn finish_nothing(domain: &mut Domain, call: &Call, current: Option<Name>) -> PhaseEnd
+    requires { current ≡ reverted_to call.now }
+    ensures state { state.Held domain.new ≡ (nothing_done domain.old domain.old.live call.now).state }
+    ensures outcome { result.outcome ≡ (nothing_done domain.old domain.old.live call.now).outcome }
+    ensures in_mark { result.in_mark ≡ (nothing_done domain.old domain.old.live call.now).outcome }
+    ensures transitions { (nothing_done domain.old domain.old.live call.now).transitions ≡ [] }
 {
-    if current.is_some() {
-        domain.current = current;
+    if domain.live.is_none() {
+        match call {
+            Call::Revert(_) => domain.current = current,
+            _ => {}
+        }
+    }
+    PhaseEnd::over(CallEnd::done())
+}
+
+// The phase that takes a snapshot.
+fn finish_take(
+    domain: &mut Domain,
+    info: &SnapInfo,
+    answers: &[Answer],
+    taking: Option<Taking>,
+    texts: Texts,
+    into: &mut TransitionList,
+) -> PhaseEnd
+    requires there { IsSome domain.old.op }
+    requires fits { FitsTaken taking domain.old info.now (def_of domain.old.live domain.old.stored) }
+    requires room { 1 ≤ into.old.room }
+    ensures state { IfSome domain.old.op (λ op. state.Held domain.new ≡ (take_done domain.old domain.old.live op info.now answers.now).state) }
+    ensures outcome { IfSome domain.old.op (λ op. result.outcome ≡ (take_done domain.old domain.old.live op info.now answers.now).outcome) }
+    ensures in_mark { IfSome domain.old.op (λ op. result.in_mark ≡ (take_done domain.old domain.old.live op info.now answers.now).outcome) }
+    ensures transitions { IfSome domain.old.op (λ op. into.new.list ≡ into.old.list ++ (take_done domain.old domain.old.live op info.now answers.now).transitions) }
+{
+    if domain.live.is_some() {
+        take_live(domain, info, answers, taking, into)
+    } else {
+        take_inactive(domain, info, taking, texts)
+    }
+}
+
+// Whether the due phase is the one that asks nothing.
+fn is_nothing(op: &Option<Op>) -> bool
+    ensures { result ≡ is_nothing op.now }
+{
+    match op {
+        None => false,
+        Some(op) => op.phase == Phase::Nothing,
     }
 }
 
 // The due phase of a domain with an operation, whose answers are all Ok.
+#[tactic(auto, using(crate::proofs::Phases::done_nothing, crate::proofs::Phases::done_take))]
 fn finish_done(
     domain: &mut Domain,
     call: &Call,
@@ -149,20 +192,19 @@ fn finish_done(
     ensures in_mark { IfSome domain.old.op (λ op. result.in_mark ≡ (phase_done domain.old domain.old.live op call.now answers.now).outcome) }
     ensures transitions { IfSome domain.old.op (λ op. into.new.list ≡ into.old.list ++ (phase_done domain.old domain.old.live op call.now answers.now).transitions) }
 {
-    match (phase_due(domain), call) {
-        (Phase::Take, Call::Snapshot(info)) => {
-            if domain.live.is_some() {
-                take_live(domain, info, answers, parts.taking, into)
-            } else {
-                take_inactive(domain, info, parts.taking, parts.texts.texts)
-            }
-        }
-        _ => {
-            if domain.live.is_none() {
-                go_back(domain, call, parts.current);
-            }
-            PhaseEnd::over(CallEnd::done())
-        }
+    if is_nothing(&domain.op) {
+        return finish_nothing(domain, call, parts.current);
+    }
+    match call {
+        Call::Snapshot(info) => finish_take(
+            domain,
+            info,
+            answers,
+            parts.taking,
+            parts.texts.texts,
+            into,
+        ),
+        _ => unreachable!(),
     }
 }
 
@@ -213,7 +255,12 @@ pub fn finish_phase(
         return phase_ended(operation, answers, parts.texts.texts);
     }
     if !has_operation(state) {
-        return PhaseEnd::over(parts.texts.texts.refused(Reason::Bare(RefusalCode::NoDomain)));
+        return PhaseEnd::over(
+            parts
+                .texts
+                .texts
+                .refused(Reason::Bare(RefusalCode::NoDomain)),
+        );
     }
     finish_due(state, &operation.call, answers, parts, into)
 }

@@ -1,18 +1,31 @@
 // How a snapshot is taken.
-ghost use Rattle.std.specs.Prelude.{◌≡◌, ◌+◌, ◌<◌, ◌^◌, IfOk, None, Some, [], length, option_map};
+ghost use Rattle.std.specs.Prelude.{◌≡◌, ◌+◌, ◌++◌, ◌<◌, ◌≤◌, ◌^◌, [], IfOk, None, Some, if◌then◌else◌, length, option_map, unwrap_or};
 ghost use Rattle.core_rules.specs.Led.{Says};
-ghost use Rattle.domain_spec.specs.Operation.{snapshot_taken};
+ghost use Rattle.domain_spec.specs.Asks.{first_value};
+ghost use Rattle.domain_spec.specs.CopyResult.{run_as};
+ghost use Rattle.domain_spec.specs.Operation.{live_taken, resume_events};
+ghost use Rattle.domain_spec.specs.Phase.{inactive_taken};
+ghost use Rattle.domain_spec.specs.PhaseAsks.{resumes};
+ghost use Rattle.domain_spec.specs.Snapshots.{with_snapshot};
 ghost use Rattle.domain_spec.specs.Types.reply;
+ghost use Rattle.domain_spec.specs.Types.run;
+ghost use Rattle.domain_spec.specs.Types.state;
 ghost use Rattle.domain_spec.specs.Types.value;
+ghost use Rattle.snapshot_core.specs.Both.{AreThere, OnBoth};
 ghost use Rattle.snapshot_core.specs.Taking.{FitsSnapshot, FitsTaken, FitsTaking, def_of, new_snapshot};
 
 use crate::names::snapshot_name;
-use core_rules::CallEnd;
+use crate::state_room::StateRoom;
+use core_rules::{CallEnd, PhaseEnd, Reason, Texts, first_value, is_held_by_job};
 use std::alloc::Global;
 use virt_types::{
-    Bytes, Call, Domain, DomainDef, Live, Name, NewSnap, NoMemory, Reply, RunState, Snap, SnapInfo,
-    Text, TryCopy, Value, both,
+    Answer, Bytes, Call, Cause, Domain, DomainDef, Live, Name, NewSnap, NoMemory, Op,
+    RESUMED_UNPAUSED, RefusalCode, Reply, RunState, Snap, SnapInfo, Text, TransitionList, TryCopy,
+    Value, both,
 };
+
+// How many snapshots can be counted, with one more.
+const MOST_COUNTED: usize = usize::MAX - 1;
 
 /// What a snapshot that is taken needs, so that it takes no memory.
 #[derive(Drop)]
@@ -53,8 +66,14 @@ fn new_snapshot(
 ) -> Result<Snap, NoMemory>
     ensures { IfOk result (λ snap. snap ≡ new_snapshot domain.now info.now def.now) }
 {
-    let texts = both(snapshot_name(alloc, domain, info), description_of(alloc, info));
-    let ((name, description), (parent, def)) = both(texts, both(domain.current.copy(), def.copy()))?;
+    let texts = both(
+        snapshot_name(alloc, domain, info),
+        description_of(alloc, info),
+    );
+    let ((name, description), (parent, def)) = both(
+        texts,
+        both(domain.current.copy(), def.copy()),
+    )?;
     Ok(Snap {
         name,
         description,
@@ -159,13 +178,20 @@ pub(crate) fn take_inactive(
     }
 }
 
+/// Whether a guest goes on that stood still for the copy.
+pub(crate) fn resumes(live: &Live, op: &Op) -> bool
+    ensures { result ≡ resumes live.now op.now }
+{
+    op.was_running && is_held_by_job(live.run)
+}
+
 // A guest that stood still for the copy goes on.
 fn resume(live: &mut Live, op: &Op, into: &mut TransitionList)
     requires room { 1 ≤ into.old.room }
     ensures live { live.new ≡ (if resumes live.old op.now then record live.old { run = run.Running } else live.old) }
     ensures told { into.new.list ≡ into.old.list ++ resume_events live.old op.now }
 {
-    if op.was_running && is_held_by_job(live.run) {
+    if resumes(live, op) {
         live.run = RunState::Running;
         into.push(RESUMED_UNPAUSED);
     }

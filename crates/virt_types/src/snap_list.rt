@@ -152,17 +152,13 @@ impl SnapList {
     pub fn count_children(&self, name: &Name) -> usize
         ensures { result ≡ count_by (is_child name.now) self.now }
     {
+        let _count = self.count;
         self.tree.count_children(name)
     }
 
     /// Gives the children of this name another parent. `copies` are of that one, as many as there are
     /// children, so it takes no memory.
-    pub fn adopt(
-        &mut self,
-        name: &Name,
-        parent: &Option<Name>,
-        copies: ListOf<Option<Name>>,
-    )
+    pub fn adopt(&mut self, name: &Name, parent: &Option<Name>, copies: ListOf<Option<Name>>)
         requires same { All (λ copy. copy ≡ parent.now) copies }
         requires enough { count_by (is_child name.now) self.old ≤ length copies }
         ensures { self.new ≡ map (with_parent name.now parent.now) self.old }

@@ -20,12 +20,7 @@ fn is_parent(parent: &Option<Name>, name: &Name) -> bool
 }
 
 // One copy of the parent for a child.
-fn adopt_one(
-    snap: &mut Snap,
-    name: &Name,
-    _parent: &Option<Name>,
-    copies: &mut Vec<Option<Name>>,
-)
+fn adopt_one(snap: &mut Snap, name: &Name, _parent: &Option<Name>, copies: &mut Vec<Option<Name>>)
     requires same { All (λ copy. copy ≡ _parent.now) copies.old.items }
     requires enough { count_by (is_child name.now) (snap.old ∷ []) ≤ length copies.old.items }
     ensures snap { snap.new ≡ with_parent name.now _parent.now snap.old }
