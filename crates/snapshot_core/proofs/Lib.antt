@@ -1,2 +1,2 @@
-pub mod Calls
-pub mod Phases
+pub mod CallProofs
+pub mod PhaseProofs

@@ -4,9 +4,9 @@ use Rattle.domain_spec.specs.Types.{Call, State}
 use Rattle.domain_spec.specs.Types.call
 use Rattle.domain_spec.specs.Types.state
 use Rattle.core_rules.specs.Led.{Says, led_in}
-use Rattle.snapshot_core.specs.declared.calls.Parts.{Parts}
+use Rattle.snapshot_core.specs.declared.made.Parts.{Parts}
 use Rattle.snapshot_core.specs.declared.deletion.Deletion.{Deletion}
-use Rattle.snapshot_core.specs.declared.phases.PhaseParts.{PhaseParts}
+use Rattle.snapshot_core.specs.declared.made.PhaseParts.{PhaseParts}
 use Rattle.snapshot_core.specs.declared.taking.Taking.{Taking}
 use Rattle.snapshot_core.specs.Deletion.{FitsDeletion}
 use Rattle.snapshot_core.specs.Taking.{FitsTaking}

@@ -14,20 +14,12 @@ ghost use Rattle.snapshot_core.specs.Fits.{FitsCall, IsFor};
 
 use crate::deletion::{Deletion, delete};
 use crate::judging::{judge_deletion, judge_revert, judge_snapshot};
+use crate::made::Parts;
 use core_rules::{CallEnd, Next, Reason, Texts, call_ended, failure_of, first_bad, meets_ended};
 use std::alloc::Global;
 use virt_types::{
     Answer, Ask, Call, Domain, Name, NoMemory, RefusalCode, SnapInfo, State, TransitionList,
 };
-
-/// All memory that a call on snapshots needs.
-#[derive(Drop)]
-pub struct Parts {
-    /// Room for its refusal.
-    pub texts: Texts,
-    /// What a deletion needs.
-    pub deletion: Option<Deletion>,
-}
 
 /// What is next for the call: it can be finished, since none of these calls asks anything.
 pub fn next(

@@ -93,7 +93,7 @@ fn copies(
     Ok(ListOf::of(copies))
 }
 
-fn others(
+fn others_for(
     alloc: Global,
     snaps: &SnapList,
     parent: &Option<Name>,
@@ -130,7 +130,7 @@ impl Deletion {
         ensures { IfOk result (λ deletion. FitsDeletion deletion snaps.now name.now children) }
     {
         let parent = copied_parent(snaps, name)?;
-        let others = others(alloc, snaps, &parent, name, children)?;
+        let others = others_for(alloc, snaps, &parent, name, children)?;
         Ok(Deletion { parent, others })
     }
 }

@@ -5,15 +5,17 @@
 mod calls;
 mod deletion;
 mod judging;
+mod made;
 mod names;
 mod phases;
 mod snaps;
 mod state_room;
 mod taking;
 
-pub use calls::{Parts, finish, next, parts};
+pub use calls::{finish, next, parts};
 pub use deletion::{Deletion, Others};
-pub use phases::{PhaseParts, finish_phase, next_phase, phase_parts};
+pub use made::{Parts, PhaseParts};
+pub use phases::{finish_phase, next_phase, phase_parts};
 pub use snaps::Snaps;
 pub use state_room::StateRoom;
 pub use taking::Taking;

@@ -13,6 +13,7 @@ ghost use Rattle.snapshot_core.specs.Plan.{due_plan, is_nothing, take_plan};
 ghost use Rattle.snapshot_core.specs.Steps.{nothing_done, take_done};
 ghost use Rattle.snapshot_core.specs.Taking.{FitsTaken, def_of};
 
+use crate::made::PhaseParts;
 use crate::taking::{Taking, resumes, take_inactive, take_live, taking_for};
 use core_rules::{
     CallEnd, Next, PhaseEnd, PhaseTexts, Place, Reason, Texts, carries_ended, first_bad,
@@ -24,17 +25,6 @@ use virt_types::{
     Answer, Ask, Call, Command, Domain, Name, NoMemory, Op, Phase, RefusalCode, SnapInfo, State,
     TransitionList, TryCopy,
 };
-
-/// All memory that a phase of an operation on snapshots needs.
-#[derive(Drop)]
-pub struct PhaseParts {
-    /// Room for its refusal.
-    pub texts: PhaseTexts,
-    /// The name of the snapshot that a revert makes the current one.
-    pub current: Option<Name>,
-    /// What a snapshot needs that is taken.
-    pub taking: Option<Taking>,
-}
 
 // The ask at this place of those that take a copy of a guest.
 fn take_ask(resumes: bool, place: Place) -> Option<Ask>
@@ -175,7 +165,7 @@ fn is_nothing(op: &Option<Op>) -> bool
 }
 
 // The due phase of a domain with an operation, whose answers are all Ok.
-#[tactic(auto, using(crate::proofs::Phases::done_nothing, crate::proofs::Phases::done_take))]
+#[tactic(auto, using(crate::proofs::PhaseProofs::done_nothing, crate::proofs::PhaseProofs::done_take))]
 fn finish_done(
     domain: &mut Domain,
     call: &Call,

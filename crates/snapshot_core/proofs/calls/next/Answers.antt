@@ -1,4 +1,4 @@
-use Rattle.snapshot_core.proofs.Calls.{nothing_next}
+use Rattle.snapshot_core.proofs.CallProofs.{nothing_next}
 use Rattle.snapshot_core.proofs.calls.next.Goals as goal
 
 pub returns : goal.returns

@@ -12,15 +12,15 @@ use Rattle.core_rules.specs.declared.cores.Core.TheVariants as core
 use Rattle.core_rules.specs.Next.{next_of}
 use Rattle.core_rules.specs.declared.next.Next.TheVariants as next
 
-nothing_dropped : (n : ℕ) → drop n ([] : List Ask) ≡ []
+nothing_dropped : (n : ℕ) → drop {A = Ask} n [] ≡ []
 nothing_dropped zero = refl
 nothing_dropped (suc n) = refl
 
-nothing_taken : (n : ℕ) → take n ([] : List PlannedAsk) ≡ []
+nothing_taken : (n : ℕ) → take {A = PlannedAsk} n [] ≡ []
 nothing_taken zero = refl
 nothing_taken (suc n) = refl
 
-nothing_at : (n : ℕ) → slice_get ([] : List PlannedAsk) n ≡ None
+nothing_at : (n : ℕ) → slice_get {A = PlannedAsk} [] n ≡ None
 nothing_at zero = refl
 nothing_at (suc n) = refl
 
