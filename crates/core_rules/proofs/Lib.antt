@@ -1,3 +1,5 @@
+pub mod Answered
 pub mod NextAsk
+pub mod Plans
 pub mod RefusedKinds
 pub mod SlotCounts

@@ -1,17 +1,20 @@
 -- A phase that was refused leaves what its kind says.
-use Rattle.std.proofs.Common.{◌≡◌, ◌∷◌, [], Bool, true, false, Option, None, Some, if◌then◌else◌, refl, sym, ap}
-use Rattle.domain_spec.specs.Types.{Domain, Live, Op, Phase, Refusal, State}
+use Rattle.std.proofs.Common.{◌≡◌, ◌∷◌, ◌++◌, ◌∙◌, [], List, Bool, true, false, Option, None, Some, if◌then◌else◌, refl, sym, ap}
+use Rattle.std.proofs.lemmas.List.{append-nil}
+use Rattle.domain_spec.specs.Types.{Domain, Live, Op, Phase, Refusal, State, Transition}
 use Rattle.domain_spec.specs.Types.phase
 use Rattle.domain_spec.specs.Types.reason
 use Rattle.domain_spec.specs.Types.reply
 use Rattle.domain_spec.specs.Types.state
 use Rattle.domain_spec.specs.Types.told
 use Rattle.domain_spec.specs.CopyResult.{cancels, over}
+use Rattle.domain_spec.specs.Exit.{exit_held}
 use Rattle.domain_spec.specs.Migration.{rests}
 use Rattle.domain_spec.specs.Operation.{led_to}
 use Rattle.domain_spec.specs.Phase.{inactive_phase_refused, live_phase_refused, phase_refused, start_failed}
+use Rattle.core_rules.specs.declared.refusing.Refused.{Refused}
 use Rattle.core_rules.specs.declared.refusing.Refused.TheVariants as so
-use Rattle.core_rules.specs.Ends.{ended_by, ended_in, gives_up_in, gives_up_on, refused_in, refused_on, rests_in, rests_on, start_failed_in}
+use Rattle.core_rules.specs.Ends.{gives_up_in, gives_up_on, refused_in, refused_on, rests_in, rests_on, start_failed_in}
 use Rattle.core_rules.specs.Led.{led_by, led_in}
 use Rattle.core_rules.specs.Refusing.{kind_by, kind_on, kind_on_guest, kind_on_none, refused_kind, refused_so}
 
@@ -28,8 +31,7 @@ unfolding led_in
 led d op e = sym (ap (λ o. over (state.Held d) [] (led_by o)) e)
 
 fails : (d : Domain) (l : Live) (r : Refusal) → d.live ≡ Some l → start_failed d l r ≡ start_failed_in (state.Held d) r
-unfolding ended_in
-fails d l r e = sym (ap (λ live. over (ended_by d live reason.Failed) (told.STOPPED_FAILED ∷ []) (reply.No r)) e)
+fails d l r e = sym (ap (λ live. over (exit_held d live reason.Failed) (told.STOPPED_FAILED ∷ []) (reply.No r)) e)
 
 load :
     (d : Domain) (l : Live) (r : Refusal) (new_boot : Bool) → d.live ≡ Some l
@@ -95,3 +97,9 @@ pub refused_by_kind : (s : State) (r : Refusal) → refused_in s r ≡ refused_s
 unfolding refused_in refused_kind
 refused_by_kind (state.Vacant boots) r = refl
 refused_by_kind (state.Held d) r = by_operation d d.op r refl
+
+-- listeners are told nothing of a phase that was refused so
+pub quiet : (s : State) (r : Refusal) (k : Refused) (told : List Transition) → k ≡ refused_kind s → (refused_so k s r).transitions ≡ [] → told ≡ told ++ (refused_in s r).transitions
+quiet s r k told e nothing =
+    let same : (refused_in s r).transitions ≡ [] = ap (λ step. step.transitions) (refused_by_kind s r) ∙ (sym (ap (λ kind. (refused_so kind s r).transitions) e) ∙ nothing) in
+    sym (ap (λ events. told ++ events) same ∙ append-nil told)

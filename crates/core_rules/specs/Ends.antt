@@ -1,32 +1,22 @@
--- What ends in a state: its guest, or a phase that was refused.
-use Rattle.std.specs.Prelude.{[], ◌∷◌, Bool, false, is_some, Option, None, Some, if◌then◌else◌}
-use Rattle.domain_spec.specs.Types.{Answer, Domain, EndReason, Live, Op, Refusal, State}
+-- What a phase leaves that was refused, in the state where its operation is.
+use Rattle.std.specs.Prelude.{List, [], ◌∷◌, Bool, false, is_some, Option, None, Some, if◌then◌else◌}
+use Rattle.domain_spec.specs.Types.{Answer, Call, Domain, Op, Refusal, State}
 use Rattle.domain_spec.specs.Types.reason
 use Rattle.domain_spec.specs.Types.reply
 use Rattle.domain_spec.specs.Types.state
 use Rattle.domain_spec.specs.Types.told
 use Rattle.domain_spec.specs.declared.step.PhaseStep.{PhaseStep}
 use Rattle.domain_spec.specs.Asks.{is_undone}
-use Rattle.domain_spec.specs.CallResult.{ended}
 use Rattle.domain_spec.specs.CopyResult.{cancels, over}
+use Rattle.domain_spec.specs.Exit.{exit_state}
 use Rattle.domain_spec.specs.Migration.{rests}
-use Rattle.domain_spec.specs.Phase.{phase_refused}
-use Rattle.domain_spec.specs.Refusals.{failure_of, monitor_lost}
+use Rattle.domain_spec.specs.Phase.{phase_done, phase_refused}
+use Rattle.domain_spec.specs.Refusals.{failure_of, monitor_lost, no_domain}
 
 -- the domain has an operation
 abbrev pub has_operation : State → Bool
 has_operation (state.Vacant boots) = false
 has_operation (state.Held d) = is_some d.op
-
--- the domain without its guest, which ended so; a domain without a guest stays as it is
-abbrev pub ended_by : Domain → Option Live → EndReason → State
-ended_by d None why = state.Held d
-ended_by d (Some l) why = ended d l why
-
--- the state without its guest, which ended so
-unfoldable pub ended_in : State → EndReason → State
-ended_in (state.Vacant boots) why = state.Vacant boots
-ended_in (state.Held d) why = ended_by d d.live why
 
 -- the due phase was refused so; without an operation the call alone is
 abbrev pub refused_on : Domain → Option Op → Refusal → PhaseStep
@@ -37,6 +27,16 @@ refused_on d (Some op) r = phase_refused d d.live op r
 unfoldable pub refused_in : State → Refusal → PhaseStep
 refused_in (state.Vacant boots) r = over (state.Vacant boots) [] (reply.No r)
 refused_in (state.Held d) r = refused_on d d.op r
+
+-- the due phase, where each answer is Ok; without an operation there is no domain for it
+abbrev pub done_on : Domain → Option Op → Call → List Answer → PhaseStep
+done_on d None c answers = over (state.Held d) [] (reply.No no_domain)
+done_on d (Some op) c answers = phase_done d d.live op c answers
+
+-- the due phase of this state, where each answer is Ok
+abbrev pub done_in : State → Call → List Answer → PhaseStep
+done_in (state.Vacant boots) c answers = over (state.Vacant boots) [] (reply.No no_domain)
+done_in (state.Held d) c answers = done_on d d.op c answers
 
 -- an ask of the due phase was answered so, and that is not Ok; after Lost nothing changes but that
 -- the boot's end is marked
@@ -65,4 +65,4 @@ rests_in (state.Held d) r = rests_on d d.op r
 
 -- a new boot that could not be started is gone
 abbrev pub start_failed_in : State → Refusal → PhaseStep
-start_failed_in s r = over (ended_in s reason.Failed) (told.STOPPED_FAILED ∷ []) (reply.No r)
+start_failed_in s r = over (exit_state s reason.Failed) (told.STOPPED_FAILED ∷ []) (reply.No r)

@@ -13,3 +13,8 @@ next_of (a ∷ asks) = next.Ask a
 abbrev pub next_if : Option Ask → Next
 next_if None = next.Finish
 next_if (Some a) = next.Ask a
+
+-- one ask or none
+abbrev pub at_most : Option Ask → List Ask
+at_most None = []
+at_most (Some a) = a ∷ []

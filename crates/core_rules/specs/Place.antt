@@ -1,5 +1,5 @@
 -- Where the ask that is next stands in a plan: among the planned asks, or in the undo of one of them.
-use Rattle.std.specs.Prelude.{ℕ, ◌+◌, ◌-◌, List, length, slice_get, option_map, Option, None, Some, if◌then◌else◌}
+use Rattle.std.specs.Prelude.{ℕ, ◌+◌, ◌-◌, ◌==◌, List, length, slice_get, option_map, Option, None, Some, if◌then◌else◌}
 use Rattle.domain_spec.specs.Types.{Answer, Ask}
 use Rattle.domain_spec.specs.declared.planned.PlannedAsk.{PlannedAsk}
 use Rattle.domain_spec.specs.Asks.{bad_place, first_bad, is_undone}
@@ -42,3 +42,8 @@ abbrev pub next_at : List PlannedAsk → Place → Next
 next_at plan (place.Plan n) = next_if (planned_at plan n)
 next_at plan (place.Undo of step) = next_if (undo_step plan of step)
 next_at plan place.Through = next.Finish
+
+-- what is next at this place of a plan of one ask or none, which nothing undoes
+abbrev pub next_of_one : Option Ask → Place → Next
+next_of_one one (place.Plan n) = if n == 0 then next_if one else next.Finish
+next_of_one one other = next.Finish

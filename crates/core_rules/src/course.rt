@@ -1,12 +1,13 @@
 // Where the ask that is next stands in a plan.
 ghost use Rattle.std.specs.Prelude.{◌≡◌, ◌<◌, length};
-ghost use Rattle.domain_spec.specs.Asks.{asks_left, first_bad};
-ghost use Rattle.core_rules.specs.Next.{next_of};
+ghost use Rattle.domain_spec.specs.Asks.{asks_left, first_bad, plain};
+ghost use Rattle.core_rules.specs.Next.{at_most, next_of};
 ghost use Rattle.core_rules.specs.Place.{next_at, place_after, place_behind};
 
 use crate::answers::{bad_place, first_bad, is_undone};
+use crate::next::Next;
 use domain_spec::PlannedAsk;
-use virt_types::Answer;
+use virt_types::{Answer, Ask};
 
 /// Where the ask that is next stands in a plan.
 #[derive(Clone, Copy, Debug, PartialEq, Eq)]
@@ -60,3 +61,18 @@ fn place_behind(answers: &[Answer], of: usize) -> Place
 pub fn next_is_at(plan: &[PlannedAsk], answers: &[Answer])
     ensures { next_of (asks_left plan.now answers.now) ≡ next_at plan.now (place_after answers.now) }
 {}
+
+/// What is next where one ask is planned, or none, and nothing undoes it.
+#[tactic(auto, using(crate::proofs::Plans::next_of_plain))]
+pub fn next_of_one(ask: Option<Ask>, answers: &[Answer]) -> Next
+    ensures { result ≡ next_of (asks_left (plain (at_most ask)) answers.now) }
+{
+    match place_after(answers) {
+        Place::Plan(0) => Next::of(ask),
+        _ => {
+            // Let go by a call: the proof meets no case of an ask then.
+            drop(ask);
+            Next::Finish
+        }
+    }
+}

@@ -13,7 +13,9 @@ use crate::kept::KeptText;
 use crate::reason::Reason;
 use domain_spec::Outcome;
 use std::alloc::Global;
-use virt_types::{Call, Name, NoMemory, Op, Phase, RefusalCode, Reply, State, TryCopy, Value};
+use virt_types::{
+    Call, Name, NoMemory, Op, Phase, RefusalCode, Reply, State, TryCopy, Value, both,
+};
 
 /// What a call is answered, twice.
 #[derive(Drop)]
@@ -153,6 +155,7 @@ fn led_by(alloc: Global, op: &Option<Op>) -> Result<Reply, NoMemory>
     }
 }
 
+#[tactic(auto, unfolding(crate::specs::Led::led_in))]
 fn led_in(alloc: Global, state: &State) -> Result<Reply, NoMemory>
     ensures { IfOk result (λ led. led ≡ led_in state.now) }
 {
@@ -167,15 +170,27 @@ impl PhaseTexts {
     pub fn new(alloc: Global, state: &State) -> Result<PhaseTexts, NoMemory>
         ensures led { IfOk result (λ texts. Says texts.led (led_in state.now)) }
     {
-        let led = CallEnd {
-            reply: led_in(alloc, state)?,
-            in_mark: led_in(alloc, state)?,
-        };
+        let texts = Texts::new(alloc)?;
+        let for_operation = KeptText::new(alloc)?;
+        let (reply, in_mark) = both(led_in(alloc, state), led_in(alloc, state))?;
         Ok(PhaseTexts {
-            texts: Texts::new(alloc)?,
-            for_operation: KeptText::new(alloc)?,
-            led,
+            texts,
+            for_operation,
+            led: CallEnd { reply, in_mark },
         })
+    }
+
+    /// Room for the refusal that ends a phase, without the rest.
+    pub fn into_texts(self) -> Texts {
+        let PhaseTexts {
+            texts,
+            for_operation,
+            led,
+        } = self;
+        drop(for_operation);
+        // Let go by a call: a proof of a caller meets no case of a reply then.
+        drop(led);
+        texts
     }
 }
 

@@ -1,15 +1,20 @@
 // How phases of operations end, in place and without memory.
-ghost use Rattle.std.specs.Prelude.{◌≡◌, ◌++◌, ◌≤◌, [], Some, true};
-ghost use Rattle.domain_spec.specs.CopyResult.{cancel_phase};
-ghost use Rattle.domain_spec.specs.Phase.{ended_reply, quit_was_done};
+ghost use Rattle.std.specs.Prelude.{◌≡◌, ◌++◌, ◌≤◌, [], None, Some, false, true};
+ghost use Rattle.domain_spec.specs.CopyResult.{cancel_phase, over};
+ghost use Rattle.domain_spec.specs.Exit.{exit_state};
+ghost use Rattle.domain_spec.specs.Phase.{ended_reply, phase_of, quit_was_done};
+ghost use Rattle.domain_spec.specs.Asks.{first_bad};
+ghost use Rattle.domain_spec.specs.Reading.{carries_ended};
+ghost use Rattle.domain_spec.specs.Types.{Answer as TheAnswer};
 ghost use Rattle.domain_spec.specs.Types.phase;
 ghost use Rattle.domain_spec.specs.declared.step.Outcome.TheVariants as outcome;
-ghost use Rattle.core_rules.specs.Ends.{ended_in, failed_in, gives_up_in, refused_in, rests_in, start_failed_in};
+ghost use Rattle.core_rules.specs.Ends.{done_in, failed_in, gives_up_in, has_operation, refused_in, rests_in, start_failed_in};
 ghost use Rattle.core_rules.specs.Led.{Says, led_in};
 ghost use Rattle.core_rules.specs.Reasons.{refusal_for};
 
 use crate::answers::{failure_of, first_value, is_undone};
 use crate::ends::{CallEnd, PhaseEnd, PhaseTexts, Texts};
+use crate::kept::KeptText;
 use crate::reason::Reason;
 use crate::refusing::{Refused, refused_kind};
 use domain_spec::{OpenOperation, Outcome};
@@ -60,9 +65,8 @@ pub fn rests(op: &mut Op, end: CallEnd) -> PhaseEnd
 
 /// The guest is gone, and ended so; the cell is vacant then where nothing is stored. Where there is
 /// no guest, nothing changes.
-#[tactic(auto, unfolding(crate::specs::Ends::ended_in))]
 pub fn end_guest(state: &mut State, why: EndReason)
-    ensures { state.new ≡ ended_in state.old why }
+    ensures { state.new ≡ exit_state state.old why }
 {
     match state {
         State::Vacant { .. } => {}
@@ -98,17 +102,17 @@ pub fn start_failed(
 }
 
 #[tactic(auto, unfolding(crate::specs::Ends::gives_up_in))]
-fn gives_up(state: &mut State, reason: Reason, texts: PhaseTexts) -> PhaseEnd
+fn gives_up(state: &mut State, reason: Reason, texts: Texts, for_operation: KeptText) -> PhaseEnd
     ensures state { state.new ≡ (gives_up_in state.old (refusal_for reason)).state }
     ensures outcome { result.outcome ≡ (gives_up_in state.old (refusal_for reason)).outcome }
     ensures in_mark { result.in_mark ≡ (gives_up_in state.old (refusal_for reason)).outcome }
     ensures transitions { (gives_up_in state.old (refusal_for reason)).transitions ≡ [] }
 {
     match state {
-        State::Vacant { .. } => PhaseEnd::over(texts.texts.refused(reason)),
+        State::Vacant { .. } => PhaseEnd::over(texts.refused(reason)),
         State::Held(domain) => match &mut domain.op {
-            None => PhaseEnd::over(texts.texts.refused(reason)),
-            Some(op) => cancels(op, texts.for_operation.refusal(reason)),
+            None => PhaseEnd::over(texts.refused(reason)),
+            Some(op) => cancels(op, for_operation.refusal(reason)),
         },
     }
 }
@@ -145,12 +149,29 @@ pub fn phase_refused(
     ensures in_mark { result.in_mark ≡ (refused_in state.old (refusal_for reason)).outcome }
     ensures transitions { into.new.list ≡ into.old.list ++ (refused_in state.old (refusal_for reason)).transitions }
 {
+    let PhaseTexts {
+        texts,
+        for_operation,
+        led,
+    } = texts;
     match refused_kind(state) {
-        Refused::Over => PhaseEnd::over(texts.texts.refused(reason)),
-        Refused::Led => PhaseEnd::over(texts.led),
-        Refused::GivesUp => gives_up(state, reason, texts),
-        Refused::Rests => rests_refused(state, reason, texts.texts),
-        Refused::StartFails => start_failed(state, reason, texts.texts, into),
+        Refused::Led => PhaseEnd::over(led),
+        Refused::Over => {
+            drop(led);
+            PhaseEnd::over(texts.refused(reason))
+        }
+        Refused::GivesUp => {
+            drop(led);
+            gives_up(state, reason, texts, for_operation)
+        }
+        Refused::Rests => {
+            drop(led);
+            rests_refused(state, reason, texts)
+        }
+        Refused::StartFails => {
+            drop(led);
+            start_failed(state, reason, texts, into)
+        }
     }
 }
 
@@ -173,7 +194,11 @@ pub fn phase_failed(
     if is_undone(bad) {
         phase_refused(state, failure_of(bad), texts, into)
     } else {
-        PhaseEnd::over(texts.texts.refused(Reason::Bare(RefusalCode::MonitorLost)))
+        PhaseEnd::over(
+            texts
+                .into_texts()
+                .refused(Reason::Bare(RefusalCode::MonitorLost)),
+        )
     }
 }
 
@@ -203,3 +228,12 @@ pub fn phase_ended(operation: &OpenOperation, answers: &[Answer], texts: Texts) 
         }
     }
 }
+
+/// What the due phase of an operation leaves: its reply where its boot has ended; where its boot is
+/// live, what its first answer that is not Ok makes of it, or its own step.
+#[tactic(auto, using(crate::proofs::Answered::phase_not_live, crate::proofs::Answered::phase_fails, crate::proofs::Answered::phase_goes_through))]
+pub fn phase_course(state: &State, operation: &OpenOperation, answers: &[Answer])
+    ensures ended { carries_ended state.now operation.now.boot ≡ true → phase_of state.now operation.now answers.now ≡ over state.now [] (ended_reply operation.now operation.now.boot answers.now) }
+    ensures fails { (bad : TheAnswer) → carries_ended state.now operation.now.boot ≡ false → has_operation state.now ≡ true → first_bad answers.now ≡ Some bad → phase_of state.now operation.now answers.now ≡ failed_in state.now bad }
+    ensures done { carries_ended state.now operation.now.boot ≡ false → first_bad answers.now ≡ None → phase_of state.now operation.now answers.now ≡ done_in state.now operation.now.call answers.now }
+{}

@@ -1,17 +1,26 @@
 // The slots of a guest's devices.
-ghost use Rattle.std.specs.Prelude.{◌≡◌, ◌+◌, ◌≤◌, IfOk};
+ghost use Rattle.std.specs.Prelude.{◌≡◌, ◌+◌, ◌≤◌, IfOk, map};
 ghost use Rattle.std.specs.List.{range_with_len};
 ghost use Rattle.domain_spec.specs.Devices.{slots_at_start};
 
-use std::alloc::Global;
+use std::alloc::{AllocError, Global};
 use virt_types::{DomainDef, ListOf, NoMemory, SlotList};
 
+// So many numbers, each two greater than its place.
+fn two_on(alloc: Global, count: u32) -> Result<Vec<u32>, AllocError>
+    requires { count + 2 ≤ 4294967295 }
+    ensures { IfOk result (λ slots. slots.items ≡ map (λ at. at + 2) (range_with_len 0 count)) }
+{
+    (0..count).map(|at| at + 2).collect(alloc)
+}
+
 // So many slots, from 0x02 on.
+#[tactic(auto, using(crate::proofs::SlotCounts::two_on))]
 fn slots_counted(alloc: Global, count: u32) -> Result<SlotList, NoMemory>
     requires { count + 2 ≤ 4294967295 }
     ensures { IfOk result (λ slots. slots ≡ range_with_len 2 count) }
 {
-    Ok(ListOf::of((2..2 + count).collect(alloc)?))
+    Ok(ListOf::of(two_on(alloc, count)?))
 }
 
 /// The slots that the devices of a definition take at a start: 0x02 and on, one a device. There is
