@@ -128,17 +128,30 @@ fn finish_held(
     ensures reply { Says result (held_seq domain.old call.now _boot answers.now).reply }
     ensures transitions { (held_seq domain.old call.now _boot answers.now).transitions ≡ [] }
 {
+    let Parts { texts, deletion } = parts;
     match call {
-        Call::SnapDelete { name, children } => match parts.deletion {
-            Some(deletion) => {
-                finish_deletion(domain, name, *children, answers, parts.texts, deletion)
-            }
+        Call::SnapDelete { name, children } => match deletion {
+            Some(deletion) => finish_deletion(domain, name, *children, answers, texts, deletion),
             None => unreachable!(),
         },
-        Call::Snapshot(info) => finish_snapshot(domain, info, answers, parts.texts),
-        Call::Revert(name) => finish_revert(domain, name, answers, parts.texts),
+        Call::Snapshot(info) => {
+            drop(deletion);
+            finish_snapshot(domain, info, answers, texts)
+        }
+        Call::Revert(name) => {
+            drop(deletion);
+            finish_revert(domain, name, answers, texts)
+        }
         _ => unreachable!(),
     }
+}
+
+fn let_go(parts: Parts) -> Texts
+    ensures { result ≡ parts.texts }
+{
+    let Parts { texts, deletion } = parts;
+    drop(deletion);
+    texts
 }
 
 // A call on snapshots whose boot has not ended.
@@ -156,7 +169,7 @@ fn finish_tested(
     ensures transitions { (tested_seq state.old call.now boot answers.now).transitions ≡ [] }
 {
     match state {
-        State::Vacant { .. } => parts.texts.refused(Reason::Bare(RefusalCode::NoDomain)),
+        State::Vacant { .. } => { let_go(parts).refused(Reason::Bare(RefusalCode::NoDomain)) }
         State::Held(domain) => finish_held(domain, call, boot, answers, parts),
     }
 }
@@ -177,7 +190,7 @@ pub fn finish(
     ensures transitions { _into.new.list ≡ _into.old.list ++ (seq state.old call.now boot answers.now).transitions }
 {
     if meets_ended(state, call, boot) {
-        call_ended(state, call, boot, parts.texts)
+        call_ended(state, call, boot, let_go(parts))
     } else {
         finish_tested(state, call, boot, answers, parts)
     }

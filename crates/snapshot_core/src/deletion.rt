@@ -43,7 +43,7 @@ fn is_named(name: &Name, snap: &Snap) -> bool
 
 // Whether this name is met on the way from a parent to its parents, after so many steps.
 fn is_met(snaps: &SnapList, name: &Name, parent: Option<&Name>, steps: usize) -> bool
-    ensures { result ≡ is_met (drop steps snaps.now) snaps.now name.now (option_map (λ p. p.now) parent) }
+    ensures { result ≡ is_met (drop steps snaps.now) snaps.now name.now (option_map (λ p. p.now) parent.entry) }
 {
     if steps >= snaps.len() {
         return false;

@@ -1,11 +1,11 @@
 // The phases that take a snapshot, or make one the current one; and where no phase is due.
 ghost use Rattle.std.specs.Prelude.{◌≡◌, ◌++◌, ◌≤◌, [], IfOk, IfSome, IsSome, false, true};
-ghost use Rattle.core_rules.specs.Cores.{core_due, core_on};
-ghost use Rattle.core_rules.specs.Ends.{has_operation};
+ghost use Rattle.core_rules.specs.Cores.{Serves, core_due, core_on};
+ghost use Rattle.core_rules.specs.Ends.{done_in, done_on, has_operation};
 ghost use Rattle.core_rules.specs.Next.{next_if, next_of};
 ghost use Rattle.core_rules.specs.Place.{next_at};
 ghost use Rattle.core_rules.specs.declared.cores.Core.TheVariants as core;
-ghost use Rattle.domain_spec.specs.Phase.{phase_done, phase_in, phase_of, phase_still_asked};
+ghost use Rattle.domain_spec.specs.Phase.{phase_of, phase_still_asked};
 ghost use Rattle.domain_spec.specs.Reading.{carries_ended};
 ghost use Rattle.domain_spec.specs.Types.state;
 ghost use Rattle.snapshot_core.specs.Fits.{IsForPhase, TakesIn, reverted_to};
@@ -17,7 +17,7 @@ use crate::made::PhaseParts;
 use crate::taking::{Taking, resumes, take_inactive, take_live, taking_for};
 use core_rules::{
     CallEnd, Next, PhaseEnd, PhaseTexts, Place, Reason, Texts, carries_ended, first_bad,
-    has_operation, phase_ended, phase_failed, place_after,
+    has_operation, phase_course, phase_ended, phase_failed, place_after,
 };
 use domain_spec::OpenOperation;
 use std::alloc::Global;
@@ -65,7 +65,7 @@ pub fn next_phase(
     operation: &OpenOperation,
     answers: &[Answer],
 ) -> Result<Next, NoMemory>
-    requires core { core_due state.now operation.now.call ≡ core.Snapshot }
+    requires core { Serves core.Snapshot state.now operation.now }
     ensures { IfOk result (λ next. next ≡ next_of (phase_still_asked state.now operation.now answers.now)) }
 {
     if carries_ended(state, operation.boot) {
@@ -177,30 +177,32 @@ fn finish_done(
     requires core { core_on domain.old.op call.now ≡ core.Snapshot }
     requires fits { IsForPhase parts (state.Held domain.old) call.now }
     requires room { 1 ≤ into.old.room }
-    ensures state { IfSome domain.old.op (λ op. state.Held domain.new ≡ (phase_done domain.old domain.old.live op call.now answers.now).state) }
-    ensures outcome { IfSome domain.old.op (λ op. result.outcome ≡ (phase_done domain.old domain.old.live op call.now answers.now).outcome) }
-    ensures in_mark { IfSome domain.old.op (λ op. result.in_mark ≡ (phase_done domain.old domain.old.live op call.now answers.now).outcome) }
-    ensures transitions { IfSome domain.old.op (λ op. into.new.list ≡ into.old.list ++ (phase_done domain.old domain.old.live op call.now answers.now).transitions) }
+    ensures state { state.Held domain.new ≡ (done_on domain.old domain.old.op call.now answers.now).state }
+    ensures outcome { result.outcome ≡ (done_on domain.old domain.old.op call.now answers.now).outcome }
+    ensures in_mark { result.in_mark ≡ (done_on domain.old domain.old.op call.now answers.now).outcome }
+    ensures transitions { into.new.list ≡ into.old.list ++ (done_on domain.old domain.old.op call.now answers.now).transitions }
 {
+    let PhaseParts {
+        texts,
+        current,
+        taking,
+    } = parts;
     if is_nothing(&domain.op) {
-        return finish_nothing(domain, call, parts.current);
+        drop(texts);
+        drop(taking);
+        return finish_nothing(domain, call, current);
     }
+    drop(current);
     match call {
-        Call::Snapshot(info) => finish_take(
-            domain,
-            info,
-            answers,
-            parts.taking,
-            parts.texts.texts,
-            into,
-        ),
+        Call::Snapshot(info) => {
+            finish_take(domain, info, answers, taking, texts.into_texts(), into)
+        }
         _ => unreachable!(),
     }
 }
 
-// The due phase of a state with an operation.
-#[tactic(auto, unfolding(core_rules::specs::Ends::failed_in, core_rules::specs::Ends::refused_in))]
-fn finish_due(
+// The due phase of a state with an operation, whose answers are all Ok.
+fn finish_held(
     state: &mut State,
     call: &Call,
     answers: &[Answer],
@@ -211,21 +213,32 @@ fn finish_due(
     requires core { core_due state.old call.now ≡ core.Snapshot }
     requires fits { IsForPhase parts state.old call.now }
     requires room { 1 ≤ into.old.room }
-    ensures state { state.new ≡ (phase_in state.old call.now answers.now).state }
-    ensures outcome { result.outcome ≡ (phase_in state.old call.now answers.now).outcome }
-    ensures in_mark { result.in_mark ≡ (phase_in state.old call.now answers.now).outcome }
-    ensures transitions { into.new.list ≡ into.old.list ++ (phase_in state.old call.now answers.now).transitions }
+    ensures state { state.new ≡ (done_in state.old call.now answers.now).state }
+    ensures outcome { result.outcome ≡ (done_in state.old call.now answers.now).outcome }
+    ensures in_mark { result.in_mark ≡ (done_in state.old call.now answers.now).outcome }
+    ensures transitions { into.new.list ≡ into.old.list ++ (done_in state.old call.now answers.now).transitions }
 {
-    match first_bad(answers) {
-        Some(bad) => phase_failed(state, bad, parts.texts, into),
-        None => match state {
-            State::Vacant { .. } => unreachable!(),
-            State::Held(domain) => finish_done(domain, call, answers, parts, into),
-        },
+    match state {
+        State::Vacant { .. } => unreachable!(),
+        State::Held(domain) => finish_done(domain, call, answers, parts, into),
     }
 }
 
+fn let_go(parts: PhaseParts) -> PhaseTexts
+    ensures { result ≡ parts.texts }
+{
+    let PhaseParts {
+        texts,
+        current,
+        taking,
+    } = parts;
+    drop(current);
+    drop(taking);
+    texts
+}
+
 /// The due phase is done: the state, the transitions, and what it leads to.
+#[tactic(auto, using(crate::proofs::PhaseProofs::no_operation))]
 pub fn finish_phase(
     state: &mut State,
     operation: &OpenOperation,
@@ -233,7 +246,7 @@ pub fn finish_phase(
     parts: PhaseParts,
     into: &mut TransitionList,
 ) -> PhaseEnd
-    requires core { core_due state.old operation.now.call ≡ core.Snapshot }
+    requires core { Serves core.Snapshot state.old operation.now }
     requires fits { carries_ended state.old operation.now.boot ≡ false → IsForPhase parts state.old operation.now.call }
     requires room { 3 ≤ into.old.room }
     ensures state { state.new ≡ (phase_of state.old operation.now answers.now).state }
@@ -241,16 +254,16 @@ pub fn finish_phase(
     ensures in_mark { result.in_mark ≡ (phase_of state.old operation.now answers.now).outcome }
     ensures transitions { into.new.list ≡ into.old.list ++ (phase_of state.old operation.now answers.now).transitions }
 {
+    phase_course(state, operation, answers);
     if carries_ended(state, operation.boot) {
-        return phase_ended(operation, answers, parts.texts.texts);
+        return phase_ended(operation, answers, let_go(parts).into_texts());
     }
     if !has_operation(state) {
-        return PhaseEnd::over(
-            parts
-                .texts
-                .texts
-                .refused(Reason::Bare(RefusalCode::NoDomain)),
-        );
+        let texts = let_go(parts).into_texts();
+        return PhaseEnd::over(texts.refused(Reason::Bare(RefusalCode::NoDomain)));
     }
-    finish_due(state, &operation.call, answers, parts, into)
+    match first_bad(answers) {
+        Some(bad) => phase_failed(state, bad, let_go(parts), into),
+        None => finish_held(state, &operation.call, answers, parts, into),
+    }
 }

@@ -33,7 +33,7 @@ impl StateRoom {
 
     /// The state that an answer gives; empty where it gives none, or one that is too long.
     pub fn hold(self, value: Option<&AnswerValue>) -> Bytes
-        ensures { result ≡ copied_bytes (option_map (λ v. v.now) value) }
+        ensures { result ≡ copied_bytes (option_map (λ v. v.now) value.entry) }
     {
         let mut room = self.bytes;
         match value {

@@ -167,13 +167,22 @@ pub(crate) fn take_inactive(
     ensures transitions { (inactive_taken domain.old _info.now domain.old.stored).transitions ≡ [] }
 {
     if domain.stored.is_none() {
+        drop(taking);
         return PhaseEnd::over(texts.refused(Reason::Bare(RefusalCode::NoDomain)));
     }
     match taking {
         None => unreachable!(),
-        Some(taking) => {
-            add(domain, taking.new, taking.current);
-            PhaseEnd::over(taking.end)
+        Some(
+            Taking {
+                new,
+                room,
+                current,
+                end,
+            },
+        ) => {
+            drop(room);
+            add(domain, new, current);
+            PhaseEnd::over(end)
         }
     }
 }
@@ -224,12 +233,23 @@ pub(crate) fn take_live(
     ensures transitions { OnBoth domain.old.live domain.old.op (λ l op. into.new.list ≡ into.old.list ++ (live_taken domain.old l op _info.now (first_value answers.now)).transitions) }
 {
     match (&mut domain.live, &domain.op, taking) {
-        (Some(live), Some(op), Some(taking)) => {
-            let saved = taking.room.hold(first_value(answers));
-            let new = taking.new.taken_of(run_as(op.was_running), saved);
+        (
+            Some(live),
+            Some(op),
+            Some(
+                Taking {
+                    new,
+                    room,
+                    current,
+                    end,
+                },
+            ),
+        ) => {
+            let saved = room.hold(first_value(answers));
+            let new = new.taken_of(run_as(op.was_running), saved);
             resume(live, op, into);
-            add(domain, new, taking.current);
-            PhaseEnd::over(taking.end)
+            add(domain, new, current);
+            PhaseEnd::over(end)
         }
         _ => unreachable!(),
     }
