@@ -1,16 +1,19 @@
 -- The calls on snapshots ask nothing by themselves.
-use Rattle.std.proofs.Common.{◌≡◌, ℕ, zero, suc, ◌+◌, List, [], ◌++◌, Bool, true, false, if◌then◌else◌, Option, None, Some, drop, take, map, length, slice_get, refl, sym, ap, ◌∙◌}
-use Rattle.domain_spec.specs.Types.{Answer, Ask, Call, Domain, Live, State}
+use Rattle.std.proofs.Common.{◌≡◌, ℕ, zero, suc, ◌+◌, List, [], ◌++◌, Bool, true, false, if◌then◌else◌, Option, None, Some, Err, drop, take, map, length, slice_get, refl, sym, ap, ◌∙◌}
+use Rattle.domain_spec.specs.Types.{Answer, Ask, Call, Domain, Live, Refusal, State}
 use Rattle.domain_spec.specs.Types.call
 use Rattle.domain_spec.specs.Types.state
 use Rattle.domain_spec.specs.declared.planned.PlannedAsk.{PlannedAsk}
 use Rattle.domain_spec.specs.Asks.{asks_left, bad_place, course_at, first_bad, undo_at}
 use Rattle.domain_spec.specs.Call.{guest_plan, plan_of}
-use Rattle.domain_spec.specs.Sequential.{makes_asks, still_asked}
+use Rattle.domain_spec.specs.Sequential.{makes_asks, still_asked, tested_step}
 use Rattle.core_rules.specs.Cores.{core_of_call}
 use Rattle.core_rules.specs.declared.cores.Core.TheVariants as core
+use Rattle.core_rules.specs.declared.ends.CallEnd.{CallEnd}
+use Rattle.core_rules.specs.Led.{Says}
 use Rattle.core_rules.specs.Next.{next_of}
 use Rattle.core_rules.specs.declared.next.Next.TheVariants as next
+use Rattle.snapshot_core.specs.Judged.{Judged}
 
 nothing_dropped : (n : ℕ) → drop {A = Ask} n [] ≡ []
 nothing_dropped zero = refl
@@ -20,7 +23,7 @@ nothing_taken : (n : ℕ) → take {A = PlannedAsk} n [] ≡ []
 nothing_taken zero = refl
 nothing_taken (suc n) = refl
 
-nothing_at : (n : ℕ) → slice_get {A = PlannedAsk} [] n ≡ None
+nothing_at : (n : ℕ) → slice_get {X = PlannedAsk} [] n ≡ None
 nothing_at zero = refl
 nothing_at (suc n) = refl
 
@@ -80,3 +83,8 @@ left_by false plan answers e = refl
 
 pub nothing_next : (s : State) (c : Call) (boot : Option ℕ) (answers : List Answer) → core_of_call c ≡ core.Snapshot → next.Finish ≡ next_of (still_asked s c boot answers)
 nothing_next s c boot answers e = ap next_of (sym (left_by (makes_asks s c boot) (plan_of s c) answers (no_plan s c e)))
+
+-- a call that its tests refuse ends with that refusal
+pub judged_ends : (end : CallEnd) (r : Option Refusal) (s : State) (c : Call) (answers : List Answer) → Judged (Err end) r → Says end (tested_step s c answers r).reply
+judged_ends end None s c answers h = absurd h
+judged_ends end (Some r) s c answers h = h

@@ -172,12 +172,7 @@ pub(crate) fn delete(domain: &mut Domain, name: &Name, children: bool, deletion:
     requires { FitsDeletion deletion domain.old.snaps name.now children }
     ensures { state.Held domain.new ≡ (snapshot_deleted domain.old name.now children).state }
 {
-    leave_others(
-        &mut domain.snaps,
-        name,
-        children,
-        &deletion.parent,
-        deletion.others,
-    );
-    leave_current(&mut domain.current, &domain.snaps, deletion.parent);
+    let Deletion { parent, others } = deletion;
+    leave_others(&mut domain.snaps, name, children, &parent, others);
+    leave_current(&mut domain.current, &domain.snaps, parent);
 }

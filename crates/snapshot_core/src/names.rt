@@ -21,12 +21,15 @@ fn free_name(alloc: Global, snaps: &SnapList, tried: usize, n: u64) -> Result<Na
     ensures { IfOk result (λ name. name ≡ numbered_name (free_number (drop tried snaps.now) snaps.now n)) }
 {
     let name = numbered_name(alloc, n)?;
-    if tried >= snaps.len() || snaps.find(&name).is_none() {
+    if tried >= snaps.len() {
         return Ok(name);
     }
-    match n.checked_add(1) {
-        None => Err(NoMemory),
-        Some(after) => free_name(alloc, snaps, tried + 1, after),
+    match snaps.find(&name) {
+        None => Ok(name),
+        Some(_) => match n.checked_add(1) {
+            None => Err(NoMemory),
+            Some(after) => free_name(alloc, snaps, tried + 1, after),
+        },
     }
 }
 

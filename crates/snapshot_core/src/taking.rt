@@ -109,11 +109,12 @@ impl Taking {
             return Err(NoMemory);
         }
         let snap = new_snapshot(alloc, domain, info, def)?;
-        let current = snap.name.copy()?;
-        let end = named(&current)?;
+        let names = both(snap.name.copy(), named(&snap.name));
+        let rooms = both(NewSnap::new(alloc, snap), StateRoom::new(alloc));
+        let ((current, end), (new, room)) = both(names, rooms)?;
         Ok(Taking {
-            new: NewSnap::new(alloc, snap)?,
-            room: StateRoom::new(alloc)?,
+            new,
+            room,
             current,
             end,
         })
@@ -144,7 +145,6 @@ pub(crate) fn taking_for(
 }
 
 // One more snapshot, which is the current one.
-#[tactic(auto, using(virt_types::proofs::RisingSnaps::with_snapshot_at))]
 fn add(domain: &mut Domain, new: NewSnap, current: Name)
     requires { length domain.old.snaps + 1 < 2 ^ 64 }
     ensures { domain.new ≡ record domain.old { snaps = with_snapshot domain.old.snaps new; current = Some current } }
