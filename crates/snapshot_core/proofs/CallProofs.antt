@@ -1,6 +1,6 @@
 -- The calls on snapshots ask nothing by themselves.
 use Rattle.std.proofs.Common.{◌≡◌, ℕ, zero, suc, ◌+◌, List, [], ◌++◌, Bool, true, false, if◌then◌else◌, Option, None, Some, Err, drop, take, map, length, slice_get, refl, sym, ap, ◌∙◌}
-use Rattle.domain_spec.specs.Types.{Answer, Ask, Call, Domain, Live, Refusal, State}
+use Rattle.domain_spec.specs.Types.{Answer, Ask, Call, Live, Refusal, State}
 use Rattle.domain_spec.specs.Types.call
 use Rattle.domain_spec.specs.Types.state
 use Rattle.domain_spec.specs.declared.planned.PlannedAsk.{PlannedAsk}

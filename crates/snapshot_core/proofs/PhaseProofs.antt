@@ -1,5 +1,5 @@
 -- The phases of this part, among all phases.
-use Rattle.std.proofs.Common.{◌≡◌, ◌∙◌, ◌++◌, List, [], Option, None, Some, IfSome, IsSome, false, true, if◌then◌else◌, refl, sym, ap}
+use Rattle.std.proofs.Common.{◌≡◌, ◌∙◌, ◌++◌, List, [], Option, None, Some, IfSome, IsSome, false, if◌then◌else◌, refl, sym, ap}
 use Rattle.domain_spec.specs.Types.{Answer, Call, Domain, Live, Op, Phase, SnapInfo, State}
 use Rattle.domain_spec.specs.Types.call
 use Rattle.domain_spec.specs.Types.command

@@ -1,5 +1,5 @@
 -- A domain that has a guest and an operation.
-use Rattle.std.specs.Prelude.{Option, None, Some}
+use Rattle.std.specs.Prelude.{Option, Some}
 use Rattle.domain_spec.specs.Types.{Live, Op}
 
 -- both are there

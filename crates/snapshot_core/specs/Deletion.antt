@@ -1,5 +1,5 @@
 -- What the deletion of a snapshot has in hand, and when it fits.
-use Rattle.std.specs.Prelude.{◌≡◌, ◌≤◌, ℕ, List, Bool, true, false, not, map, length, count_by, All, Option, None, Some}
+use Rattle.std.specs.Prelude.{◌≡◌, ◌≤◌, ℕ, List, Bool, true, false, not, map, length, count_by, All, Option}
 use Rattle.domain_spec.specs.Types.{Snap}
 use Rattle.domain_spec.specs.Snapshots.{comes_from, is_parent, parent_of, snapshot_named}
 use Rattle.snapshot_core.specs.declared.deletion.Deletion.{Deletion}

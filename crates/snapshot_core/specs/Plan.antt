@@ -1,6 +1,6 @@
 -- What the phase asks that takes a snapshot of a guest.
 use Rattle.std.specs.Prelude.{List, [], ◌++◌, Bool, false, true, Option, None, Some}
-use Rattle.domain_spec.specs.Types.{Ask, Domain, Live, Op, Phase}
+use Rattle.domain_spec.specs.Types.{Domain, Live, Op, Phase}
 use Rattle.domain_spec.specs.Types.command
 use Rattle.domain_spec.specs.Types.phase
 use Rattle.domain_spec.specs.declared.planned.PlannedAsk.{PlannedAsk}

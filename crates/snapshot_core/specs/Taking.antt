@@ -1,5 +1,5 @@
 -- What a snapshot that is taken has in hand, and when it fits.
-use Rattle.std.specs.Prelude.{◌≡◌, ◌+◌, ◌<◌, ◌^◌, ℕ, List, [], length, unwrap_or, Option, None, Some}
+use Rattle.std.specs.Prelude.{◌≡◌, ◌+◌, ◌<◌, ◌^◌, [], length, unwrap_or, Option, None, Some}
 use Rattle.domain_spec.specs.Types.{Call, Domain, DomainDef, Live, Snap, SnapInfo}
 use Rattle.domain_spec.specs.Types.call
 use Rattle.domain_spec.specs.Types.reply

@@ -1,4 +1,4 @@
-use Rattle.std.proofs.Common.{◌≡◌, ◌∙◌, ap, not}
+use Rattle.std.proofs.Common.{◌∙◌, ap, not}
 use Rattle.virt_types.specs.Snapshots.{kept_by}
 use Rattle.domain_spec.specs.Snapshots.{is_named}
 use Rattle.snapshot_core.proofs.DeletionProofs.{enough_copies, flagged_stay}

@@ -1,5 +1,4 @@
 use Rattle.std.proofs.Common.{◌≡◌, ◌∙◌, false, sym}
-use Rattle.core_rules.specs.Cores.{core_on}
 use Rattle.snapshot_core.specs.Plan.{is_nothing}
 use Rattle.snapshot_core.proofs.PhaseProofs.{taken_on}
 use Rattle.snapshot_core.proofs.phases.finish_done.Goals as goal

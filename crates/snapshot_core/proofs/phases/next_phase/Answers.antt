@@ -1,8 +1,5 @@
 use Rattle.std.proofs.Common.{◌≡◌, ◌∙◌, ap, false, sym}
-use Rattle.domain_spec.specs.Types.state
 use Rattle.domain_spec.specs.Reading.{carries_ended}
-use Rattle.core_rules.specs.Cores.{Serves}
-use Rattle.core_rules.specs.declared.cores.Core.TheVariants as core
 use Rattle.core_rules.specs.Place.{next_at}
 use Rattle.snapshot_core.specs.Plan.{due_plan}
 use Rattle.snapshot_core.proofs.PhaseProofs.{next_due}
