@@ -1,5 +1,5 @@
 -- Lists of snapshots by rising name.
-use Rattle.std.specs.Prelude.{◌≡◌, ℕ, Bool, false, List, [], ◌∷◌, Option, find, bytes_eq, if◌then◌else◌}
+use Rattle.std.specs.Prelude.{◌≡◌, ℕ, Bool, false, List, [], ◌∷◌, Option, None, Some, find, bytes_eq, if◌then◌else◌}
 use Rattle.std.specs.Cmp.Lexicographic.{slice_cmp}
 use Rattle.std.specs.Ordering.{is_lt, nat_cmp}
 use Rattle.virt_types.specs.declared.domain.Snap.{Snap}
@@ -30,3 +30,22 @@ NoneBefore name (snap ∷ snaps) = (is_before snap.name name ≡ false) × NoneB
 abbrev pub IsRising : List Snap → Type 0
 IsRising [] = Unit {0}
 IsRising (snap ∷ snaps) = NoneBefore snap.name snaps × IsRising snaps
+
+-- the parent has this name
+abbrev pub is_parent : Option (List ℕ) → List ℕ → Bool
+is_parent None name = false
+is_parent (Some parent) name = bytes_eq parent name
+
+-- the snapshot's parent has this name
+abbrev pub is_child : List ℕ → Snap → Bool
+is_child name snap = is_parent snap.parent name
+
+-- a child of this name gets that parent
+abbrev pub with_parent : List ℕ → Option (List ℕ) → Snap → Snap
+with_parent name parent snap = if is_child name snap then record snap { parent = parent } else snap
+
+-- those whose flag is set, each with its own in the same order; without a flag one stays
+abbrev pub kept_by : List Snap → List Bool → List Snap
+kept_by [] flags = []
+kept_by (snap ∷ snaps) [] = snap ∷ snaps
+kept_by (snap ∷ snaps) (stays ∷ flags) = if stays then snap ∷ kept_by snaps flags else kept_by snaps flags

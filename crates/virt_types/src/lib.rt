@@ -131,6 +131,7 @@ pub use script::ScriptAct;
 pub use script::ScriptEntry;
 pub use script::ScriptEntryList;
 pub use snap_list::SnapList;
+pub use snap_tree::NewSnap;
 pub use status::Status;
 pub use storage_def::PoolDef;
 pub use storage_def::PoolType;

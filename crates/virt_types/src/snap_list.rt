@@ -1,13 +1,13 @@
 // The snapshots of a domain.
-ghost use Rattle.std.specs.Prelude.{◌≡◌, ◌==◌, [], IfOk, OnOk, OnErr, filter, length, map, not, option_map, slice_get};
-ghost use Rattle.virt_types.specs.Snapshots.{IsRising, is_named, snapshot_named, with_snapshot};
+ghost use Rattle.std.specs.Prelude.{◌≡◌, ◌==◌, ◌+◌, ◌<◌, ◌≤◌, ◌^◌, [], All, IfOk, OnOk, OnErr, count_by, filter, length, map, not, option_map, slice_get};
+ghost use Rattle.virt_types.specs.Snapshots.{IsRising, is_child, is_named, kept_by, snapshot_named, with_parent, with_snapshot};
 
 use crate::copy::TryCopy;
 use crate::domain::Snap;
 use crate::list::ListOf;
 use crate::memory::NoMemory;
 use crate::name::Name;
-use crate::snap_tree::SnapTree;
+use crate::snap_tree::{NewSnap, SnapTree};
 use std::alloc::Global;
 use std::marker::Model;
 
@@ -125,6 +125,54 @@ impl SnapList {
         ensures { self.new ≡ filter (λ s. not (is_named name.now s)) self.old }
     {
         self.tree.remove(name);
+        self.count = self.tree.count();
+    }
+
+    /// Puts a snapshot, which has its node already, behind those whose names are not greater. It takes
+    /// no memory.
+    #[tactic(auto, using(crate::proofs::RisingSnaps::length_with))]
+    pub fn put(&mut self, new: NewSnap)
+        requires { length self.old + 1 < 2 ^ 64 }
+        ensures { self.new ≡ with_snapshot self.old new }
+    {
+        self.tree.put(new);
+        self.count += 1;
+    }
+
+    /// The names of the snapshots whose parent has this name.
+    pub fn children(&self, alloc: Global, name: &Name) -> Result<ListOf<Name>, NoMemory>
+        ensures { IfOk result (λ names. names ≡ map (λ s. s.name) (filter (is_child name.now) self.now)) }
+    {
+        let mut names = ListOf::new(alloc);
+        self.tree.copy_children_into(name, &mut names)?;
+        Ok(names)
+    }
+
+    /// How many snapshots have a parent of this name.
+    pub fn count_children(&self, name: &Name) -> usize
+        ensures { result ≡ count_by (is_child name.now) self.now }
+    {
+        let _count = self.count;
+        self.tree.count_children(name)
+    }
+
+    /// Gives the children of this name another parent. `copies` are of that one, as many as there are
+    /// children, so it takes no memory.
+    pub fn adopt(&mut self, name: &Name, parent: &Option<Name>, copies: ListOf<Option<Name>>)
+        requires same { All (λ copy. copy ≡ parent.now) copies }
+        requires enough { count_by (is_child name.now) self.old ≤ length copies }
+        ensures { self.new ≡ map (with_parent name.now parent.now) self.old }
+    {
+        self.tree.adopt(name, parent, &mut copies.into_vec());
+    }
+
+    /// Takes out the snapshots whose flag is not set, where each has its flag at its place. It takes no
+    /// memory.
+    #[tactic(auto, using(crate::proofs::KeptSnaps::length_kept_le))]
+    pub fn keep(&mut self, flags: &[bool])
+        ensures { self.new ≡ kept_by self.old flags.now }
+    {
+        self.tree.keep(flags);
         self.count = self.tree.count();
     }
 }

@@ -3,12 +3,16 @@
 ghost use Rattle.std.specs.Prelude.{◌≡◌, ◌<◌, ◌^◌, [], ◌∷◌, ◌++◌, IfOk, OnOk, filter, is_ok, length, map, not, option_map, slice_get, if◌then◌else◌};
 ghost use Rattle.virt_types.specs.Snapshots.{IsRising, is_before, is_named, snapshot_named, with_snapshot};
 
+mod family;
+mod new_snap;
+
 use crate::boxed::Boxed;
 use crate::copy::{TryCopy, both};
 use crate::domain::Snap;
 use crate::list::ListOf;
 use crate::memory::NoMemory;
 use crate::name::Name;
+pub use new_snap::NewSnap;
 use std::alloc::Global;
 use std::marker::Model;
 use std::mem;

@@ -1,0 +1,10 @@
+use virt_types::Transition;
+
+/// What happens to a registration's ring.
+#[derive(Clone, Copy, Debug, PartialEq, Eq)]
+pub enum WatchStep {
+    /// A transition comes.
+    Push(Transition),
+    /// The oldest that pends is taken.
+    Take,
+}

@@ -1,0 +1,3 @@
+pub mod CallProofs
+pub mod PhaseProofs
+pub mod DeletionProofs
