@@ -145,21 +145,27 @@ fn done_phase(
     })
 }
 
-// The operation goes on from this phase, in this state, to this outcome.
-fn go_on(
-    alloc: Global,
-    at: &mut Progress,
-    done: DonePhase,
-    state: State,
-    outcome: Outcome,
-) -> Result<(), NoMemory>
-    ensures { OnOk result (at.new ≡ record { phases = at.old.phases ++ done ∷ []; state = state; operation = fold.with_outcome outcome at.old.operation; left = [] }) }
+// The operation, led to this outcome.
+fn led_on(operation: &OpenOperation, outcome: &Outcome) -> Result<OpenOperation, NoMemory>
+    ensures { IfOk result (λ next. next ≡ fold.with_outcome outcome.now operation.now) }
 {
-    at.phases.push(done)?;
+    let (call, outcome) = both(operation.call.copy(), outcome.copy())?;
+    Ok(OpenOperation {
+        number: operation.number,
+        who: operation.who,
+        call,
+        boot: operation.boot,
+        outcome,
+    })
+}
+
+// The operation goes on like this, in this state.
+fn go_on(alloc: Global, at: &mut Progress, state: State, operation: OpenOperation)
+    ensures { at.new ≡ record at.old { state = state; operation = operation; left = [] } }
+{
     at.state = state;
-    at.operation.outcome = outcome;
+    at.operation = operation;
     at.left = ListOf::new(alloc);
-    Ok(())
 }
 
 fn with_phase(
@@ -172,8 +178,13 @@ fn with_phase(
 {
     let lost = lost_by(&step.state, at.operation.boot, at.left.as_slice());
     let done = done_phase(alloc, at, phase, step, lost)?;
-    let (state, outcome) = both(after_end(&step.state, lost), step.outcome.copy())?;
-    go_on(alloc, at, done, state, outcome)
+    at.phases.push(done)?;
+    let (state, operation) = both(
+        after_end(&step.state, lost),
+        led_on(&at.operation, &step.outcome),
+    )?;
+    go_on(alloc, at, state, operation);
+    Ok(())
 }
 
 fn step_through(alloc: Global, at: &mut Progress, phase: Phase) -> Result<(), NoMemory>
