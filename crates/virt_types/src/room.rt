@@ -1,5 +1,5 @@
 // A list with room that was set aside, so that a later turn can add to it without taking memory.
-ghost use Rattle.std.specs.Prelude.{◌≡◌, ◌++◌, ◌∷◌, ◌+◌, ◌<◌, ◌≤◌, [], IfOk, length};
+ghost use Rattle.std.specs.Prelude.{◌≡◌, ◌++◌, ◌∷◌, ◌+◌, ◌<◌, ◌≤◌, [], IfOk, OnOk, length};
 
 use crate::list::ListOf;
 use crate::memory::NoMemory;
@@ -31,6 +31,15 @@ impl<T> RoomyList<T> {
         Ok(RoomyList {
             entries: Vec::with_capacity(alloc, room)?,
         })
+    }
+
+    /// Makes room for at least this many more. Where there is no memory the list and its room stay.
+    pub fn reserve(&mut self, room: usize) -> Result<(), NoMemory>
+        ensures list { self.new.list ≡ self.old.list }
+        ensures room { OnOk result (room ≤ self.new.room) }
+        ensures stays { self.old.room ≤ self.new.room }
+    {
+        Ok(self.entries.reserve(room)?)
     }
 
     /// Puts a value after the others, into room that is there.
