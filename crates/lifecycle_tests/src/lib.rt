@@ -10,3 +10,5 @@ mod fixtures;
 mod guests;
 #[cfg(test)]
 mod starts;
+#[cfg(test)]
+mod states;

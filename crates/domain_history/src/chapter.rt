@@ -1,0 +1,326 @@
+// The history of a chapter, with what is in force after it.
+ghost use Rattle.std.specs.Prelude.{◌≡◌, ◌++◌, ◌∷◌, ◌+◌, ◌<◌, ◌≤◌, [], IfOk, None, OnErr, OnOk, if◌then◌else◌, is_some, option_map};
+ghost use Rattle.domain_spec.specs.Begin.{named_call, taken_up_state};
+ghost use Rattle.domain_spec.specs.Chapter.{first_base};
+ghost use Rattle.domain_spec.specs.Exit.{event_state, event_transitions};
+ghost use Rattle.domain_spec.specs.Fold.{job_at_exit, taken_up};
+ghost use Rattle.domain_spec.specs.Legal.{IsLawful};
+ghost use Rattle.domain_spec.specs.declared.mark.Mark.TheVariants as mark;
+ghost use Rattle.domain_history.specs.Standing.{in_force};
+ghost use Rattle.domain_state.specs.Beginnings.{HasNumber};
+
+use crate::base::ChapterBase;
+use crate::open::{LetIn, Underway};
+use core_rules::{end_guest, live_boot};
+use domain_spec::{HeldJobs, Mark, Outcome};
+use domain_state::{begin, due_phase, end_operation, follow_event, opened_state, take_up};
+use history_spec::Stamp;
+use std::alloc::Global;
+use std::marker::Model;
+use std::mem;
+use virt_types::{
+    Call, DomainDef, EndReason, GuestEvent, Job, ListOf, NoMemory, RefusalCode, Reply, RoomyList,
+    State, Transition, TransitionList, TryCopy, Who,
+};
+
+/// The history of a chapter, with what is in force after it.
+#[derive(Drop)]
+pub struct Chapter {
+    chapter: u64,
+    base: ChapterBase,
+    marks: RoomyList<Mark<Stamp>>,
+    state: State,
+    job: Option<LetIn>,
+    operation: Option<Underway>,
+}
+
+impl Model for Chapter {
+    ghost use Rattle.domain_history.specs.Standing.{HistoryWithRoom, Stands};
+
+    ghost Value = { HistoryWithRoom };
+
+    ghost view = { λ c. record { history = record { chapter = c.chapter; base = c.base; marks = c.marks.list }; spare = c.marks.room } };
+
+    ghost invariant = { λ c. Stands c.base c.marks.list c.state c.job c.operation };
+}
+
+// A boot ends in this state, while this call may be open.
+fn meet_exit(job: &mut Option<LetIn>, state: &State, boot: u64)
+    ensures { job.new ≡ job_at_exit state.now boot job.old }
+{
+    if let Some(job) = job {
+        job.meets_exit(state, boot);
+    }
+}
+
+// The open call is let go of.
+fn close(job: &mut Option<LetIn>)
+    ensures { job.new ≡ None }
+{
+    drop(job.take());
+}
+
+// An operation is under way.
+fn set(operation: &mut Option<Underway>, new: Option<Underway>)
+    ensures { operation.new ≡ new }
+{
+    drop(mem::replace(operation, new));
+}
+
+// The operation that rests goes on for this call, which is open no more.
+fn take_over(
+    state: &mut State,
+    job: &mut Option<LetIn>,
+    operation: &mut Option<Underway>,
+    by: Stamp,
+    who: Who,
+    call: Call,
+)
+    ensures state { state.new ≡ (if is_some operation.old then taken_up_state state.old who call else state.old) }
+    ensures job { job.new ≡ (if is_some operation.old then None else job.old) }
+    ensures operation { operation.new ≡ option_map (taken_up by.number who call) operation.old }
+{
+    if let Some(operation) = operation {
+        take_up(state, who, &call);
+        close(job);
+        operation.taken_up(by, who, call);
+    }
+}
+
+impl Chapter {
+    /// The first chapter of a domain, as the store was opened: with this stored definition and its
+    /// autostart, or vacant.
+    #[tactic(auto, using(crate::proofs::Standing::opens))]
+    pub fn opened(
+        alloc: Global,
+        stored: Option<DomainDef>,
+        autostart: bool,
+    ) -> Result<Chapter, NoMemory>
+        ensures { IfOk result (λ c. c.history ≡ record { chapter = 0; base = first_base stored autostart; marks = [] }) }
+    {
+        let state = opened_state(stored, autostart)?;
+        let base = ChapterBase {
+            state: state.copy()?,
+            operation: None,
+            registrations: ListOf::new(alloc),
+        };
+        Ok(Chapter {
+            chapter: 0,
+            base,
+            marks: RoomyList::with_room(alloc, 0)?,
+            state,
+            job: None,
+            operation: None,
+        })
+    }
+
+    /// The state.
+    pub fn state(&self) -> &State
+        ensures { result.now ≡ (in_force self.now.history.base self.now.history.marks).state }
+    {
+        &self.state
+    }
+
+    /// A call is let in, under the number of this stamp.
+    #[tactic(auto, using(crate::proofs::Standing::admits))]
+    pub fn admit(
+        &mut self,
+        by: Stamp,
+        who: Who,
+        job: Job,
+        call: Call,
+        in_mark: Call,
+        boot: Option<u64>,
+    )
+        requires room { 0 < self.old.spare }
+        requires same { in_mark ≡ call }
+        requires lawful { IsLawful (in_force self.old.history.base self.old.history.marks) (mark.Admit by.number who job call boot) }
+        ensures history { self.new.history ≡ record self.old.history { marks = self.old.history.marks ++ mark.Admit by who job call boot ∷ [] } }
+        ensures spare { self.new.spare + 1 ≡ self.old.spare }
+    {
+        self.job = Some(LetIn::now(by.again(), who, job, call, boot));
+        self.marks.push(Mark::Admit {
+            number: by,
+            who,
+            job,
+            call: in_mark,
+            boot,
+        });
+    }
+
+    /// The live boot ended so.
+    pub fn exit(&mut self, boot: u64, why: EndReason, told: ListOf<Transition>)
+        requires room { 0 < self.old.spare }
+        requires lawful { IsLawful (in_force self.old.history.base self.old.history.marks) (mark.Exit boot why told) }
+        ensures history { self.new.history ≡ record self.old.history { marks = self.old.history.marks ++ mark.Exit boot why told ∷ [] } }
+        ensures spare { self.new.spare + 1 ≡ self.old.spare }
+    {
+        meet_exit(&mut self.job, &self.state, boot);
+        end_guest(&mut self.state, why);
+        self.marks.push(Mark::Exit {
+            boot,
+            reason: why,
+            transitions: told,
+        });
+    }
+
+    /// The open call begins its operation, which keeps `named`: the call as it has its name. Where
+    /// there is no memory nothing changes.
+    pub fn start(
+        &mut self,
+        alloc: Global,
+        by: Stamp,
+        who: Who,
+        call: Call,
+        named: Call,
+        boot: Option<u64>,
+    ) -> Result<(), NoMemory>
+        requires room { 0 < self.old.spare }
+        requires named { named ≡ named_call (in_force self.old.history.base self.old.history.marks).state call }
+        requires number { HasNumber (in_force self.old.history.base self.old.history.marks).state call }
+        requires lawful { IsLawful (in_force self.old.history.base self.old.history.marks) (mark.Start by.number who call boot) }
+        ensures history { OnOk result (self.new.history ≡ record self.old.history { marks = self.old.history.marks ++ mark.Start by who call boot ∷ [] }) }
+        ensures spare { OnOk result (self.new.spare + 1 ≡ self.old.spare) }
+        ensures err { OnErr result (self.new ≡ self.old) }
+    {
+        begin(alloc, &mut self.state, who, &call)?;
+        close(&mut self.job);
+        let outcome = Outcome::On(due_phase(&self.state));
+        let begun = Underway::begun(by.again(), who, named, live_boot(&self.state), outcome);
+        set(&mut self.operation, Some(begun));
+        self.marks.push(Mark::Start {
+            number: by,
+            who,
+            call,
+            boot,
+        });
+        Ok(())
+    }
+
+    /// The open call takes up the operation that rests.
+    pub fn take_up(&mut self, by: Stamp, who: Who, call: Call, in_mark: Call)
+        requires room { 0 < self.old.spare }
+        requires same { in_mark ≡ call }
+        requires lawful { IsLawful (in_force self.old.history.base self.old.history.marks) (mark.TakeUp by.number who call) }
+        ensures history { self.new.history ≡ record self.old.history { marks = self.old.history.marks ++ mark.TakeUp by who call ∷ [] } }
+        ensures spare { self.new.spare + 1 ≡ self.old.spare }
+    {
+        take_over(
+            &mut self.state,
+            &mut self.job,
+            &mut self.operation,
+            by.again(),
+            who,
+            call,
+        );
+        self.marks.push(Mark::TakeUp {
+            number: by,
+            who,
+            call: in_mark,
+        });
+    }
+
+    /// The operation ends with this reply.
+    pub fn end(&mut self, by: Stamp, who: Who, reply: Reply)
+        requires room { 0 < self.old.spare }
+        requires lawful { IsLawful (in_force self.old.history.base self.old.history.marks) (mark.End by.number who reply) }
+        ensures history { self.new.history ≡ record self.old.history { marks = self.old.history.marks ++ mark.End by who reply ∷ [] } }
+        ensures spare { self.new.spare + 1 ≡ self.old.spare }
+    {
+        end_operation(&mut self.state);
+        set(&mut self.operation, None);
+        self.marks.push(Mark::End {
+            number: by,
+            who,
+            reply,
+        });
+    }
+
+    /// A client registers.
+    pub fn watch(&mut self, by: Stamp, client: u32)
+        requires room { 0 < self.old.spare }
+        requires lawful { IsLawful (in_force self.old.history.base self.old.history.marks) (mark.Watch by.number client) }
+        ensures history { self.new.history ≡ record self.old.history { marks = self.old.history.marks ++ mark.Watch by client ∷ [] } }
+        ensures spare { self.new.spare + 1 ≡ self.old.spare }
+    {
+        self.marks.push(Mark::Watch { number: by, client });
+    }
+
+    /// A client ends its registration.
+    pub fn unwatch(&mut self, by: Stamp, client: u32)
+        requires room { 0 < self.old.spare }
+        requires lawful { IsLawful (in_force self.old.history.base self.old.history.marks) (mark.Unwatch by.number client) }
+        ensures history { self.new.history ≡ record self.old.history { marks = self.old.history.marks ++ mark.Unwatch by client ∷ [] } }
+        ensures spare { self.new.spare + 1 ≡ self.old.spare }
+    {
+        self.marks.push(Mark::Unwatch { number: by, client });
+    }
+
+    /// A registration is cut, since too much pends for it.
+    pub fn cut(&mut self, client: u32, total: u64, taken: u64)
+        requires room { 0 < self.old.spare }
+        requires lawful { IsLawful (in_force self.old.history.base self.old.history.marks) (mark.Cut client total taken) }
+        ensures history { self.new.history ≡ record self.old.history { marks = self.old.history.marks ++ mark.Cut client total taken ∷ [] } }
+        ensures spare { self.new.spare + 1 ≡ self.old.spare }
+    {
+        self.marks.push(Mark::Cut {
+            client,
+            total,
+            taken,
+        });
+    }
+
+    /// Room for so many more marks. Where there is no memory nothing changes.
+    pub fn reserve(&mut self, marks: usize) -> Result<(), NoMemory>
+        ensures history { self.new.history ≡ self.old.history }
+        ensures room { OnOk result (marks ≤ self.new.spare) }
+        ensures stays { self.old.spare ≤ self.new.spare }
+    {
+        self.marks.reserve(marks)
+    }
+
+    /// A call is turned away, since its job is excluded.
+    pub fn refuse(&mut self, by: Stamp, who: Who, call: Call, code: RefusalCode, held: HeldJobs)
+        requires room { 0 < self.old.spare }
+        requires lawful { IsLawful (in_force self.old.history.base self.old.history.marks) (mark.Refused by.number who call code held) }
+        ensures history { self.new.history ≡ record self.old.history { marks = self.old.history.marks ++ mark.Refused by who call code held ∷ [] } }
+        ensures spare { self.new.spare + 1 ≡ self.old.spare }
+    {
+        self.marks.push(Mark::Refused {
+            number: by,
+            who,
+            call,
+            code,
+            held,
+        });
+    }
+
+    /// The guest did this by itself.
+    pub fn event(&mut self, boot: u64, event: GuestEvent, told: TransitionList)
+        requires room { 0 < self.old.spare }
+        requires told { (told.list ≡ []) × (0 < told.room) }
+        requires lawful { IsLawful (in_force self.old.history.base self.old.history.marks) (mark.Event boot event (event_transitions (in_force self.old.history.base self.old.history.marks).state event)) }
+        ensures history { self.new.history ≡ record self.old.history { marks = self.old.history.marks ++ mark.Event boot event (event_transitions (in_force self.old.history.base self.old.history.marks).state event) ∷ [] } }
+        ensures spare { self.new.spare + 1 ≡ self.old.spare }
+    {
+        let transitions = follow(&mut self.state, event, told);
+        self.marks.push(Mark::Event {
+            boot,
+            event,
+            transitions,
+        });
+    }
+}
+
+// What listeners are told of a guest's event, as a list.
+fn follow(state: &mut State, event: GuestEvent, told: TransitionList) -> ListOf<Transition>
+    requires { (told.list ≡ []) × (0 < told.room) }
+    ensures state { state.new ≡ event_state state.old event }
+    ensures told { result ≡ event_transitions state.old event }
+{
+    let mut told = told;
+    if let Some(transition) = follow_event(state, event) {
+        told.push(transition);
+    }
+    told.into_list()
+}
