@@ -4,7 +4,6 @@ use Rattle.domain_spec.specs.Types.{Answer, Call, Domain, Op, State}
 use Rattle.domain_spec.specs.Types.reply
 use Rattle.domain_spec.specs.Types.state
 use Rattle.domain_spec.specs.declared.open.OpenOperation.{OpenOperation}
-use Rattle.domain_spec.specs.declared.step.PhaseStep.{PhaseStep}
 use Rattle.domain_spec.specs.Asks.{asks_left, first_bad, is_undone}
 use Rattle.domain_spec.specs.CopyResult.{over}
 use Rattle.domain_spec.specs.Phase.{answered_phase, ended_reply, phase_in, phase_of, phase_on, phase_refused, phase_still_asked, plan_in}

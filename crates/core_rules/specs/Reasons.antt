@@ -1,7 +1,6 @@
 -- Reasons of refusals that no text of a caller is kept of, and the refusals that they make.
 use Rattle.virt_types.specs.Numbers.{state_word}
-use Rattle.domain_spec.specs.Types.{Answer, Refusal}
-use Rattle.domain_spec.specs.Types.answer
+use Rattle.domain_spec.specs.Types.{Refusal}
 use Rattle.domain_spec.specs.Types.code
 use Rattle.domain_spec.specs.Refusals.{bad_kick, bare, boots_spent, failed, guest_ended, list_full, out_of_range, refusal, stalled}
 use Rattle.core_rules.specs.declared.reason.Reason.{Reason}

@@ -1,16 +1,15 @@
 -- The plan of the phases in which a guest is made and set going.
-use Rattle.std.proofs.Common.{◌≡◌, ◌∙◌, ℕ, List, [], Bool, true, false, Option, None, Some, if◌then◌else◌, is_some, refl, sym, ap}
-use Rattle.domain_spec.specs.Types.{Answer, Ask, Call, Domain, Live, Op, Phase, State}
+use Rattle.std.proofs.Common.{◌≡◌, ◌∙◌, List, Bool, true, false, Option, None, Some, if◌then◌else◌, is_some, refl, ap}
+use Rattle.domain_spec.specs.Types.{Answer, Call, Domain, Live, Op, Phase, State}
 use Rattle.domain_spec.specs.Types.phase
 use Rattle.domain_spec.specs.Types.state
-use Rattle.domain_spec.specs.declared.planned.PlannedAsk.{PlannedAsk}
 use Rattle.domain_spec.specs.Asks.{asks_left, undone_by}
 use Rattle.domain_spec.specs.Phase.{plan_in, plan_on}
 use Rattle.domain_spec.specs.PhaseAsks.{live_phase_plan, phase_plan}
 use Rattle.core_rules.specs.declared.cores.Core.TheVariants as core
 use Rattle.core_rules.specs.declared.course.Place.{Place}
 use Rattle.core_rules.specs.declared.course.Place.TheVariants as place
-use Rattle.core_rules.specs.Cores.{core_due, core_of_phase, core_of_take, core_on, is_snapshot}
+use Rattle.core_rules.specs.Cores.{core_due, core_of_phase, core_on, is_snapshot}
 use Rattle.core_rules.specs.Ends.{has_operation}
 use Rattle.core_rules.specs.Next.{next_if, next_of}
 use Rattle.core_rules.specs.Place.{next_at, place_after}

@@ -1,5 +1,5 @@
 -- What stands at a place of two lists, one behind the other, whose first has one ask or none.
-use Rattle.std.proofs.Common.{◌≡◌, ℕ, zero, suc, ◌-◌, ◌<◌, List, [], ◌∷◌, ◌++◌, Option, None, Some, length, slice_get, refl, ap, arith}
+use Rattle.std.proofs.Common.{◌≡◌, ℕ, zero, suc, ◌-◌, ◌<◌, List, [], ◌∷◌, ◌++◌, Option, None, Some, length, is_some, true, slice_get, refl, ap, arith}
 use Rattle.domain_spec.specs.Types.{Ask}
 use Rattle.core_rules.specs.Next.{at_most}
 
@@ -19,3 +19,8 @@ behind_one (a ∷ b ∷ front) back n e lt = absurd (omega arith)
 pub is_first : (one : Option Ask) (back : List Ask) → length (at_most one) ≡ 1 → slice_get (at_most one ++ back) 0 ≡ one
 is_first None back e = absurd (omega arith)
 is_first (Some a) back e = refl
+
+-- where there is one, something stands at the first place
+pub has_first : (front back : List Ask) → length front ≡ 1 → is_some (slice_get (front ++ back) 0) ≡ true
+has_first [] back e = absurd (omega arith)
+has_first (a ∷ front) back e = refl

@@ -1,5 +1,5 @@
 -- What a guest's memory statistics leave where there is a guest.
-use Rattle.std.proofs.Common.{◌≡◌, ◌∙◌, List, Option, Some, sym, ap}
+use Rattle.std.proofs.Common.{◌≡◌, ◌∙◌, List, Some, sym, ap}
 use Rattle.domain_spec.specs.Types.{Answer, Domain, Live, State}
 use Rattle.domain_spec.specs.Types.call
 use Rattle.domain_spec.specs.Types.state

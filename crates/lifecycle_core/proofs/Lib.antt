@@ -1,3 +1,4 @@
 pub mod Due
 pub mod Fronts
 pub mod GuestMemory
+pub mod OneAsk

@@ -1,106 +1,144 @@
-// The one ask of a call.
-ghost use Rattle.std.specs.Prelude.{◌≡◌, ◌∷◌, [], ℕ, IfOk};
-ghost use Rattle.domain_spec.specs.Asks.{plain};
+// What a call asks next. None asks more than once, and nothing undoes what it asks.
+ghost use Rattle.std.specs.Prelude.{◌≡◌, ◌∷◌, [], IfOk, OnErr, if◌then◌else◌, true};
+ghost use Rattle.domain_spec.specs.Asks.{asks_left, plain};
 ghost use Rattle.domain_spec.specs.Call.{command_of, guest_plan, held_plan, live_plan, plan_of, put_plan, tell, tell_if};
+ghost use Rattle.domain_spec.specs.Types.{Ask as TheAsk};
 ghost use Rattle.domain_spec.specs.Types.ask;
-ghost use Rattle.domain_spec.specs.Types.state;
 ghost use Rattle.core_rules.specs.Cores.{core_of_call};
+ghost use Rattle.core_rules.specs.Next.{next_of};
+ghost use Rattle.core_rules.specs.declared.next.Next.TheVariants as next;
 ghost use Rattle.core_rules.specs.declared.cores.Core.TheVariants as core;
-ghost use Rattle.core_rules.specs.Next.{at_most};
+ghost use Rattle.lifecycle_core.specs.Plans.{is_ask};
 
-use core_rules::{is_paused, is_running};
-use virt_types::{Ask, Call, Command, Domain, DomainDef, Live, NoMemory, State, TryCopy};
+use core_rules::{Next, Place, is_paused, is_running, next_of_one, place_after};
+use virt_types::{Answer, Ask, Call, Command, Domain, DomainDef, Live, NoMemory, State, TryCopy};
 
-fn tell(command: Command) -> Option<Ask>
-    ensures { at_most result ≡ tell command }
+fn tell(command: Command, answers: &[Answer]) -> Next
+    ensures { result ≡ next_of (asks_left (plain (tell command)) answers.now) }
 {
-    Some(Ask::Command(command))
+    next_of_one(Some(Ask::Command(command)), answers)
 }
 
-fn tell_if(wanted: bool, command: Command) -> Option<Ask>
-    ensures { at_most result ≡ tell_if wanted command }
+fn nothing(answers: &[Answer]) -> Next
+    ensures { result ≡ next_of (asks_left (plain []) answers.now) }
 {
-    if wanted { tell(command) } else { None }
+    next_of_one(None, answers)
+}
+
+fn tell_if(wanted: bool, command: Command, answers: &[Answer]) -> Next
+    ensures { result ≡ next_of (asks_left (plain (tell_if wanted command)) answers.now) }
+{
+    if wanted {
+        tell(command, answers)
+    } else {
+        nothing(answers)
+    }
 }
 
 // The one command of a call on a guest.
-fn command_of(live: &Live, call: &Call) -> Option<Ask>
-    ensures { at_most result ≡ command_of live.now call.now }
+fn command_of(live: &Live, call: &Call, answers: &[Answer]) -> Next
+    ensures { result ≡ next_of (asks_left (plain (command_of live.now call.now)) answers.now) }
 {
     match call {
-        Call::Suspend => tell_if(is_running(live.run), Command::Stop),
-        Call::Resume => tell_if(is_paused(live.run), Command::Cont),
-        Call::Shutdown => tell(Command::Powerdown),
-        Call::Reboot => tell(Command::Reset),
-        Call::Destroy => tell(Command::Quit),
-        Call::SetMemory(kib) => tell(Command::SetMemory(*kib)),
-        Call::SetVcpus(n) => tell(Command::SetVcpus(*n)),
-        Call::MemoryStats => tell(Command::QueryMemory),
-        Call::Kick(n) => tell(Command::Kick(n.unsigned_abs())),
-        _ => None,
+        Call::Suspend => tell_if(is_running(live.run), Command::Stop, answers),
+        Call::Resume => tell_if(is_paused(live.run), Command::Cont, answers),
+        Call::Shutdown => tell(Command::Powerdown, answers),
+        Call::Reboot => tell(Command::Reset, answers),
+        Call::Destroy => tell(Command::Quit, answers),
+        Call::SetMemory(kib) => tell(Command::SetMemory(*kib), answers),
+        Call::SetVcpus(n) => tell(Command::SetVcpus(*n), answers),
+        Call::MemoryStats => tell(Command::QueryMemory, answers),
+        Call::Kick(n) => tell(Command::Kick(n.unsigned_abs()), answers),
+        _ => nothing(answers),
     }
 }
 
-fn live_ask(live: &Live, call: &Call) -> Option<Ask>
+fn live_next(live: &Live, call: &Call, answers: &[Answer]) -> Next
     requires { core_of_call call.now ≡ core.Lifecycle }
-    ensures { live_plan live.now call.now ≡ plain (at_most result) }
+    ensures { result ≡ next_of (asks_left (live_plan live.now call.now) answers.now) }
 {
     match call {
-        Call::Attach(_) | Call::Detach(_) => None,
-        _ => command_of(live, call),
+        Call::Attach(_) | Call::Detach(_) => Next::Finish,
+        _ => command_of(live, call, answers),
     }
 }
 
-fn guest_ask(live: &Option<Live>, call: &Call) -> Option<Ask>
+fn guest_next(live: &Option<Live>, call: &Call, answers: &[Answer]) -> Next
     requires { core_of_call call.now ≡ core.Lifecycle }
-    ensures { guest_plan live.now call.now ≡ plain (at_most result) }
+    ensures { result ≡ next_of (asks_left (guest_plan live.now call.now) answers.now) }
 {
     match live {
-        None => None,
-        Some(live) => live_ask(live, call),
+        None => nothing(answers),
+        Some(live) => live_next(live, call, answers),
     }
 }
 
-fn put(def: &DomainDef, autostart: bool) -> Result<Option<Ask>, NoMemory>
-    ensures { IfOk result (λ put. at_most put ≡ ask.Put def.now autostart ∷ []) }
+// Whether nothing was answered yet: then one ask is next, if there is one.
+#[tactic(auto, using(crate::proofs::OneAsk::one_asked))]
+fn is_first(answers: &[Answer]) -> bool
+    ensures { (a : TheAsk) → next_of (asks_left (plain (a ∷ [])) answers.now) ≡ (if result then next.Ask a else next.Finish) }
 {
-    Ok(Some(Ask::Put {
-        definition: def.copy()?,
-        autostart,
-    }))
+    match place_after(answers) {
+        Place::Plan(place) => place == 0,
+        Place::Undo { .. } | Place::Through => false,
+    }
 }
 
-fn put_again(stored: &Option<DomainDef>, autostart: bool) -> Result<Option<Ask>, NoMemory>
-    ensures { IfOk result (λ put. put_plan stored.now autostart ≡ plain (at_most put)) }
+// The definition is copied only where it is asked for: no memory is wanted once that was answered.
+fn put(def: &DomainDef, autostart: bool, answers: &[Answer]) -> Result<Next, NoMemory>
+    ensures value { IfOk result (λ next. next ≡ next_of (asks_left (plain (ask.Put def.now autostart ∷ [])) answers.now)) }
+    ensures memory { OnErr result (is_ask (next_of (asks_left (plain (ask.Put def.now autostart ∷ [])) answers.now)) ≡ true) }
+{
+    if !is_first(answers) {
+        return Ok(Next::Finish);
+    }
+    match def.copy() {
+        Ok(definition) => Ok(Next::Ask(Ask::Put {
+            definition,
+            autostart,
+        })),
+        Err(e) => Err(e),
+    }
+}
+
+fn put_again(
+    stored: &Option<DomainDef>,
+    autostart: bool,
+    answers: &[Answer],
+) -> Result<Next, NoMemory>
+    ensures value { IfOk result (λ next. next ≡ next_of (asks_left (put_plan stored.now autostart) answers.now)) }
+    ensures memory { OnErr result (is_ask (next_of (asks_left (put_plan stored.now autostart) answers.now)) ≡ true) }
 {
     match stored {
-        None => Ok(None),
-        Some(def) => put(def, autostart),
+        None => Ok(nothing(answers)),
+        Some(def) => put(def, autostart, answers),
     }
 }
 
-fn held_ask(domain: &Domain, call: &Call) -> Result<Option<Ask>, NoMemory>
+fn held_next(domain: &Domain, call: &Call, answers: &[Answer]) -> Result<Next, NoMemory>
     requires { core_of_call call.now ≡ core.Lifecycle }
-    ensures { IfOk result (λ ask. held_plan domain.now call.now ≡ plain (at_most ask)) }
+    ensures value { IfOk result (λ next. next ≡ next_of (asks_left (held_plan domain.now call.now) answers.now)) }
+    ensures memory { OnErr result (is_ask (next_of (asks_left (held_plan domain.now call.now) answers.now)) ≡ true) }
 {
     match call {
-        Call::Define(def) => put(def, domain.autostart),
-        Call::Undefine => Ok(Some(Ask::Drop(domain.uuid))),
-        Call::SetAutostart(on) => put_again(&domain.stored, *on),
-        _ => Ok(guest_ask(&domain.live, call)),
+        Call::Define(def) => put(def, domain.autostart, answers),
+        Call::Undefine => Ok(next_of_one(Some(Ask::Drop(domain.uuid)), answers)),
+        Call::SetAutostart(on) => put_again(&domain.stored, *on, answers),
+        _ => Ok(guest_next(&domain.live, call, answers)),
     }
 }
 
-/// The one ask of a call whose tests passed; none where it asks nothing.
-pub fn only_ask(state: &State, call: &Call) -> Result<Option<Ask>, NoMemory>
+/// What a call asks next whose tests passed.
+pub fn next_asked(state: &State, call: &Call, answers: &[Answer]) -> Result<Next, NoMemory>
     requires { core_of_call call.now ≡ core.Lifecycle }
-    ensures { IfOk result (λ ask. plan_of state.now call.now ≡ plain (at_most ask)) }
+    ensures value { IfOk result (λ next. next ≡ next_of (asks_left (plan_of state.now call.now) answers.now)) }
+    ensures memory { OnErr result (is_ask (next_of (asks_left (plan_of state.now call.now) answers.now)) ≡ true) }
 {
     match state {
         State::Vacant { .. } => match call {
-            Call::Define(def) => put(def, false),
-            _ => Ok(None),
+            Call::Define(def) => put(def, false, answers),
+            _ => Ok(nothing(answers)),
         },
-        State::Held(domain) => held_ask(domain, call),
+        State::Held(domain) => held_next(domain, call, answers),
     }
 }

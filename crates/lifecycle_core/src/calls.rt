@@ -1,5 +1,5 @@
 // The calls: what each asks next, and what it leaves.
-ghost use Rattle.std.specs.Prelude.{◌≡◌, ◌++◌, ◌≤◌, IfOk, false};
+ghost use Rattle.std.specs.Prelude.{◌≡◌, ◌++◌, ◌≤◌, IfOk, OnErr, false, true};
 ghost use Rattle.domain_spec.specs.CallResult.{step_of};
 ghost use Rattle.domain_spec.specs.Sequential.{seq, still_asked};
 ghost use Rattle.core_rules.specs.Cores.{core_of_call};
@@ -8,18 +8,18 @@ ghost use Rattle.core_rules.specs.Next.{next_of};
 ghost use Rattle.core_rules.specs.declared.cores.Core.TheVariants as core;
 ghost use Rattle.lifecycle_core.specs.Leaves.{Leaves};
 ghost use Rattle.lifecycle_core.specs.Parts.{Fits, is_define};
+ghost use Rattle.lifecycle_core.specs.Plans.{is_ask};
 
-use crate::asks::only_ask;
+use crate::asks::next_asked;
 use crate::failing::failing;
 use crate::guest_steps::{destroy, reboot, resume, set_memory, set_vcpus, suspend, tell_memory};
 use crate::memory::CallParts;
 use crate::stored_steps::{define, set_autostart, undefine};
-use core_rules::{
-    CallEnd, Next, Texts, call_ended, failure_of, first_bad, meets_ended, next_of_one,
-};
+use core_rules::{CallEnd, Next, Texts, call_ended, failure_of, first_bad, meets_ended};
 use virt_types::{Answer, Call, NoMemory, State, TransitionList};
 
-/// What is next for a call that carries this boot, after these answers.
+/// What is next for a call that carries this boot, after these answers. There may be no memory for
+/// an ask, and never for the end.
 pub fn next(
     state: &State,
     call: &Call,
@@ -27,12 +27,13 @@ pub fn next(
     answers: &[Answer],
 ) -> Result<Next, NoMemory>
     requires { core_of_call call.now ≡ core.Lifecycle }
-    ensures { IfOk result (λ next. next ≡ next_of (still_asked state.now call.now boot answers.now)) }
+    ensures value { IfOk result (λ next. next ≡ next_of (still_asked state.now call.now boot answers.now)) }
+    ensures memory { OnErr result (is_ask (next_of (still_asked state.now call.now boot answers.now)) ≡ true) }
 {
     if meets_ended(state, call, boot) || failing(state, boot, call).is_some() {
         return Ok(Next::Finish);
     }
-    Ok(next_of_one(only_ask(state, call)?, answers))
+    next_asked(state, call, answers)
 }
 
 // A call but Define, whose tests passed, where each answer is Ok.

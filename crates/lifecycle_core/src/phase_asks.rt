@@ -1,5 +1,5 @@
 // The asks of the phases in which a guest is made and set going, one by one.
-ghost use Rattle.std.specs.Prelude.{◌≡◌, IfOk, None, Some, if◌then◌else◌, length, nat_lt, slice_get};
+ghost use Rattle.std.specs.Prelude.{◌≡◌, IfOk, None, OnErr, Some, if◌then◌else◌, is_some, length, nat_lt, slice_get, true};
 ghost use Rattle.domain_spec.specs.Call.{tell};
 ghost use Rattle.domain_spec.specs.PhaseAsks.{two};
 ghost use Rattle.domain_spec.specs.Types.ask;
@@ -20,14 +20,15 @@ fn make(live: &Live) -> Result<Option<Ask>, NoMemory>
 }
 
 // An address is asked for each interface that gets one, and then the guest is made.
-#[tactic(auto, using(crate::proofs::Fronts::behind_none, crate::proofs::Fronts::behind_one, crate::proofs::Fronts::is_first))]
+#[tactic(auto, using(crate::proofs::Fronts::behind_none, crate::proofs::Fronts::behind_one, crate::proofs::Fronts::is_first, crate::proofs::Fronts::has_first))]
 fn leases_then_make(
     alloc: Global,
     interfaces: &[Interface],
     live: &Live,
     place: usize,
 ) -> Result<Option<Ask>, NoMemory>
-    ensures { IfOk result (λ ask. ask ≡ slice_get (leases_then_make interfaces.now live.now) place) }
+    ensures value { IfOk result (λ ask. ask ≡ slice_get (leases_then_make interfaces.now live.now) place) }
+    ensures memory { OnErr result (is_some (slice_get (leases_then_make interfaces.now live.now) place) ≡ true) }
 {
     match interfaces {
         [] => { if place == 0 { make(live) } else { Ok(None) } }
@@ -55,7 +56,8 @@ fn run_ask(place: usize) -> Option<Ask>
 }
 
 fn ask_in(alloc: Global, live: &Live, phase: Phase, place: usize) -> Result<Option<Ask>, NoMemory>
-    ensures { IfOk result (λ ask. ask ≡ slice_get (asks_in live.now phase) place) }
+    ensures value { IfOk result (λ ask. ask ≡ slice_get (asks_in live.now phase) place) }
+    ensures memory { OnErr result (is_some (slice_get (asks_in live.now phase) place) ≡ true) }
 {
     match phase {
         Phase::Make => leases_then_make(alloc, live.def.interfaces.as_slice(), live, place),
@@ -67,7 +69,8 @@ fn ask_in(alloc: Global, live: &Live, phase: Phase, place: usize) -> Result<Opti
 /// The ask at this place of the phase that is due.
 #[tactic(auto, unfolding(crate::specs::Plans::asks_due))]
 pub fn ask_at(alloc: Global, state: &State, place: usize) -> Result<Option<Ask>, NoMemory>
-    ensures { IfOk result (λ ask. ask ≡ slice_get (asks_due state.now) place) }
+    ensures value { IfOk result (λ ask. ask ≡ slice_get (asks_due state.now) place) }
+    ensures memory { OnErr result (is_some (slice_get (asks_due state.now) place) ≡ true) }
 {
     match state {
         State::Vacant { .. } => Ok(None),

@@ -1,5 +1,5 @@
 // The phases in which a guest is made and set going: what each asks next, and what it leaves.
-ghost use Rattle.std.specs.Prelude.{◌≡◌, ◌++◌, ◌≤◌, IfOk, false};
+ghost use Rattle.std.specs.Prelude.{◌≡◌, ◌++◌, ◌≤◌, IfOk, OnErr, false, true};
 ghost use Rattle.domain_spec.specs.Phase.{phase_of, phase_still_asked};
 ghost use Rattle.domain_spec.specs.Reading.{carries_ended};
 ghost use Rattle.core_rules.specs.Cores.{Serves, core_due};
@@ -7,7 +7,7 @@ ghost use Rattle.core_rules.specs.Next.{next_of};
 ghost use Rattle.core_rules.specs.declared.cores.Core.TheVariants as core;
 ghost use Rattle.lifecycle_core.specs.Leaves.{LeavesPhase};
 ghost use Rattle.lifecycle_core.specs.Parts.{FitsPhase, ServesPhase};
-ghost use Rattle.lifecycle_core.specs.Plans.{next_due};
+ghost use Rattle.lifecycle_core.specs.Plans.{is_ask, next_due};
 
 use crate::memory::PhaseParts;
 use crate::phase_asks::{ask_at, undo_at};
@@ -20,7 +20,8 @@ use std::alloc::Global;
 use virt_types::{Answer, NoMemory, State, TransitionList};
 
 fn next_due(alloc: Global, state: &State, place: Place) -> Result<Next, NoMemory>
-    ensures { IfOk result (λ next. next ≡ next_due state.now place) }
+    ensures value { IfOk result (λ next. next ≡ next_due state.now place) }
+    ensures memory { OnErr result (is_ask (next_due state.now place) ≡ true) }
 {
     match place {
         Place::Plan(place) => Ok(Next::of(ask_at(alloc, state, place)?)),
@@ -29,7 +30,8 @@ fn next_due(alloc: Global, state: &State, place: Place) -> Result<Next, NoMemory
     }
 }
 
-/// What is next for the due phase of this operation, after these answers.
+/// What is next for the due phase of this operation, after these answers. There may be no memory for
+/// an ask, and never for the end.
 #[tactic(auto, using(crate::proofs::Due::next_of_due, core_rules::proofs::Answered::phase_plan_left))]
 pub fn next_phase(
     alloc: Global,
@@ -38,7 +40,8 @@ pub fn next_phase(
     answers: &[Answer],
 ) -> Result<Next, NoMemory>
     requires { Serves core.Lifecycle state.now operation.now }
-    ensures { IfOk result (λ next. next ≡ next_of (phase_still_asked state.now operation.now answers.now)) }
+    ensures value { IfOk result (λ next. next ≡ next_of (phase_still_asked state.now operation.now answers.now)) }
+    ensures memory { OnErr result (is_ask (next_of (phase_still_asked state.now operation.now answers.now)) ≡ true) }
 {
     if carries_ended(state, operation.boot) {
         return Ok(Next::Finish);

@@ -11,7 +11,7 @@ use std::process::Abort;
 use std::test::Fail;
 use virt_types::{
     Answer, AnswerValue, Ask, Call, Cause, Command, NoMemory, RESUMED_UNPAUSED, RefusalCode, Reply,
-    RunState, STOPPED_DESTROYED, SUSPENDED_PAUSED, State, Transition,
+    RunState, STOPPED_DESTROYED, SUSPENDED_PAUSED, State, Transition, TransitionList,
 };
 
 // Whether a call on boot 1 is done with one answer Ok, and listeners are told this.
@@ -30,6 +30,14 @@ fn one_answer_tells(
     ))
 }
 
+// Whether it is a refusal with this code, which keeps this text.
+fn is_refusal(end: &Option<(Reply, TransitionList)>, code: RefusalCode, kept: &str) -> bool {
+    match end {
+        Some((Reply::No(refusal), _)) => refusal.code == code && refusal.kept.as_str() == kept,
+        _ => false,
+    }
+}
+
 // Whether a call is refused at once, with this code and this text.
 fn is_refused_at_once(
     alloc: Global,
@@ -41,14 +49,9 @@ fn is_refused_at_once(
 ) -> Result<bool, NoMemory>
     requires { core_of_call call.now ≡ core.Lifecycle }
 {
-    let asks = next_alike(alloc, state, call, boot, &[])?;
+    let next = next_alike(alloc, state, call, boot, &[])?;
     let end = end_alike(alloc, state, call, boot, &[])?;
-    Ok(match (asks, end) {
-        (Some(Next::Finish), Some((Reply::No(refusal), _))) => {
-            refusal.code == code && refusal.kept.as_str() == kept
-        }
-        _ => false,
-    })
+    Ok(matches!(next, Some(Next::Finish)) && is_refusal(&end, code, kept))
 }
 
 #[test]

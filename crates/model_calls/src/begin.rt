@@ -19,7 +19,7 @@ use model_domain::snapshots::{has_state, snapshot_named};
 use std::alloc::Global;
 use virt_types::{
     Call, Cause, Domain, DomainDef, Live, Name, NoMemory, Op, OpKind, Phase, RunState, Snap,
-    SnapInfo, State, TryCopy, Who,
+    SnapInfo, State, TryCopy, Who, both,
 };
 
 fn definition_with_state(snap: &Option<Snap>) -> Result<Option<DomainDef>, NoMemory>
@@ -149,14 +149,13 @@ fn new_live(alloc: Global, kind: OpKind, def: DomainDef, boot: u64) -> Result<Li
 }
 
 // The domain with the guest of a new boot and the operation that makes it.
-fn with_boot(domain: &Domain, boot: u64, live: Live, op: Op) -> Result<Domain, NoMemory>
-    ensures { IfOk result (λ next. next ≡ record domain.now { live = Some live; boots = boot; op = Some op }) }
+fn with_boot(mut domain: Domain, boot: u64, live: Live, op: Op) -> Domain
+    ensures { result ≡ record domain { live = Some live; boots = boot; op = Some op } }
 {
-    let mut next = domain.copy()?;
-    next.live = Some(live);
-    next.boots = boot;
-    next.op = Some(op);
-    Ok(next)
+    domain.live = Some(live);
+    domain.boots = boot;
+    domain.op = Some(op);
+    domain
 }
 
 fn ran_there(call: &Call) -> bool
@@ -186,12 +185,11 @@ fn begun_with(
         ),
         Some(def) => match domain.boots.checked_add(1) {
             None => Err(NoMemory),
-            Some(boot) => with_boot(
-                domain,
-                boot,
-                new_live(alloc, kind, def, boot)?,
-                new_op(kind, who, Some(boot), true, ran, first),
-            ),
+            Some(boot) => {
+                let (next, live) = both(domain.copy(), new_live(alloc, kind, def, boot))?;
+                let op = new_op(kind, who, Some(boot), true, ran, first);
+                Ok(with_boot(next, boot, live, op))
+            }
         },
     }
 }
@@ -221,6 +219,12 @@ fn begun(alloc: Global, domain: &Domain, who: Who, call: &Call) -> Result<Domain
     )
 }
 
+fn begun_held(alloc: Global, domain: &Domain, who: Who, call: &Call) -> Result<State, NoMemory>
+    ensures { IfOk result (λ next. next ≡ state.Held (begun domain.now who call.now)) }
+{
+    Ok(State::Held(begun(alloc, domain, who, call)?))
+}
+
 fn begun_new(
     alloc: Global,
     def: &DomainDef,
@@ -231,7 +235,7 @@ fn begun_new(
     ensures { IfOk result (λ next. next ≡ state.Held (begun (new_domain def.now boots) who call.now)) }
 {
     let domain = new_domain(def, boots)?;
-    Ok(State::Held(begun(alloc, &domain, who, call)?))
+    begun_held(alloc, &domain, who, call)
 }
 
 /// The state as a call's operation has begun.
@@ -239,7 +243,7 @@ pub fn begin_state(alloc: Global, state: &State, who: Who, call: &Call) -> Resul
     ensures { IfOk result (λ next. next ≡ begin_state state.now who call.now) }
 {
     match state {
-        State::Held(domain) => Ok(State::Held(begun(alloc, domain, who, call)?)),
+        State::Held(domain) => begun_held(alloc, domain, who, call),
         State::Vacant { boots } => match call {
             Call::Create(def) => begun_new(alloc, def, *boots, who, call),
             Call::Restore { definition, .. } | Call::Prepare { definition, .. } => {
@@ -254,9 +258,10 @@ pub fn begin_state(alloc: Global, state: &State, who: Who, call: &Call) -> Resul
 fn named_info(alloc: Global, domain: &Domain, info: &SnapInfo) -> Result<SnapInfo, NoMemory>
     ensures { IfOk result (λ it. it ≡ record info.now { name = Some (snapshot_name domain.now info.now) }) }
 {
+    let (name, description) = both(snapshot_name(alloc, domain, info), info.description.copy())?;
     Ok(SnapInfo {
-        name: Some(snapshot_name(alloc, domain, info)?),
-        description: info.description.copy()?,
+        name: Some(name),
+        description,
     })
 }
 

@@ -18,7 +18,7 @@ use model_domain::snapshots::{has_snapshot, has_state, snapshot_named};
 use std::alloc::Global;
 use virt_types::{
     Call, DeviceDef, Domain, ListOf, Live, Name, NoMemory, Op, OpKind, Refusal, RefusalCode, Snap,
-    State, Text, TryCopy,
+    State, Text, TryCopy, both,
 };
 
 /// Tests in order.
@@ -306,7 +306,8 @@ fn inactive_alone(alloc: Global, domain: &Domain) -> Result<TestList, NoMemory>
 fn inactive_or_crashed(alloc: Global, domain: &Domain) -> Result<TestList, NoMemory>
     ensures { IfOk result (λ tests. tests ≡ inactive domain.now ∷ crashed domain.now ∷ []) }
 {
-    pair(alloc, inactive(alloc, domain)?, crashed(alloc, domain)?)
+    let (first, second) = both(inactive(alloc, domain), crashed(alloc, domain))?;
+    pair(alloc, first, second)
 }
 
 fn inactive_or_outside(
@@ -317,41 +318,48 @@ fn inactive_or_outside(
 ) -> Result<TestList, NoMemory>
     ensures { IfOk result (λ tests. tests ≡ inactive domain.now ∷ outside n 1 high ∷ []) }
 {
-    pair(alloc, inactive(alloc, domain)?, outside(alloc, n, 1, high)?)
+    let (first, second) = both(inactive(alloc, domain), outside(alloc, n, 1, high))?;
+    pair(alloc, first, second)
 }
 
 fn attach_tests(alloc: Global, domain: &Domain, new: &DeviceDef) -> Result<TestList, NoMemory>
     ensures { IfOk result (λ tests. tests ≡ inactive domain.now ∷ key_there domain.now new.now ∷ no_free_slot domain.now ∷ []) }
 {
-    let rest = pair(
-        alloc,
-        key_there(alloc, domain, new)?,
-        no_free_slot(alloc, domain)?,
-    )?;
-    led_by(inactive(alloc, domain)?, rest)
+    let others = both(key_there(alloc, domain, new), no_free_slot(alloc, domain));
+    let (first, (second, third)) = both(inactive(alloc, domain), others)?;
+    led_by(first, pair(alloc, second, third)?)
 }
 
 fn detach_tests(alloc: Global, domain: &Domain, old: &DeviceDef) -> Result<TestList, NoMemory>
     ensures { IfOk result (λ tests. tests ≡ inactive domain.now ∷ key_absent domain.now old.now ∷ []) }
 {
-    pair(
-        alloc,
-        inactive(alloc, domain)?,
-        key_absent(alloc, domain, old)?,
-    )
+    let (first, second) = both(inactive(alloc, domain), key_absent(alloc, domain, old))?;
+    pair(alloc, first, second)
 }
 
 fn kick_tests(alloc: Global, domain: &Domain, n: i32) -> Result<TestList, NoMemory>
     ensures { IfOk result (λ tests. tests ≡ bad_number n ∷ inactive domain.now ∷ []) }
 {
-    pair(alloc, bad_number(alloc, n)?, inactive(alloc, domain)?)
+    let (first, second) = both(bad_number(alloc, n), inactive(alloc, domain))?;
+    pair(alloc, first, second)
 }
 
 fn suspend_tests(alloc: Global, domain: &Domain) -> Result<TestList, NoMemory>
     ensures { IfOk result (λ tests. tests ≡ inactive domain.now ∷ crashed domain.now ∷ moved domain.now ∷ []) }
 {
-    let rest = pair(alloc, crashed(alloc, domain)?, moved(alloc, domain)?)?;
-    led_by(inactive(alloc, domain)?, rest)
+    let others = both(crashed(alloc, domain), moved(alloc, domain));
+    let (first, (second, third)) = both(inactive(alloc, domain), others)?;
+    led_by(first, pair(alloc, second, third)?)
+}
+
+// A test that fails where no migration waits for its guest to be stopped.
+fn no_migration(alloc: Global, domain: &Domain) -> Result<Test, NoMemory>
+    ensures { IfOk result (λ test. test ≡ fails_if (not (can_limit domain.now.op)) (invalid domain.now.live)) }
+{
+    Ok(Test {
+        fails: !can_limit(&domain.op),
+        refusal: invalid(alloc, &domain.live)?,
+    })
 }
 
 // The greatest limit of a migration, in KiB.
@@ -360,12 +368,12 @@ const MOST_LEFT: u64 = 1 << 40;
 fn limit_tests(alloc: Global, domain: &Domain, rest: u64) -> Result<TestList, NoMemory>
     ensures { IfOk result (λ tests. tests ≡ inactive domain.now ∷ fails_if (not (can_limit domain.now.op)) (invalid domain.now.live) ∷ outside rest 0 (2 ^ 40) ∷ []) }
 {
-    let no_migration = Test {
-        fails: !can_limit(&domain.op),
-        refusal: invalid(alloc, &domain.live)?,
-    };
-    let others = pair(alloc, no_migration, outside(alloc, rest, 0, MOST_LEFT)?)?;
-    led_by(inactive(alloc, domain)?, others)
+    let others = both(
+        no_migration(alloc, domain),
+        outside(alloc, rest, 0, MOST_LEFT),
+    );
+    let (first, (second, third)) = both(inactive(alloc, domain), others)?;
+    led_by(first, pair(alloc, second, third)?)
 }
 
 fn live_tests(alloc: Global, domain: &Domain, call: &Call) -> Result<TestList, NoMemory>
@@ -391,28 +399,26 @@ fn live_tests(alloc: Global, domain: &Domain, call: &Call) -> Result<TestList, N
 fn snapshot_tests(alloc: Global, domain: &Domain, name: &Option<Name>) -> Result<TestList, NoMemory>
     ensures { IfOk result (λ tests. tests ≡ name_there domain.now name.now ∷ snapshots_full domain.now ∷ crashed domain.now ∷ []) }
 {
-    let rest = pair(
-        alloc,
-        snapshots_full(alloc, domain)?,
-        crashed(alloc, domain)?,
-    )?;
-    led_by(name_there(alloc, domain, name)?, rest)
+    let others = both(snapshots_full(alloc, domain), crashed(alloc, domain));
+    let (first, (second, third)) = both(name_there(alloc, domain, name), others)?;
+    led_by(first, pair(alloc, second, third)?)
 }
 
 fn revert_tests(alloc: Global, domain: &Domain, name: &Name) -> Result<TestList, NoMemory>
     ensures { IfOk result (λ tests. tests ≡ absent domain.now name.now ∷ spent_at_revert domain.now name.now ∷ []) }
 {
-    pair(
-        alloc,
-        absent(alloc, domain, name)?,
-        spent_at_revert(alloc, domain, name)?,
-    )
+    let (first, second) = both(
+        absent(alloc, domain, name),
+        spent_at_revert(alloc, domain, name),
+    )?;
+    pair(alloc, first, second)
 }
 
 fn active_or_spent(alloc: Global, domain: &Domain) -> Result<TestList, NoMemory>
     ensures { IfOk result (λ tests. tests ≡ active domain.now ∷ spent domain.now.boots ∷ []) }
 {
-    pair(alloc, active(alloc, domain)?, spent(alloc, domain.boots)?)
+    let (first, second) = both(active(alloc, domain), spent(alloc, domain.boots))?;
+    pair(alloc, first, second)
 }
 
 fn operation_tests(alloc: Global, domain: &Domain, call: &Call) -> Result<TestList, NoMemory>
@@ -431,11 +437,11 @@ fn operation_tests(alloc: Global, domain: &Domain, call: &Call) -> Result<TestLi
 fn undefine_tests(alloc: Global, domain: &Domain, boot: Option<u64>) -> Result<TestList, NoMemory>
     ensures { IfOk result (λ tests. tests ≡ none_stored domain.now ∷ has_snapshots domain.now boot ∷ []) }
 {
-    pair(
-        alloc,
-        none_stored(alloc, domain)?,
-        has_snapshots(alloc, domain, boot)?,
-    )
+    let (first, second) = both(
+        none_stored(alloc, domain),
+        has_snapshots(alloc, domain, boot),
+    )?;
+    pair(alloc, first, second)
 }
 
 fn stored_tests(alloc: Global, domain: &Domain) -> Result<TestList, NoMemory>

@@ -15,7 +15,7 @@ use model_domain::reading::{is_paused, is_running};
 use std::alloc::Global;
 use virt_types::{
     Ask, AskList, Call, Command, DeviceDef, Domain, DomainDef, ListOf, Live, NoMemory, State,
-    TryCopy,
+    TryCopy, both,
 };
 
 fn device_lease(alloc: Global, device: &DeviceDef) -> Result<AskList, NoMemory>
@@ -48,28 +48,48 @@ fn ask_plan(alloc: Global, ask: Ask) -> Result<Plan, NoMemory>
     plain(alloc, single(alloc, ask)?.as_slice())
 }
 
+// The ask that makes the host's side of a device.
+fn added_backend(alloc: Global, device: &DeviceDef, slot: u32) -> Result<AskList, NoMemory>
+    ensures { IfOk result (λ asks. asks ≡ tell (command.AddBackend slot device.now)) }
+{
+    let device = device.copy()?;
+    tell(alloc, Command::AddBackend { slot, device })
+}
+
+// The ask that makes the guest's side of a device.
+fn added_device(alloc: Global, device: &DeviceDef, slot: u32) -> Result<AskList, NoMemory>
+    ensures { IfOk result (λ asks. asks ≡ tell (command.AddDevice slot device.now)) }
+{
+    let device = device.copy()?;
+    tell(alloc, Command::AddDevice { slot, device })
+}
+
+fn backend_asks(alloc: Global, device: &DeviceDef, slot: u32) -> Result<AskList, NoMemory>
+    ensures { IfOk result (λ asks. asks ≡ device_lease device.now ++ tell (command.AddBackend slot device.now)) }
+{
+    let (lease, add) = both(
+        device_lease(alloc, device),
+        added_backend(alloc, device, slot),
+    )?;
+    joined(lease, add)
+}
+
 // The asks for the host's side of a device.
 fn backend_plan(alloc: Global, device: &DeviceDef, slot: u32) -> Result<Plan, NoMemory>
     ensures { IfOk result (λ made. made ≡ plain (device_lease device.now ++ tell (command.AddBackend slot device.now))) }
 {
-    let add = Command::AddBackend {
-        slot,
-        device: device.copy()?,
-    };
-    let asks = joined(device_lease(alloc, device)?, tell(alloc, add)?)?;
-    plain(alloc, asks.as_slice())
+    plain(alloc, backend_asks(alloc, device, slot)?.as_slice())
 }
 
 // The ask for the guest's side of a device, with what undoes it.
 fn frontend_plan(alloc: Global, device: &DeviceDef, slot: u32) -> Result<Plan, NoMemory>
     ensures { IfOk result (λ made. made ≡ undone_by (tell (command.RemoveBackend slot)) (tell (command.AddDevice slot device.now))) }
 {
-    let add = Command::AddDevice {
-        slot,
-        device: device.copy()?,
-    };
-    let undo = tell(alloc, Command::RemoveBackend(slot))?;
-    undone_by(alloc, &undo, tell(alloc, add)?.as_slice())
+    let (undo, add) = both(
+        tell(alloc, Command::RemoveBackend(slot)),
+        added_device(alloc, device, slot),
+    )?;
+    undone_by(alloc, &undo, add.as_slice())
 }
 
 fn attach_plan(alloc: Global, device: &DeviceDef, slot: Option<u32>) -> Result<Plan, NoMemory>
@@ -77,10 +97,13 @@ fn attach_plan(alloc: Global, device: &DeviceDef, slot: Option<u32>) -> Result<P
 {
     match slot {
         None => Ok(ListOf::new(alloc)),
-        Some(slot) => joined(
-            backend_plan(alloc, device, slot)?,
-            frontend_plan(alloc, device, slot)?,
-        ),
+        Some(slot) => {
+            let (backend, frontend) = both(
+                backend_plan(alloc, device, slot),
+                frontend_plan(alloc, device, slot),
+            )?;
+            joined(backend, frontend)
+        }
     }
 }
 
@@ -88,16 +111,11 @@ fn attach_plan(alloc: Global, device: &DeviceDef, slot: Option<u32>) -> Result<P
 fn removal_plan(alloc: Global, slot: u32, device: &DeviceDef) -> Result<Plan, NoMemory>
     ensures { IfOk result (λ made. made ≡ undone_by (tell (command.AddDevice slot device.now)) (tell (command.RemoveBackend slot))) }
 {
-    let add = Command::AddDevice {
-        slot,
-        device: device.copy()?,
-    };
-    let undo = tell(alloc, add)?;
-    undone_by(
-        alloc,
-        &undo,
-        tell(alloc, Command::RemoveBackend(slot))?.as_slice(),
-    )
+    let (undo, remove) = both(
+        added_device(alloc, device, slot),
+        tell(alloc, Command::RemoveBackend(slot)),
+    )?;
+    undone_by(alloc, &undo, remove.as_slice())
 }
 
 fn detach_plan(alloc: Global, placed: &Option<(u32, DeviceDef)>) -> Result<Plan, NoMemory>
@@ -105,10 +123,13 @@ fn detach_plan(alloc: Global, placed: &Option<(u32, DeviceDef)>) -> Result<Plan,
 {
     match placed {
         None => Ok(ListOf::new(alloc)),
-        Some((slot, device)) => joined(
-            command_plan(alloc, Command::RemoveDevice(*slot))?,
-            removal_plan(alloc, *slot, device)?,
-        ),
+        Some((slot, device)) => {
+            let (remove, rest) = both(
+                command_plan(alloc, Command::RemoveDevice(*slot)),
+                removal_plan(alloc, *slot, device),
+            )?;
+            joined(remove, rest)
+        }
     }
 }
 

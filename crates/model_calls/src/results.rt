@@ -3,9 +3,12 @@ ghost use Rattle.std.specs.Prelude.{◌≡◌, [], IfOk, if◌then◌else◌, op
 ghost use Rattle.domain_spec.specs.Asks.{first_value};
 ghost use Rattle.domain_spec.specs.CallResult.{abort_asked, aborting, attached, autostart_set, defined, destroyed, detached, done, guest_step, held_step, limit_set, live_step, memory_step, new_domain, rebooted, refused, resumed, snapshot_deleted, step_of, suspended, undefined, with_limit, with_live, with_memory, with_vcpus};
 ghost use Rattle.domain_spec.specs.Devices.{device_like, free_slot};
-ghost use Rattle.domain_spec.specs.Reading.{is_crashed, with_run};
+ghost use Rattle.domain_spec.specs.Reading.{is_crashed, reference_of, with_run};
+ghost use Rattle.domain_spec.specs.Refusals.{failed};
+ghost use Rattle.domain_spec.specs.Types.reply;
 ghost use Rattle.domain_spec.specs.Types.run;
 ghost use Rattle.domain_spec.specs.Types.state;
+ghost use Rattle.domain_spec.specs.Types.value;
 
 use domain_spec::CallStep;
 use model_domain::answers::first_value;
@@ -23,7 +26,7 @@ use virt_types::{
     Answer, AnswerValue, Call, Cause, DEFINED_ADDED, DEFINED_UPDATED, DeviceDef, Domain, DomainDef,
     EndReason, ListOf, Live, Name, NoMemory, Op, RESUMED_UNPAUSED, Refusal, Reply, RunState,
     STOPPED_DESTROYED, SUSPENDED_PAUSED, SnapList, State, Transition, TryCopy, UNDEFINED_REMOVED,
-    Uuid, Value,
+    Uuid, Value, both,
 };
 
 /// The call is refused: nothing changes, and nobody is told.
@@ -80,12 +83,11 @@ pub fn new_domain(def: &DomainDef, boots: u64) -> Result<Domain, NoMemory>
     })
 }
 
-fn with_stored(domain: &Domain, stored: Option<DomainDef>) -> Result<Domain, NoMemory>
-    ensures { IfOk result (λ next. next ≡ record domain.now { stored = stored }) }
+// What a caller is told who defines a domain.
+fn defined_told(domain: &Domain) -> Result<Reply, NoMemory>
+    ensures { IfOk result (λ it. it ≡ reply.Ok (value.Domain (reference_of domain.now))) }
 {
-    let mut next = domain.copy()?;
-    next.stored = stored;
-    Ok(next)
+    Ok(Reply::Ok(Value::Domain(reference_of(domain)?)))
 }
 
 /// The definition is stored.
@@ -97,29 +99,50 @@ pub fn defined(alloc: Global, domain: &Domain, def: &DomainDef) -> Result<CallSt
     } else {
         DEFINED_ADDED
     };
-    let reply = Reply::Ok(Value::Domain(reference_of(domain)?));
-    let next = with_stored(domain, Some(def.copy()?))?;
+    let told = both(single(alloc, told), defined_told(domain));
+    let ((mut next, def), (transitions, reply)) = both(both(domain.copy(), def.copy()), told)?;
+    next.stored = Some(def);
     Ok(CallStep {
         state: State::Held(next),
         reply,
-        transitions: single(alloc, told)?,
+        transitions,
+    })
+}
+
+// Where a guest did not say how much memory it has.
+fn memory_untold(alloc: Global, domain: &Domain) -> Result<CallStep, NoMemory>
+    ensures { IfOk result (λ step. step ≡ refused (state.Held domain.now) (failed 0)) }
+{
+    let (domain, refusal) = both(domain.copy(), failed(alloc, 0))?;
+    Ok(CallStep {
+        state: State::Held(domain),
+        reply: Reply::No(refusal),
+        transitions: ListOf::new(alloc),
+    })
+}
+
+// What a caller is told who asks how much memory a guest has.
+fn memory_said(alloc: Global, domain: &Domain, kib: u64) -> Result<CallStep, NoMemory>
+    ensures { IfOk result (λ step. step ≡ record { state = state.Held domain.now; reply = reply.Ok (value.Memory kib); transitions = [] }) }
+{
+    let state = State::Held(domain.copy()?);
+    Ok(CallStep {
+        state,
+        reply: Reply::Ok(Value::Memory(kib)),
+        transitions: ListOf::new(alloc),
     })
 }
 
 fn memory_step(
     alloc: Global,
-    state: State,
+    domain: &Domain,
     value: &Option<AnswerValue>,
 ) -> Result<CallStep, NoMemory>
-    ensures { IfOk result (λ step. step ≡ memory_step state value.now) }
+    ensures { IfOk result (λ step. step ≡ memory_step (state.Held domain.now) value.now) }
 {
     match value {
-        Some(AnswerValue::Number(kib)) => Ok(CallStep {
-            state,
-            reply: Reply::Ok(Value::Memory(*kib)),
-            transitions: ListOf::new(alloc),
-        }),
-        _ => refused(alloc, &state, failed(alloc, 0)?),
+        Some(AnswerValue::Number(kib)) => memory_said(alloc, domain, *kib),
+        _ => memory_untold(alloc, domain),
     }
 }
 
@@ -144,16 +167,20 @@ fn detached(live: &Live, placed: &Option<(u32, DeviceDef)>) -> Result<Live, NoMe
 fn suspended(alloc: Global, domain: &Domain, live: &Live) -> Result<CallStep, NoMemory>
     ensures { IfOk result (λ step. step ≡ suspended domain.now live.now) }
 {
-    let next = with_run(domain, live, RunState::Paused(Cause::User))?;
-    let told = tell_listeners(alloc, is_running(live.run), SUSPENDED_PAUSED)?;
+    let (next, told) = both(
+        with_run(domain, live, RunState::Paused(Cause::User)),
+        tell_listeners(alloc, is_running(live.run), SUSPENDED_PAUSED),
+    )?;
     Ok(done(State::Held(next), told))
 }
 
 fn resumed(alloc: Global, domain: &Domain, live: &Live) -> Result<CallStep, NoMemory>
     ensures { IfOk result (λ step. step ≡ resumed domain.now live.now) }
 {
-    let next = with_run(domain, live, RunState::Running)?;
-    let told = tell_listeners(alloc, is_paused(live.run), RESUMED_UNPAUSED)?;
+    let (next, told) = both(
+        with_run(domain, live, RunState::Running),
+        tell_listeners(alloc, is_paused(live.run), RESUMED_UNPAUSED),
+    )?;
     Ok(done(State::Held(next), told))
 }
 
@@ -171,15 +198,21 @@ fn woken(domain: &Domain, live: &Live) -> Result<State, NoMemory>
 fn rebooted(alloc: Global, domain: &Domain, live: &Live) -> Result<CallStep, NoMemory>
     ensures { IfOk result (λ step. step ≡ rebooted domain.now live.now) }
 {
-    let told = tell_listeners(alloc, is_crashed(live.run), RESUMED_UNPAUSED)?;
-    Ok(done(woken(domain, live)?, told))
+    let (next, told) = both(
+        woken(domain, live),
+        tell_listeners(alloc, is_crashed(live.run), RESUMED_UNPAUSED),
+    )?;
+    Ok(done(next, told))
 }
 
 fn destroyed(alloc: Global, domain: &Domain, live: &Live) -> Result<CallStep, NoMemory>
     ensures { IfOk result (λ step. step ≡ destroyed domain.now live.now) }
 {
-    let told = single(alloc, STOPPED_DESTROYED)?;
-    Ok(done(ended(domain, live, EndReason::Killed)?, told))
+    let (next, told) = both(
+        ended(domain, live, EndReason::Killed),
+        single(alloc, STOPPED_DESTROYED),
+    )?;
+    Ok(done(next, told))
 }
 
 fn with_memory(live: &Live, kib: u64) -> Result<Live, NoMemory>
@@ -254,7 +287,7 @@ fn device_detached(
 fn memory_told(alloc: Global, domain: &Domain, answers: &[Answer]) -> Result<CallStep, NoMemory>
     ensures { IfOk result (λ step. step ≡ memory_step (state.Held domain.now) (first_value answers.now)) }
 {
-    memory_step(alloc, State::Held(domain.copy()?), &first_value(answers)?)
+    memory_step(alloc, domain, &first_value(answers)?)
 }
 
 fn live_step(
@@ -310,10 +343,10 @@ fn aborting(op: &Option<Op>) -> Result<Option<Op>, NoMemory>
 fn undefined(alloc: Global, domain: &Domain) -> Result<CallStep, NoMemory>
     ensures { IfOk result (λ step. step ≡ undefined domain.now) }
 {
-    let mut next = domain.copy()?;
+    let (mut next, told) = both(domain.copy(), single(alloc, UNDEFINED_REMOVED))?;
     next.stored = None;
     next.autostart = false;
-    Ok(done(unless_gone(next), single(alloc, UNDEFINED_REMOVED)?))
+    Ok(done(unless_gone(next), told))
 }
 
 fn autostart_set(alloc: Global, domain: &Domain, on: bool) -> Result<CallStep, NoMemory>
@@ -359,9 +392,11 @@ fn snapshot_deleted(
 ) -> Result<CallStep, NoMemory>
     ensures { IfOk result (λ step. step ≡ snapshot_deleted domain.now name.now children) }
 {
-    let left = without_snapshot(alloc, &domain.snaps, name, children)?;
-    let current = current_without(alloc, &domain.snaps, &domain.current, name, children)?;
-    let mut next = domain.copy()?;
+    let left = both(
+        without_snapshot(alloc, &domain.snaps, name, children),
+        current_without(alloc, &domain.snaps, &domain.current, name, children),
+    );
+    let (mut next, (left, current)) = both(domain.copy(), left)?;
     next.snaps = left;
     next.current = current;
     Ok(done_quietly(alloc, State::Held(next)))

@@ -6,10 +6,18 @@ use crate::answers::{bad_place, first_bad, is_undone};
 use crate::lists::{behind, front_of, joined, led_by};
 use domain_spec::PlannedAsk;
 use std::alloc::Global;
-use virt_types::{Answer, Ask, AskList, ListOf, NoMemory, TryCopy};
+use virt_types::{Answer, Ask, AskList, ListOf, NoMemory, TryCopy, both};
 
 /// Asks in order, each with what undoes it.
 pub type Plan = ListOf<PlannedAsk>;
+
+// An ask that is undone so.
+fn planned(ask: &Ask, undo: &AskList) -> Result<PlannedAsk, NoMemory>
+    ensures { IfOk result (λ it. it ≡ record { ask = ask.now; undo = undo.now }) }
+{
+    let (ask, undo) = both(ask.copy(), undo.copy())?;
+    Ok(PlannedAsk { ask, undo })
+}
 
 /// Asks that are undone so, whichever of them is refused.
 pub fn undone_by(alloc: Global, undo: &AskList, asks: &[Ask]) -> Result<Plan, NoMemory>
@@ -17,13 +25,10 @@ pub fn undone_by(alloc: Global, undo: &AskList, asks: &[Ask]) -> Result<Plan, No
 {
     match asks {
         [] => Ok(ListOf::new(alloc)),
-        [first, rest @ ..] => led_by(
-            PlannedAsk {
-                ask: first.copy()?,
-                undo: undo.copy()?,
-            },
-            undone_by(alloc, undo, rest)?,
-        ),
+        [first, rest @ ..] => {
+            let (first, rest) = both(planned(first, undo), undone_by(alloc, undo, rest))?;
+            led_by(first, rest)
+        }
     }
 }
 
@@ -39,7 +44,10 @@ fn asks_of(alloc: Global, plan: &[PlannedAsk]) -> Result<AskList, NoMemory>
 {
     match plan {
         [] => Ok(ListOf::new(alloc)),
-        [first, rest @ ..] => led_by(first.ask.copy()?, asks_of(alloc, rest)?),
+        [first, rest @ ..] => {
+            let (first, rest) = both(first.ask.copy(), asks_of(alloc, rest))?;
+            led_by(first, rest)
+        }
     }
 }
 
@@ -87,10 +95,11 @@ fn cut_course(
 {
     match place.checked_add(1) {
         None => Err(NoMemory),
-        Some(count) => joined(
-            first_asks(alloc, plan, count)?,
-            undo_at(alloc, plan, place, &first_bad(answers)?)?,
-        ),
+        Some(count) => {
+            let undo = undo_at(alloc, plan, place, &first_bad(answers)?);
+            let (asks, undo) = both(first_asks(alloc, plan, count), undo)?;
+            joined(asks, undo)
+        }
     }
 }
 

@@ -10,7 +10,7 @@ use crate::lists::{joined, led_by, value_at, with_at, without_at};
 use std::alloc::Global;
 use virt_types::{
     DeviceDef, Disk, DomainDef, Interface, InterfaceSource, InterfaceType, ListOf, Live, Mac,
-    NoMemory, SlotList, Text, TryCopy,
+    NoMemory, SlotList, Text, TryCopy, both,
 };
 
 fn disk_devices(alloc: Global, disks: &[Disk]) -> Result<ListOf<DeviceDef>, NoMemory>
@@ -18,7 +18,10 @@ fn disk_devices(alloc: Global, disks: &[Disk]) -> Result<ListOf<DeviceDef>, NoMe
 {
     match disks {
         [] => Ok(ListOf::new(alloc)),
-        [first, rest @ ..] => led_by(DeviceDef::Disk(first.copy()?), disk_devices(alloc, rest)?),
+        [first, rest @ ..] => {
+            let (first, rest) = both(first.copy(), disk_devices(alloc, rest))?;
+            led_by(DeviceDef::Disk(first), rest)
+        }
     }
 }
 
@@ -27,10 +30,10 @@ fn interface_devices(alloc: Global, interfaces: &[Interface]) -> Result<ListOf<D
 {
     match interfaces {
         [] => Ok(ListOf::new(alloc)),
-        [first, rest @ ..] => led_by(
-            DeviceDef::Interface(first.copy()?),
-            interface_devices(alloc, rest)?,
-        ),
+        [first, rest @ ..] => {
+            let (first, rest) = both(first.copy(), interface_devices(alloc, rest))?;
+            led_by(DeviceDef::Interface(first), rest)
+        }
     }
 }
 
@@ -38,10 +41,11 @@ fn interface_devices(alloc: Global, interfaces: &[Interface]) -> Result<ListOf<D
 pub fn devices_of(alloc: Global, def: &DomainDef) -> Result<ListOf<DeviceDef>, NoMemory>
     ensures { IfOk result (λ all. all ≡ devices_of def.now) }
 {
-    joined(
-        disk_devices(alloc, def.disks.as_slice())?,
-        interface_devices(alloc, def.interfaces.as_slice())?,
-    )
+    let (disks, interfaces) = both(
+        disk_devices(alloc, def.disks.as_slice()),
+        interface_devices(alloc, def.interfaces.as_slice()),
+    )?;
+    joined(disks, interfaces)
 }
 
 // Slots from this one on, one a device.
@@ -178,7 +182,7 @@ fn placed(
 {
     match place {
         None => Ok(None),
-        Some(place) => match (value_at(slots, place)?, value_at(devices, place)?) {
+        Some(place) => match both(value_at(slots, place), value_at(devices, place))? {
             (Some(slot), Some(device)) => Ok(Some((slot, device))),
             _ => Ok(None),
         },
@@ -235,8 +239,9 @@ pub fn with_device(live: &Live, slot: u32, new: &DeviceDef) -> Result<Live, NoMe
 {
     match new {
         DeviceDef::Disk(disk) => {
-            let slots = with_at(live.slots.copy()?, live.def.disks.len(), slot)?;
-            Ok(with_devices(live, with_disk(&live.def, disk)?, slots))
+            let slots = with_at(live.slots.copy()?, live.def.disks.len(), slot);
+            let (slots, def) = both(slots, with_disk(&live.def, disk))?;
+            Ok(with_devices(live, def, slots))
         }
         DeviceDef::Interface(interface) => {
             let mut slots = live.slots.copy()?;

@@ -4,7 +4,7 @@ ghost use Rattle.domain_spec.specs.Snapshots.{comes_from, current_in, current_wi
 
 use crate::lists::led_by;
 use std::alloc::Global;
-use virt_types::{ListOf, Name, NoMemory, Snap, TryCopy};
+use virt_types::{ListOf, Name, NoMemory, Snap, TryCopy, both};
 
 fn is_named(name: &Name, snap: &Snap) -> bool
     ensures { result ≡ is_named name.now snap.now }
@@ -163,10 +163,13 @@ fn with_parents(
 {
     match left {
         [] => Ok(ListOf::new(alloc)),
-        [first, rest @ ..] => led_by(
-            with_parent(name, parent, first)?,
-            with_parents(alloc, rest, name, parent)?,
-        ),
+        [first, rest @ ..] => {
+            let (first, rest) = both(
+                with_parent(name, parent, first),
+                with_parents(alloc, rest, name, parent),
+            )?;
+            led_by(first, rest)
+        }
     }
 }
 

@@ -15,33 +15,33 @@ ghost use Rattle.domain_spec.specs.Types.value;
 
 use crate::phase_plans::copied_bytes;
 use crate::phase_results::{
-    goes_on, led_to, over, over_quietly, paused_unless, run_as, seen_running, start_value,
-    still_told,
+    ended_as_led, goes_on_quietly, nothing_done, over, paused_unless, run_as, seen_running,
+    start_value, still_told,
 };
 use domain_spec::{Outcome, PhaseStep};
 use model_domain::answers::last_value;
 use model_domain::lists::{led_by, single};
-use model_domain::reading::{ended, is_running, with_operation, with_run};
+use model_domain::reading::{ended, is_running, with_run};
 use model_domain::told::{Told, tell_listeners};
 use std::alloc::Global;
 use virt_types::{
     Answer, AnswerValue, Boxed, Call, Cause, Domain, EndReason, ListOf, Live, MigratedGuest,
     NoMemory, Op, Phase, RESUMED_UNPAUSED, Reply, RunState, STARTED_MIGRATED, STOPPED_FAILED,
-    STOPPED_MIGRATED, State, TryCopy, Value,
+    STOPPED_MIGRATED, State, TryCopy, Value, both,
 };
 
 /// The operation rests until a call takes it up.
-pub fn rests(domain: &Domain, op: &Op, told: Told, reply: Reply) -> Result<PhaseStep, NoMemory>
-    ensures { IfOk result (λ step. step ≡ rests domain.now op.now told reply) }
+pub fn rests(mut domain: Domain, mut op: Op, told: Told, reply: Reply) -> PhaseStep
+    ensures { result ≡ rests domain op told reply }
 {
-    let mut next = op.copy()?;
-    next.phase = Phase::Resting;
-    next.rests = true;
-    Ok(PhaseStep {
-        state: State::Held(with_operation(domain, Some(next))?),
+    op.phase = Phase::Resting;
+    op.rests = true;
+    domain.op = Some(op);
+    PhaseStep {
+        state: State::Held(domain),
         transitions: told,
         outcome: Outcome::Rest(reply),
-    })
+    }
 }
 
 fn leaving(
@@ -51,10 +51,11 @@ fn leaving(
 ) -> Result<MigratedGuest, NoMemory>
     ensures { IfOk result (λ guest. guest ≡ leaving live.now value.now) }
 {
+    let (definition, state) = both(live.def.copy(), copied_bytes(alloc, value))?;
     Ok(MigratedGuest {
-        definition: live.def.copy()?,
+        definition,
         running: is_running(live.run),
-        state: copied_bytes(alloc, value)?,
+        state,
     })
 }
 
@@ -81,21 +82,22 @@ fn migrate_take_done(
 ) -> Result<PhaseStep, NoMemory>
     ensures { IfOk result (λ step. step ≡ migrate_take_done domain.now live.now op.now answers.now) }
 {
-    let still = moved(domain, live)?;
-    let next = seen_running(op, live)?;
-    let told = still_told(alloc, live)?;
-    let reply = leaving_told(alloc, live, answers)?;
-    rests(&still, &next, told, reply)
+    let told = both(still_told(alloc, live), leaving_told(alloc, live, answers));
+    let ((still, next), (told, reply)) = both(
+        both(moved(domain, live), seen_running(op, live)),
+        told,
+    )?;
+    Ok(rests(still, next, told, reply))
 }
 
 fn migrate_quit_done(alloc: Global, domain: &Domain, live: &Live) -> Result<PhaseStep, NoMemory>
     ensures { IfOk result (λ step. step ≡ migrate_quit_done domain.now live.now) }
 {
-    Ok(over(
-        ended(domain, live, EndReason::Migrated)?,
-        single(alloc, STOPPED_MIGRATED)?,
-        Reply::Ok(Value::Nothing),
-    ))
+    let (next, told) = both(
+        ended(domain, live, EndReason::Migrated),
+        single(alloc, STOPPED_MIGRATED),
+    )?;
+    Ok(over(next, told, Reply::Ok(Value::Nothing)))
 }
 
 // The guest goes on as it was.
@@ -113,11 +115,11 @@ fn migrate_back_done(
 ) -> Result<PhaseStep, NoMemory>
     ensures { IfOk result (λ step. step ≡ migrate_back_done domain.now live.now op.now) }
 {
-    Ok(over(
-        going_on(domain, live, op.was_running)?,
-        tell_listeners(alloc, op.was_running, RESUMED_UNPAUSED)?,
-        Reply::Ok(Value::Nothing),
-    ))
+    let (next, told) = both(
+        going_on(domain, live, op.was_running),
+        tell_listeners(alloc, op.was_running, RESUMED_UNPAUSED),
+    )?;
+    Ok(over(next, told, Reply::Ok(Value::Nothing)))
 }
 
 fn migrate_run_done(
@@ -128,21 +130,19 @@ fn migrate_run_done(
 ) -> Result<PhaseStep, NoMemory>
     ensures { IfOk result (λ step. step ≡ migrate_run_done domain.now live.now op.now) }
 {
-    Ok(over(
-        going_on(domain, live, op.was_running)?,
-        led_by(STARTED_MIGRATED, paused_unless(alloc, op.was_running)?)?,
-        Reply::Ok(Value::Nothing),
-    ))
+    let told = led_by(STARTED_MIGRATED, paused_unless(alloc, op.was_running)?);
+    let (next, told) = both(going_on(domain, live, op.was_running), told)?;
+    Ok(over(next, told, Reply::Ok(Value::Nothing)))
 }
 
 fn migrate_drop_done(alloc: Global, domain: &Domain, live: &Live) -> Result<PhaseStep, NoMemory>
     ensures { IfOk result (λ step. step ≡ migrate_drop_done domain.now live.now) }
 {
-    Ok(over(
-        ended(domain, live, EndReason::Failed)?,
-        single(alloc, STOPPED_FAILED)?,
-        Reply::Ok(Value::Nothing),
-    ))
+    let (next, told) = both(
+        ended(domain, live, EndReason::Failed),
+        single(alloc, STOPPED_FAILED),
+    )?;
+    Ok(over(next, told, Reply::Ok(Value::Nothing)))
 }
 
 // The guest has its state, and waits for the word of its caller.
@@ -154,28 +154,8 @@ fn migrate_load_done(
 ) -> Result<PhaseStep, NoMemory>
     ensures { IfOk result (λ step. step ≡ rests domain.now op.now [] (reply.Ok (start_value domain.now call.now))) }
 {
-    let value = start_value(domain, call)?;
-    rests(domain, op, ListOf::new(alloc), Reply::Ok(value))
-}
-
-// The copy is given up, and the guest goes on as it did.
-fn migrate_cancel_done(alloc: Global, domain: &Domain, op: &Op) -> Result<PhaseStep, NoMemory>
-    ensures { IfOk result (λ step. step ≡ over (state.Held domain.now) [] (led_to op.now)) }
-{
-    over_quietly(alloc, domain, led_to(alloc, op)?)
-}
-
-fn migrate_copy_done(alloc: Global, domain: &Domain, op: &Op) -> Result<PhaseStep, NoMemory>
-    ensures { IfOk result (λ step. step ≡ goes_on domain.now op.now phase.Poll []) }
-{
-    goes_on(domain, op, Phase::Poll, ListOf::new(alloc))
-}
-
-// No call makes this phase due.
-fn nothing_done(alloc: Global, domain: &Domain) -> Result<PhaseStep, NoMemory>
-    ensures { IfOk result (λ step. step ≡ over (state.Held domain.now) [] (reply.Ok value.Nothing)) }
-{
-    over_quietly(alloc, domain, Reply::Ok(Value::Nothing))
+    let ((next, op), value) = both(both(domain.copy(), op.copy()), start_value(domain, call))?;
+    Ok(rests(next, op, ListOf::new(alloc), Reply::Ok(value)))
 }
 
 /// A phase of a migration, where each answer is Ok.
@@ -191,9 +171,9 @@ pub fn migration_done(
     ensures { IfOk result (λ step. step ≡ migration_done domain.now live.now op.now call.now answers.now (led_to op.now) phase) }
 {
     match phase {
-        Phase::MigrateCopy => migrate_copy_done(alloc, domain, op),
+        Phase::MigrateCopy => goes_on_quietly(alloc, domain, op, Phase::Poll),
         Phase::MigrateTake => migrate_take_done(alloc, domain, live, op, answers),
-        Phase::MigrateCancel => migrate_cancel_done(alloc, domain, op),
+        Phase::MigrateCancel => ended_as_led(alloc, domain, op),
         Phase::MigrateLoad => migrate_load_done(alloc, domain, op, call),
         Phase::MigrateQuit => migrate_quit_done(alloc, domain, live),
         Phase::MigrateBack => migrate_back_done(alloc, domain, live, op),

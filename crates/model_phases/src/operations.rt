@@ -89,6 +89,18 @@ fn copied_told(alloc: Global, told: &[Transition]) -> Result<Told, NoMemory>
     Ok(ListOf::of(told.to_vec(alloc)?))
 }
 
+// What listeners are told with a phase, and of its boot's end where that follows.
+fn told_and_lost(
+    alloc: Global,
+    told: &[Transition],
+    lost: Option<EndReason>,
+) -> Result<Told, NoMemory>
+    ensures { IfOk result (λ all. all ≡ told.now ++ whole.end_told lost) }
+{
+    let (told, lost) = both(copied_told(alloc, told), end_told(alloc, lost))?;
+    joined(told, lost)
+}
+
 // What listeners are told with a phase: of its boot's end where that came first, and where it follows.
 fn told_of(
     alloc: Global,
@@ -98,11 +110,11 @@ fn told_of(
 ) -> Result<Told, NoMemory>
     ensures { IfOk result (λ all. all ≡ whole.end_told (whole.ended_by at.now.left) ++ told.now ++ whole.end_told lost) }
 {
-    let ended = end_told(alloc, ended_by(at.left.as_slice()))?;
-    joined(
-        joined(ended, copied_told(alloc, told)?)?,
-        end_told(alloc, lost)?,
-    )
+    let (ended, rest) = both(
+        end_told(alloc, ended_by(at.left.as_slice())),
+        told_and_lost(alloc, told, lost),
+    )?;
+    joined(ended, rest)
 }
 
 // The due phase, as it is done.

@@ -1,12 +1,14 @@
 // What each phase of an operation asks, and what undoes it.
-ghost use Rattle.std.specs.Prelude.{◌≡◌, ◌++◌, IfOk, flat_map, option_map};
+ghost use Rattle.std.specs.Prelude.{◌≡◌, ◌++◌, ◌∷◌, [], IfOk, flat_map, option_map};
 ghost use Rattle.domain_spec.specs.Asks.{first_value, plain, undone_by};
 ghost use Rattle.domain_spec.specs.Call.{lease_of, tell, tell_if};
 ghost use Rattle.domain_spec.specs.PhaseAsks.{cancel_asks, copy_asks, is_given_up, is_stalled, live_phase_asks, live_phase_plan, live_phase_undo, load_asks, loaded_from, loaded_of, make_asks, migrate_load_asks, migrate_take_plan, migration_asks, phase_plan, resumes, take_asks, copied_bytes, two, write_image};
 ghost use Rattle.domain_spec.specs.Reading.{is_running};
+ghost use Rattle.domain_spec.specs.Types.ask;
 ghost use Rattle.domain_spec.specs.Types.call;
 ghost use Rattle.domain_spec.specs.Types.command;
 ghost use Rattle.domain_spec.specs.Types.given;
+ghost use Rattle.domain_spec.specs.Types.image;
 ghost use Rattle.domain_spec.specs.Types.phase;
 
 use domain_spec::Loaded;
@@ -19,16 +21,17 @@ use model_domain::snapshots::{snapshot_named, snapshot_ran};
 use std::alloc::Global;
 use virt_types::{
     Answer, AnswerValue, Ask, AskList, Bytes, Call, Command, Domain, DomainDef, ImageKind,
-    Interface, ListOf, Live, Name, NoMemory, Op, Phase, Snap, TryCopy,
+    Interface, ListOf, Live, Name, NoMemory, Op, Phase, Snap, TryCopy, both,
 };
 
 fn loaded_from(snap: &Snap) -> Result<Loaded, NoMemory>
     ensures { IfOk result (λ loaded. loaded ≡ loaded_from snap.now) }
 {
+    let (definition, saved) = both(snap.def.copy(), snap.saved.copy())?;
     Ok(Loaded {
-        definition: snap.def.copy()?,
+        definition,
         ran: snapshot_ran(snap),
-        saved: snap.saved.copy()?,
+        saved,
     })
 }
 
@@ -45,10 +48,11 @@ fn loaded_from_named(snap: &Option<Snap>) -> Result<Option<Loaded>, NoMemory>
 fn image(def: &DomainDef, ran: bool, saved: &Bytes) -> Result<Option<Loaded>, NoMemory>
     ensures { IfOk result (λ loaded. loaded ≡ Some (record { definition = def.now; ran = ran; saved = saved.now })) }
 {
+    let (definition, saved) = both(def.copy(), saved.copy())?;
     Ok(Some(Loaded {
-        definition: def.copy()?,
+        definition,
         ran,
-        saved: saved.copy()?,
+        saved,
     }))
 }
 
@@ -72,6 +76,24 @@ pub fn loaded_of(domain: &Domain, call: &Call) -> Result<Option<Loaded>, NoMemor
     }
 }
 
+// The command that loads a state.
+fn load(alloc: Global, loaded: &Loaded) -> Result<AskList, NoMemory>
+    ensures { IfOk result (λ asks. asks ≡ tell (command.LoadState loaded.now.saved)) }
+{
+    tell(alloc, Command::LoadState(loaded.saved.copy()?))
+}
+
+// A state is loaded, and the guest is let run, where it is to.
+fn load_and_run(alloc: Global, loaded: &Loaded) -> Result<AskList, NoMemory>
+    ensures { IfOk result (λ asks. asks ≡ tell (command.LoadState loaded.now.saved) ++ tell_if loaded.now.ran command.Cont) }
+{
+    let (load, run) = both(
+        load(alloc, loaded),
+        tell_if(alloc, loaded.ran, Command::Cont),
+    )?;
+    joined(load, run)
+}
+
 fn load_asks(
     alloc: Global,
     live: &Live,
@@ -83,12 +105,12 @@ fn load_asks(
     match loaded {
         None => Ok(ListOf::new(alloc)),
         Some(loaded) => {
-            let stop = tell_if(alloc, !op.new_boot && is_running(live.run), Command::Stop)?;
-            let load = tell(alloc, Command::LoadState(loaded.saved.copy()?))?;
-            joined(
-                joined(stop, load)?,
-                tell_if(alloc, loaded.ran, Command::Cont)?,
-            )
+            let first = !op.new_boot && is_running(live.run);
+            let (stop, rest) = both(
+                tell_if(alloc, first, Command::Stop),
+                load_and_run(alloc, loaded),
+            )?;
+            joined(stop, rest)
         }
     }
 }
@@ -144,13 +166,14 @@ fn write_image(
 ) -> Result<AskList, NoMemory>
     ensures { IfOk result (λ asks. asks ≡ write_image name.now kind live.now op.now answers.now) }
 {
-    let bytes = copied_bytes(alloc, &first_value(answers)?)?;
+    let bytes = copied_bytes(alloc, &first_value(answers)?);
+    let ((name, definition), bytes) = both(both(name.copy(), live.def.copy()), bytes)?;
     single(
         alloc,
         Ask::WriteImage {
-            name: name.copy()?,
+            name,
             kind,
-            definition: live.def.copy()?,
+            definition,
             running: op.was_running,
             bytes,
         },
@@ -166,10 +189,28 @@ fn take_save(
 ) -> Result<AskList, NoMemory>
     ensures { IfOk result (λ asks. asks ≡ take_asks live.now op.now (call.Save name.now) answers.now) }
 {
-    joined(
-        tell(alloc, Command::CopyTake)?,
-        write_image(alloc, name, ImageKind::Save, live, op, answers)?,
-    )
+    let (take, write) = both(
+        tell(alloc, Command::CopyTake),
+        write_image(alloc, name, ImageKind::Save, live, op, answers),
+    )?;
+    joined(take, write)
+}
+
+// A dump is written, and the guest goes on, where it is to.
+fn write_and_resume(
+    alloc: Global,
+    live: &Live,
+    op: &Op,
+    name: &Name,
+    answers: &[Answer],
+) -> Result<AskList, NoMemory>
+    ensures { IfOk result (λ asks. asks ≡ write_image name.now image.Dump live.now op.now answers.now ++ tell_if (resumes live.now op.now) command.Cont) }
+{
+    let (write, resume) = both(
+        write_image(alloc, name, ImageKind::Dump, live, op, answers),
+        tell_if(alloc, resumes(live, op), Command::Cont),
+    )?;
+    joined(write, resume)
 }
 
 fn take_dump(
@@ -181,20 +222,21 @@ fn take_dump(
 ) -> Result<AskList, NoMemory>
     ensures { IfOk result (λ asks. asks ≡ take_asks live.now op.now (call.Dump name.now) answers.now) }
 {
-    let written = joined(
-        tell(alloc, Command::CopyTake)?,
-        write_image(alloc, name, ImageKind::Dump, live, op, answers)?,
+    let (take, rest) = both(
+        tell(alloc, Command::CopyTake),
+        write_and_resume(alloc, live, op, name, answers),
     )?;
-    joined(written, tell_if(alloc, resumes(live, op), Command::Cont)?)
+    joined(take, rest)
 }
 
 fn take_alone(alloc: Global, live: &Live, op: &Op) -> Result<AskList, NoMemory>
     ensures { IfOk result (λ asks. asks ≡ tell command.CopyTake ++ tell_if (resumes live.now op.now) command.Cont) }
 {
-    joined(
-        tell(alloc, Command::CopyTake)?,
-        tell_if(alloc, resumes(live, op), Command::Cont)?,
-    )
+    let (take, resume) = both(
+        tell(alloc, Command::CopyTake),
+        tell_if(alloc, resumes(live, op), Command::Cont),
+    )?;
+    joined(take, resume)
 }
 
 fn take_asks(
@@ -218,45 +260,64 @@ fn leases(alloc: Global, interfaces: &[Interface]) -> Result<AskList, NoMemory>
 {
     match interfaces {
         [] => Ok(ListOf::new(alloc)),
-        [first, rest @ ..] => joined(lease_of(alloc, first)?, leases(alloc, rest)?),
+        [first, rest @ ..] => {
+            let (first, rest) = both(lease_of(alloc, first), leases(alloc, rest))?;
+            joined(first, rest)
+        }
     }
+}
+
+fn make(alloc: Global, live: &Live) -> Result<AskList, NoMemory>
+    ensures { IfOk result (λ asks. asks ≡ ask.Make live.now.def live.now.boot ∷ []) }
+{
+    let definition = live.def.copy()?;
+    single(
+        alloc,
+        Ask::Make {
+            definition,
+            boot: live.boot,
+        },
+    )
 }
 
 fn make_asks(alloc: Global, live: &Live) -> Result<AskList, NoMemory>
     ensures { IfOk result (λ asks. asks ≡ make_asks live.now) }
 {
-    let make = Ask::Make {
-        definition: live.def.copy()?,
-        boot: live.boot,
-    };
-    joined(
-        leases(alloc, live.def.interfaces.as_slice())?,
-        single(alloc, make)?,
-    )
+    let (leases, make) = both(
+        leases(alloc, live.def.interfaces.as_slice()),
+        make(alloc, live),
+    )?;
+    joined(leases, make)
 }
 
-fn two(alloc: Global, first: Command, second: Command) -> Result<AskList, NoMemory>
-    ensures { IfOk result (λ asks. asks ≡ two first second) }
+fn run_asks(alloc: Global) -> Result<AskList, NoMemory>
+    ensures { IfOk result (λ asks. asks ≡ two command.QueryStatus command.Cont) }
 {
-    joined(tell(alloc, first)?, tell(alloc, second)?)
+    let (status, run) = both(
+        tell(alloc, Command::QueryStatus),
+        tell(alloc, Command::Cont),
+    )?;
+    joined(status, run)
 }
 
 fn copy_asks(alloc: Global, live: &Live) -> Result<AskList, NoMemory>
     ensures { IfOk result (λ asks. asks ≡ copy_asks live.now) }
 {
-    joined(
-        tell_if(alloc, is_running(live.run), Command::Stop)?,
-        tell(alloc, Command::CopyBegin)?,
-    )
+    let (stop, begin) = both(
+        tell_if(alloc, is_running(live.run), Command::Stop),
+        tell(alloc, Command::CopyBegin),
+    )?;
+    joined(stop, begin)
 }
 
 fn cancel_asks(alloc: Global, live: &Live, op: &Op) -> Result<AskList, NoMemory>
     ensures { IfOk result (λ asks. asks ≡ cancel_asks live.now op.now) }
 {
-    joined(
-        tell(alloc, Command::CopyCancel)?,
-        tell_if(alloc, resumes(live, op), Command::Cont)?,
-    )
+    let (cancel, resume) = both(
+        tell(alloc, Command::CopyCancel),
+        tell_if(alloc, resumes(live, op), Command::Cont),
+    )?;
+    joined(cancel, resume)
 }
 
 fn load_asks_of(
@@ -276,7 +337,7 @@ fn migrate_load_asks(alloc: Global, loaded: &Option<Loaded>) -> Result<AskList, 
 {
     match loaded {
         None => Ok(ListOf::new(alloc)),
-        Some(loaded) => tell(alloc, Command::LoadState(loaded.saved.copy()?)),
+        Some(loaded) => load(alloc, loaded),
     }
 }
 
@@ -321,7 +382,7 @@ fn live_phase_asks(
     match phase {
         Phase::Nothing => Ok(ListOf::new(alloc)),
         Phase::Make => make_asks(alloc, live),
-        Phase::Run => two(alloc, Command::QueryStatus, Command::Cont),
+        Phase::Run => run_asks(alloc),
         Phase::Load => load_asks_of(alloc, domain, live, op, call),
         Phase::Copy => copy_asks(alloc, live),
         Phase::Poll => tell_if(alloc, !is_given_up(op), Command::CopyPoll),
@@ -366,14 +427,18 @@ fn stop_plan(alloc: Global, live: &Live) -> Result<Plan, NoMemory>
 fn take_plan(alloc: Global, live: &Live) -> Result<Plan, NoMemory>
     ensures { IfOk result (λ made. made ≡ undone_by (tell_if (is_running live.now.run) command.Cont) (tell command.CopyTake)) }
 {
-    let undo = tell_if(alloc, is_running(live.run), Command::Cont)?;
-    undone_by(alloc, &undo, tell(alloc, Command::CopyTake)?.as_slice())
+    let (undo, take) = both(
+        tell_if(alloc, is_running(live.run), Command::Cont),
+        tell(alloc, Command::CopyTake),
+    )?;
+    undone_by(alloc, &undo, take.as_slice())
 }
 
 fn migrate_take_plan(alloc: Global, live: &Live) -> Result<Plan, NoMemory>
     ensures { IfOk result (λ made. made ≡ migrate_take_plan live.now) }
 {
-    joined(stop_plan(alloc, live)?, take_plan(alloc, live)?)
+    let (stop, take) = both(stop_plan(alloc, live), take_plan(alloc, live))?;
+    joined(stop, take)
 }
 
 // Any other phase's asks, each undone in one way.
@@ -388,8 +453,10 @@ fn plan_undone(
 ) -> Result<Plan, NoMemory>
     ensures { IfOk result (λ made. made ≡ undone_by (live_phase_undo live.now op.now phase) (live_phase_asks domain.now live.now op.now call.now answers.now phase)) }
 {
-    let undo = live_phase_undo(alloc, live, op, phase)?;
-    let asks = live_phase_asks(alloc, domain, live, op, call, answers, phase)?;
+    let (undo, asks) = both(
+        live_phase_undo(alloc, live, op, phase),
+        live_phase_asks(alloc, domain, live, op, call, answers, phase),
+    )?;
     undone_by(alloc, &undo, asks.as_slice())
 }
 

@@ -20,11 +20,9 @@ use crate::migration::migration_done;
 use crate::phase_plans::{copied_bytes, is_given_up, loaded_of, resumes};
 use domain_spec::{Loaded, Outcome, PhaseStep};
 use model_domain::answers::first_value;
-use model_domain::devices::{slots_at_start, text_or_empty, with_devices};
+use model_domain::devices::{slots_at_start, text_or_empty};
 use model_domain::lists::{led_by, single};
-use model_domain::reading::{
-    ended, is_running, reference_of, running_as, with_guest, with_operation, with_run,
-};
+use model_domain::reading::{ended, is_running, reference_of, running_as, unless_gone, with_run};
 use model_domain::refusals::{aborted, stalled};
 use model_domain::snapshot_names::snapshot_name;
 use model_domain::snapshots::with_snapshot;
@@ -37,23 +35,30 @@ use virt_types::{
     SUSPENDED_PAUSED, Snap, SnapInfo, State, Transition, TryCopy, Value, both,
 };
 
-fn due_next(op: &Op, next: Phase) -> Result<Op, NoMemory>
-    ensures { IfOk result (λ it. it ≡ record op.now { phase = next }) }
-{
-    let mut it = op.copy()?;
-    it.phase = next;
-    Ok(it)
-}
-
 /// The operation goes on with this phase.
-pub fn goes_on(domain: &Domain, op: &Op, next: Phase, told: Told) -> Result<PhaseStep, NoMemory>
-    ensures { IfOk result (λ step. step ≡ goes_on domain.now op.now next told) }
+pub fn goes_on(mut domain: Domain, mut op: Op, next: Phase, told: Told) -> PhaseStep
+    ensures { result ≡ goes_on domain op next told }
 {
-    Ok(PhaseStep {
-        state: State::Held(with_operation(domain, Some(due_next(op, next)?))?),
+    op.phase = next;
+    domain.op = Some(op);
+    PhaseStep {
+        state: State::Held(domain),
         transitions: told,
         outcome: Outcome::On(next),
-    })
+    }
+}
+
+/// The operation goes on with this phase, and nobody is told.
+pub fn goes_on_quietly(
+    alloc: Global,
+    domain: &Domain,
+    op: &Op,
+    next: Phase,
+) -> Result<PhaseStep, NoMemory>
+    ensures { IfOk result (λ step. step ≡ goes_on domain.now op.now next []) }
+{
+    let (domain, op) = both(domain.copy(), op.copy())?;
+    Ok(goes_on(domain, op, next, ListOf::new(alloc)))
 }
 
 /// The operation is over.
@@ -65,6 +70,27 @@ pub fn over(state: State, told: Told, reply: Reply) -> PhaseStep
         transitions: told,
         outcome: Outcome::Over(reply),
     }
+}
+
+/// The operation is over, and nobody is told.
+pub fn over_quietly(alloc: Global, state: State, reply: Reply) -> PhaseStep
+    ensures { result ≡ over state [] reply }
+{
+    over(state, ListOf::new(alloc), reply)
+}
+
+/// The domain as it is.
+pub fn held(domain: &Domain) -> Result<State, NoMemory>
+    ensures { IfOk result (λ next. next ≡ state.Held domain.now) }
+{
+    Ok(State::Held(domain.copy()?))
+}
+
+/// The operation is over with nothing to be told, and the domain stays as it is.
+pub fn nothing_done(alloc: Global, domain: &Domain) -> Result<PhaseStep, NoMemory>
+    ensures { IfOk result (λ step. step ≡ over (state.Held domain.now) [] (reply.Ok value.Nothing)) }
+{
+    Ok(over_quietly(alloc, held(domain)?, Reply::Ok(Value::Nothing)))
 }
 
 /// How a guest goes on that ran, or that did not.
@@ -114,21 +140,20 @@ fn restored_as(call: &Call) -> Transition
     }
 }
 
-/// The domain with this current snapshot.
-pub fn with_current(domain: &Domain, current: Option<Name>) -> Result<Domain, NoMemory>
-    ensures { IfOk result (λ next. next ≡ record domain.now { current = current }) }
+/// The domain with the current snapshot as the call makes it.
+pub fn with_current(domain: &Domain, call: &Call) -> Result<Domain, NoMemory>
+    ensures { IfOk result (λ next. next ≡ record domain.now { current = current_after domain.now call.now }) }
 {
-    let mut next = domain.copy()?;
+    let (mut next, current) = both(domain.copy(), current_after(domain, call))?;
     next.current = current;
     Ok(next)
 }
 
-// The domain with this guest, and the current snapshot as the call makes it.
-fn loaded_domain(domain: &Domain, live: Live, call: &Call) -> Result<State, NoMemory>
-    ensures { IfOk result (λ next. next ≡ state.Held (record domain.now { live = Some live; current = current_after domain.now call.now })) }
+// How a guest goes on that was loaded in a new boot.
+fn new_guest(domain: &Domain, live: &Live, call: &Call, ran: bool) -> Result<State, NoMemory>
+    ensures { IfOk result (λ next. next ≡ state.Held (record domain.now { live = Some (record live.now { run = run_as ran }); current = current_after domain.now call.now })) }
 {
-    let current = current_after(domain, call)?;
-    let mut next = with_current(domain, current)?;
+    let (mut next, live) = both(with_current(domain, call), running_as(live, run_as(ran)))?;
     next.live = Some(live);
     Ok(State::Held(next))
 }
@@ -142,8 +167,8 @@ fn loaded_new(
 ) -> Result<PhaseStep, NoMemory>
     ensures { IfOk result (λ step. step ≡ loaded_new domain.now live.now call.now loaded.now) }
 {
-    let told = led_by(restored_as(call), paused_unless(alloc, loaded.ran)?)?;
-    let next = loaded_domain(domain, running_as(live, run_as(loaded.ran))?, call)?;
+    let told = led_by(restored_as(call), paused_unless(alloc, loaded.ran)?);
+    let (next, told) = both(new_guest(domain, live, call, loaded.ran), told)?;
     Ok(over(next, told, Reply::Ok(Value::Nothing)))
 }
 
@@ -151,12 +176,34 @@ fn loaded_new(
 fn loaded_guest(alloc: Global, live: &Live, loaded: &Loaded) -> Result<Live, NoMemory>
     ensures { IfOk result (λ next. next ≡ record live.now { run = run_as loaded.now.ran; def = loaded.now.definition; slots = slots_at_start loaded.now.definition }) }
 {
+    let (def, slots) = both(
+        loaded.definition.copy(),
+        slots_at_start(alloc, &loaded.definition),
+    )?;
     Ok(Live {
         boot: live.boot,
         run: run_as(loaded.ran),
-        def: loaded.definition.copy()?,
-        slots: slots_at_start(alloc, &loaded.definition)?,
+        def,
+        slots,
     })
+}
+
+// How a guest goes on that was loaded in the boot that it had.
+fn guest_loaded(
+    alloc: Global,
+    domain: &Domain,
+    live: &Live,
+    call: &Call,
+    loaded: &Loaded,
+) -> Result<State, NoMemory>
+    ensures { IfOk result (λ next. next ≡ state.Held (record domain.now { live = Some (record live.now { run = run_as loaded.now.ran; def = loaded.now.definition; slots = slots_at_start loaded.now.definition }); current = current_after domain.now call.now })) }
+{
+    let (mut next, live) = both(
+        with_current(domain, call),
+        loaded_guest(alloc, live, loaded),
+    )?;
+    next.live = Some(live);
+    Ok(State::Held(next))
 }
 
 fn loaded_active(
@@ -169,16 +216,9 @@ fn loaded_active(
     ensures { IfOk result (λ step. step ≡ loaded_active domain.now live.now call.now loaded.now) }
 {
     let started = led_by(STARTED_FROM_SNAPSHOT, paused_unless(alloc, loaded.ran)?)?;
-    let told = led_by(STOPPED_FROM_SNAPSHOT, started)?;
-    let next = loaded_domain(domain, loaded_guest(alloc, live, loaded)?, call)?;
+    let told = led_by(STOPPED_FROM_SNAPSHOT, started);
+    let (next, told) = both(guest_loaded(alloc, domain, live, call, loaded), told)?;
     Ok(over(next, told, Reply::Ok(Value::Nothing)))
-}
-
-/// The operation is over, and the domain stays as it is.
-pub fn over_quietly(alloc: Global, domain: &Domain, reply: Reply) -> Result<PhaseStep, NoMemory>
-    ensures { IfOk result (λ step. step ≡ over (state.Held domain.now) [] reply) }
-{
-    Ok(over(State::Held(domain.copy()?), ListOf::new(alloc), reply))
 }
 
 fn loaded_with(
@@ -192,7 +232,7 @@ fn loaded_with(
     ensures { IfOk result (λ step. step ≡ loaded_with domain.now live.now op.now call.now loaded.now) }
 {
     match loaded {
-        None => over_quietly(alloc, domain, Reply::Ok(Value::Nothing)),
+        None => nothing_done(alloc, domain),
         Some(loaded) => {
             if op.new_boot {
                 loaded_new(alloc, domain, live, call, loaded)
@@ -245,10 +285,11 @@ pub fn still_told(alloc: Global, live: &Live) -> Result<Told, NoMemory>
 fn copy_done(alloc: Global, domain: &Domain, live: &Live, op: &Op) -> Result<PhaseStep, NoMemory>
     ensures { IfOk result (λ step. step ≡ copy_done domain.now live.now op.now) }
 {
-    let still = held_still(domain, live)?;
-    let next = seen_running(op, live)?;
-    let told = still_told(alloc, live)?;
-    goes_on(&still, &next, Phase::Poll, told)
+    let ((still, next), told) = both(
+        both(held_still(domain, live), seen_running(op, live)),
+        still_told(alloc, live),
+    )?;
+    Ok(goes_on(still, next, Phase::Poll, told))
 }
 
 fn cancel_phase(kind: OpKind) -> Phase
@@ -289,9 +330,9 @@ pub fn cancels(
 ) -> Result<PhaseStep, NoMemory>
     ensures { IfOk result (λ step. step ≡ cancels domain.now op.now refusal) }
 {
-    let mut next = op.copy()?;
+    let (domain, mut next) = both(domain.copy(), op.copy())?;
     next.refusal = Some(refusal);
-    goes_on(domain, &next, cancel_phase(op.kind), ListOf::new(alloc))
+    Ok(goes_on(domain, next, cancel_phase(op.kind), ListOf::new(alloc)))
 }
 
 fn left_in(value: &Option<AnswerValue>) -> u64
@@ -324,11 +365,11 @@ fn still_after(op: &Op, before: Option<u64>, left: u64) -> Result<u32, NoMemory>
 fn poll_done(alloc: Global, domain: &Domain, op: &Op, left: u64) -> Result<PhaseStep, NoMemory>
     ensures { IfOk result (λ step. step ≡ poll_done domain.now op.now left) }
 {
-    let mut next = op.copy()?;
-    next.still = still_after(op, op.remaining, left)?;
+    let still = still_after(op, op.remaining, left)?;
+    let (domain, mut next) = both(domain.copy(), op.copy())?;
+    next.still = still;
     next.remaining = Some(left);
-    let phase = after_poll(op, left);
-    goes_on(domain, &next, phase, ListOf::new(alloc))
+    Ok(goes_on(domain, next, after_poll(op, left), ListOf::new(alloc)))
 }
 
 // What the last poll saw left.
@@ -407,9 +448,13 @@ pub fn snapshot_taken(
     ensures { IfOk result (λ next. next ≡ snapshot_taken domain.now info.now ran def.now saved) }
 {
     let new = new_snapshot(alloc, domain, info, ran, def, saved)?;
-    let snaps = with_snapshot(alloc, &domain.snaps, new)?;
-    let mut next = with_current(domain, Some(snapshot_name(alloc, domain, info)?))?;
+    let added = both(
+        with_snapshot(alloc, &domain.snaps, new),
+        snapshot_name(alloc, domain, info),
+    );
+    let (mut next, (snaps, name)) = both(domain.copy(), added)?;
     next.snaps = snaps;
+    next.current = Some(name);
     Ok(next)
 }
 
@@ -418,6 +463,42 @@ pub fn name_told(alloc: Global, domain: &Domain, info: &SnapInfo) -> Result<Repl
     ensures { IfOk result (λ it. it ≡ reply.Ok (value.Name (snapshot_name domain.now info.now))) }
 {
     Ok(Reply::Ok(Value::Name(snapshot_name(alloc, domain, info)?)))
+}
+
+// The domain with a snapshot, as its guest goes on.
+fn running_taken(
+    alloc: Global,
+    domain: &Domain,
+    live: &Live,
+    info: &SnapInfo,
+    ran: Option<RunState>,
+    saved: Bytes,
+) -> Result<State, NoMemory>
+    ensures { IfOk result (λ next. next ≡ state.Held (snapshot_taken (with_run domain.now live.now run.Running) info.now ran live.now.def saved)) }
+{
+    let (running, saved) = both(with_run(domain, live, RunState::Running), Ok(saved))?;
+    let next = snapshot_taken(alloc, &running, info, ran, &live.def, saved)?;
+    Ok(State::Held(next))
+}
+
+// The domain with a snapshot, as its guest goes on where it is to.
+fn resumed_taken(
+    alloc: Global,
+    domain: &Domain,
+    live: &Live,
+    op: &Op,
+    info: &SnapInfo,
+    saved: Bytes,
+) -> Result<State, NoMemory>
+    ensures { IfOk result (λ next. next ≡ state.Held (snapshot_taken (with_guest_resumed domain.now live.now op.now) info.now (Some (run_as op.now.was_running)) live.now.def saved)) }
+{
+    let ran = Some(run_as(op.was_running));
+    if resumes(live, op) {
+        running_taken(alloc, domain, live, info, ran, saved)
+    } else {
+        let next = snapshot_taken(alloc, domain, info, ran, &live.def, saved)?;
+        Ok(State::Held(next))
+    }
 }
 
 fn live_taken(
@@ -431,36 +512,24 @@ fn live_taken(
     ensures { IfOk result (λ step. step ≡ live_taken domain.now live.now op.now info.now value.now) }
 {
     let saved = copied_bytes(alloc, value)?;
-    let next = snapshot_taken(
-        alloc,
-        &with_guest_resumed(domain, live, op)?,
-        info,
-        Some(run_as(op.was_running)),
-        &live.def,
-        saved,
-    )?;
-    Ok(over(
-        State::Held(next),
-        resume_events(alloc, live, op)?,
-        name_told(alloc, domain, info)?,
-    ))
+    let told = both(
+        resume_events(alloc, live, op),
+        name_told(alloc, domain, info),
+    );
+    let taken = resumed_taken(alloc, domain, live, op, info, saved);
+    let (next, (told, reply)) = both(taken, told)?;
+    Ok(over(next, told, reply))
 }
 
 // The guest goes on, where it is to, and the operation is over.
-fn resumed_over(
-    alloc: Global,
-    domain: &Domain,
-    live: &Live,
-    op: &Op,
-    reply: Reply,
-) -> Result<PhaseStep, NoMemory>
-    ensures { IfOk result (λ step. step ≡ over (state.Held (with_guest_resumed domain.now live.now op.now)) (resume_events live.now op.now) reply) }
+fn resumed_over(alloc: Global, domain: &Domain, live: &Live, op: &Op) -> Result<PhaseStep, NoMemory>
+    ensures { IfOk result (λ step. step ≡ over (state.Held (with_guest_resumed domain.now live.now op.now)) (resume_events live.now op.now) (reply.Ok value.Nothing)) }
 {
-    Ok(over(
-        State::Held(with_guest_resumed(domain, live, op)?),
-        resume_events(alloc, live, op)?,
-        reply,
-    ))
+    let (next, told) = both(
+        with_guest_resumed(domain, live, op),
+        resume_events(alloc, live, op),
+    )?;
+    Ok(over(State::Held(next), told, Reply::Ok(Value::Nothing)))
 }
 
 fn take_done(
@@ -474,22 +543,32 @@ fn take_done(
     ensures { IfOk result (λ step. step ≡ take_done domain.now live.now op.now call.now answers.now) }
 {
     match call {
-        Call::Save(_) => goes_on(domain, op, Phase::Quit, ListOf::new(alloc)),
+        Call::Save(_) => goes_on_quietly(alloc, domain, op, Phase::Quit),
         Call::Snapshot(info) => {
             live_taken(alloc, domain, live, op, info, &first_value(answers)?)
         }
-        _ => resumed_over(alloc, domain, live, op, Reply::Ok(Value::Nothing)),
+        _ => resumed_over(alloc, domain, live, op),
     }
 }
 
 fn save_quit(alloc: Global, domain: &Domain, live: &Live) -> Result<PhaseStep, NoMemory>
     ensures { IfOk result (λ step. step ≡ over (ended domain.now live.now reason.Saved) (STOPPED_SAVED ∷ []) (reply.Ok value.Nothing)) }
 {
-    Ok(over(
-        ended(domain, live, EndReason::Saved)?,
-        single(alloc, STOPPED_SAVED)?,
-        Reply::Ok(Value::Nothing),
-    ))
+    let (next, told) = both(
+        ended(domain, live, EndReason::Saved),
+        single(alloc, STOPPED_SAVED),
+    )?;
+    Ok(over(next, told, Reply::Ok(Value::Nothing)))
+}
+
+// The domain without its guest, in whose place it goes back to a snapshot.
+fn reverted_end(domain: &Domain, live: &Live, call: &Call) -> Result<State, NoMemory>
+    ensures { IfOk result (λ next. next ≡ ended (record domain.now { current = current_after domain.now call.now }) live.now reason.FromSnapshot) }
+{
+    let mut next = with_current(domain, call)?;
+    next.live = None;
+    next.last = Some((live.boot, EndReason::FromSnapshot));
+    Ok(unless_gone(next))
 }
 
 fn revert_quit(
@@ -500,12 +579,11 @@ fn revert_quit(
 ) -> Result<PhaseStep, NoMemory>
     ensures { IfOk result (λ step. step ≡ over (ended (record domain.now { current = current_after domain.now call.now }) live.now reason.FromSnapshot) (STOPPED_FROM_SNAPSHOT ∷ []) (reply.Ok value.Nothing)) }
 {
-    let next = with_current(domain, current_after(domain, call)?)?;
-    Ok(over(
-        ended(&next, live, EndReason::FromSnapshot)?,
-        single(alloc, STOPPED_FROM_SNAPSHOT)?,
-        Reply::Ok(Value::Nothing),
-    ))
+    let (next, told) = both(
+        reverted_end(domain, live, call),
+        single(alloc, STOPPED_FROM_SNAPSHOT),
+    )?;
+    Ok(over(next, told, Reply::Ok(Value::Nothing)))
 }
 
 fn quit_done(
@@ -532,22 +610,28 @@ pub fn led_to(alloc: Global, op: &Op) -> Result<Reply, NoMemory>
     }
 }
 
+/// The operation ends with the refusal that led to its cancel, and the domain stays as it is.
+pub fn ended_as_led(alloc: Global, domain: &Domain, op: &Op) -> Result<PhaseStep, NoMemory>
+    ensures { IfOk result (λ step. step ≡ over (state.Held domain.now) [] (led_to op.now)) }
+{
+    let (state, reply) = both(held(domain), led_to(alloc, op))?;
+    Ok(over_quietly(alloc, state, reply))
+}
+
 fn cancel_done(alloc: Global, domain: &Domain, live: &Live, op: &Op) -> Result<PhaseStep, NoMemory>
     ensures { IfOk result (λ step. step ≡ cancel_done domain.now live.now op.now) }
 {
-    resumed_over(alloc, domain, live, op, led_to(alloc, op)?)
+    let told = both(resume_events(alloc, live, op), led_to(alloc, op));
+    let (next, (told, reply)) = both(with_guest_resumed(domain, live, op), told)?;
+    Ok(over(State::Held(next), told, reply))
 }
 
 fn run_done(alloc: Global, domain: &Domain, live: &Live, call: &Call) -> Result<PhaseStep, NoMemory>
     ensures { IfOk result (λ step. step ≡ run_done domain.now live.now call.now) }
 {
-    let next = with_run(domain, live, RunState::Running)?;
-    let value = start_value(domain, call)?;
-    Ok(over(
-        State::Held(next),
-        single(alloc, STARTED_BOOTED)?,
-        Reply::Ok(value),
-    ))
+    let told = both(single(alloc, STARTED_BOOTED), start_value(domain, call));
+    let (next, (told, value)) = both(with_run(domain, live, RunState::Running), told)?;
+    Ok(over(State::Held(next), told, Reply::Ok(value)))
 }
 
 fn after_make(kind: OpKind) -> Phase
@@ -573,8 +657,8 @@ pub fn live_phase_done(
     ensures { IfOk result (λ step. step ≡ live_phase_done domain.now live.now op.now call.now answers.now phase) }
 {
     match phase {
-        Phase::Nothing => over_quietly(alloc, domain, Reply::Ok(Value::Nothing)),
-        Phase::Make => goes_on(domain, op, after_make(op.kind), ListOf::new(alloc)),
+        Phase::Nothing => nothing_done(alloc, domain),
+        Phase::Make => goes_on_quietly(alloc, domain, op, after_make(op.kind)),
         Phase::Run => run_done(alloc, domain, live, call),
         Phase::Load => load_done(alloc, domain, live, op, call),
         Phase::Copy => copy_done(alloc, domain, live, op),

@@ -12,7 +12,7 @@ ghost use Rattle.domain_spec.specs.Types.state;
 use crate::migration::rests;
 use crate::phase_plans::phase_plan;
 use crate::phase_results::{
-    cancels, current_after, led_to, live_phase_done, name_told, over, over_quietly, snapshot_taken,
+    cancels, ended_as_led, held, live_phase_done, name_told, over, over_quietly, snapshot_taken,
     with_current,
 };
 use domain_spec::{OpenOperation, Outcome, PhaseStep};
@@ -24,14 +24,14 @@ use model_domain::refusals::{failure_of, guest_ended, monitor_lost, no_domain};
 use std::alloc::Global;
 use virt_types::{
     Answer, AskList, Bytes, Call, Domain, DomainDef, EndReason, ListOf, Live, NoMemory, Op, Phase,
-    Refusal, Reply, STOPPED_FAILED, SnapInfo, State, TryCopy, Value,
+    Refusal, Reply, STOPPED_FAILED, SnapInfo, State, TryCopy, Value, both,
 };
 
 // The operation is over with this refusal, and the domain stays as it is.
 fn given_up(alloc: Global, domain: &Domain, refusal: Refusal) -> Result<PhaseStep, NoMemory>
     ensures { IfOk result (λ step. step ≡ over (state.Held domain.now) [] (reply.No refusal)) }
 {
-    over_quietly(alloc, domain, Reply::No(refusal))
+    Ok(over_quietly(alloc, held(domain)?, Reply::No(refusal)))
 }
 
 fn taken_of(
@@ -43,12 +43,11 @@ fn taken_of(
     ensures { IfOk result (λ step. step ≡ inactive_taken domain.now info.now (Some def.now)) }
 {
     let nothing = Bytes::copy_of(alloc, [].as_slice())?;
-    let next = snapshot_taken(alloc, domain, info, None, def, nothing)?;
-    Ok(over(
-        State::Held(next),
-        ListOf::new(alloc),
-        name_told(alloc, domain, info)?,
-    ))
+    let (next, reply) = both(
+        snapshot_taken(alloc, domain, info, None, def, nothing),
+        name_told(alloc, domain, info),
+    )?;
+    Ok(over_quietly(alloc, State::Held(next), reply))
 }
 
 fn inactive_taken(alloc: Global, domain: &Domain, info: &SnapInfo) -> Result<PhaseStep, NoMemory>
@@ -72,19 +71,8 @@ fn inactive_take_done(alloc: Global, domain: &Domain, call: &Call) -> Result<Pha
 fn reverted(alloc: Global, domain: &Domain, call: &Call) -> Result<PhaseStep, NoMemory>
     ensures { IfOk result (λ step. step ≡ reverted domain.now call.now) }
 {
-    let next = with_current(domain, current_after(domain, call)?)?;
-    Ok(over(
-        State::Held(next),
-        ListOf::new(alloc),
-        Reply::Ok(Value::Nothing),
-    ))
-}
-
-// The operation ends with the refusal that led to its cancel.
-fn ended_as_led(alloc: Global, domain: &Domain, op: &Op) -> Result<PhaseStep, NoMemory>
-    ensures { IfOk result (λ step. step ≡ over (state.Held domain.now) [] (led_to op.now)) }
-{
-    over_quietly(alloc, domain, led_to(alloc, op)?)
+    let next = State::Held(with_current(domain, call)?);
+    Ok(over_quietly(alloc, next, Reply::Ok(Value::Nothing)))
 }
 
 fn inactive_phase_done(
@@ -111,11 +99,11 @@ fn start_failed(
 ) -> Result<PhaseStep, NoMemory>
     ensures { IfOk result (λ step. step ≡ start_failed domain.now live.now refusal) }
 {
-    Ok(over(
-        ended(domain, live, EndReason::Failed)?,
-        single(alloc, STOPPED_FAILED)?,
-        Reply::No(refusal),
-    ))
+    let (next, told) = both(
+        ended(domain, live, EndReason::Failed),
+        single(alloc, STOPPED_FAILED),
+    )?;
+    Ok(over(next, told, Reply::No(refusal)))
 }
 
 fn load_refused(
@@ -143,7 +131,8 @@ fn rests_refused(
 ) -> Result<PhaseStep, NoMemory>
     ensures { IfOk result (λ step. step ≡ rests domain.now op.now [] (reply.No refusal)) }
 {
-    rests(domain, op, ListOf::new(alloc), Reply::No(refusal))
+    let (domain, op) = both(domain.copy(), op.copy())?;
+    Ok(rests(domain, op, ListOf::new(alloc), Reply::No(refusal)))
 }
 
 fn migration_refused(
@@ -309,7 +298,7 @@ fn vacant_phase(alloc: Global, boots: u64) -> Result<PhaseStep, NoMemory>
     ensures { IfOk result (λ step. step ≡ over (state.Vacant boots) [] (reply.No no_domain)) }
 {
     let reply = Reply::No(no_domain(alloc)?);
-    Ok(over(State::Vacant { boots }, ListOf::new(alloc), reply))
+    Ok(over_quietly(alloc, State::Vacant { boots }, reply))
 }
 
 fn phase_in(
@@ -334,8 +323,8 @@ fn ended_phase(
 ) -> Result<PhaseStep, NoMemory>
     ensures { IfOk result (λ step. step ≡ over state.now [] (ended_reply operation.now operation.now.boot answers.now)) }
 {
-    let reply = ended_reply(alloc, operation, answers)?;
-    Ok(over(state.copy()?, ListOf::new(alloc), reply))
+    let (state, reply) = both(state.copy(), ended_reply(alloc, operation, answers))?;
+    Ok(over_quietly(alloc, state, reply))
 }
 
 /// What the due phase of this operation leaves, where these answers came.
