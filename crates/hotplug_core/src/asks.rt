@@ -1,11 +1,11 @@
 // What attaching and detaching a device asks, one ask at a time.
-ghost use Rattle.std.specs.Prelude.{◌≡◌, IfOk, Some, length, slice_get};
+ghost use Rattle.std.specs.Prelude.{◌≡◌, IfOk, OnErr, Some, is_some, length, slice_get, true};
 ghost use Rattle.core_rules.specs.Next.{at_most, next_of};
 ghost use Rattle.core_rules.specs.Place.{planned_at, undo_step};
 ghost use Rattle.domain_spec.specs.Asks.{asks_left};
 ghost use Rattle.domain_spec.specs.Call.{attach_plan, detach_plan, device_lease};
 ghost use Rattle.domain_spec.specs.Devices.{device_like};
-ghost use Rattle.hotplug_core.specs.Asks.{adding, removing};
+ghost use Rattle.hotplug_core.specs.Asks.{adding, is_ask, removing};
 
 use crate::keys::{device_like, slot_like};
 use core_rules::{Next, Place, has_lease, lease_of, place_after};
@@ -33,7 +33,8 @@ fn device_lease(alloc: Global, device: &DeviceDef) -> Result<Option<Ask>, NoMemo
 
 // The asks for the two sides of a device, without the one for its address.
 fn adding(device: &DeviceDef, slot: u32, place: usize) -> Result<Option<Ask>, NoMemory>
-    ensures { IfOk result (λ ask. ask ≡ slice_get (adding device.now slot) place) }
+    ensures ask { IfOk result (λ ask. ask ≡ slice_get (adding device.now slot) place) }
+    ensures memory { OnErr result (is_some (slice_get (adding device.now slot) place) ≡ true) }
 {
     match place {
         0 => Ok(Some(Ask::Command(Command::AddBackend {
@@ -54,7 +55,8 @@ fn attach_ask(
     slot: u32,
     place: usize,
 ) -> Result<Option<Ask>, NoMemory>
-    ensures { IfOk result (λ ask. ask ≡ planned_at (attach_plan device.now (Some slot)) place) }
+    ensures ask { IfOk result (λ ask. ask ≡ planned_at (attach_plan device.now (Some slot)) place) }
+    ensures memory { OnErr result (is_some (planned_at (attach_plan device.now (Some slot)) place) ≡ true) }
 {
     let leases = leases(device);
     if place < leases {
@@ -82,7 +84,8 @@ pub fn next_to_attach(
     slot: u32,
     answers: &[Answer],
 ) -> Result<Next, NoMemory>
-    ensures { IfOk result (λ next. next ≡ next_of (asks_left (attach_plan device.now (Some slot)) answers.now)) }
+    ensures next { IfOk result (λ next. next ≡ next_of (asks_left (attach_plan device.now (Some slot)) answers.now)) }
+    ensures memory { OnErr result (is_ask (next_of (asks_left (attach_plan device.now (Some slot)) answers.now)) ≡ true) }
 {
     match place_after(answers) {
         Place::Plan(place) => Ok(Next::of(attach_ask(alloc, device, slot, place)?)),
@@ -118,7 +121,8 @@ fn detach_undo(
     of: usize,
     step: usize,
 ) -> Result<Option<Ask>, NoMemory>
-    ensures { IfOk result (λ ask. ask ≡ undo_step (detach_plan (device_like live.now wanted.now)) of step) }
+    ensures ask { IfOk result (λ ask. ask ≡ undo_step (detach_plan (device_like live.now wanted.now)) of step) }
+    ensures memory { OnErr result (is_some (undo_step (detach_plan (device_like live.now wanted.now)) of step) ≡ true) }
 {
     if of != 1 || step != 0 {
         return Ok(None);
@@ -131,7 +135,8 @@ fn detach_undo(
 
 /// What is next after these answers where the guest's device with the key of this one is detached.
 pub fn next_to_detach(live: &Live, wanted: &DeviceDef, answers: &[Answer]) -> Result<Next, NoMemory>
-    ensures { IfOk result (λ next. next ≡ next_of (asks_left (detach_plan (device_like live.now wanted.now)) answers.now)) }
+    ensures next { IfOk result (λ next. next ≡ next_of (asks_left (detach_plan (device_like live.now wanted.now)) answers.now)) }
+    ensures memory { OnErr result (is_ask (next_of (asks_left (detach_plan (device_like live.now wanted.now)) answers.now)) ≡ true) }
 {
     match place_after(answers) {
         Place::Plan(place) => Ok(Next::of(detach_ask(live, wanted, place))),

@@ -1,11 +1,12 @@
 // Attaching a device: what is next, and what is left at the end.
-ghost use Rattle.std.specs.Prelude.{◌≡◌, IfOk};
+ghost use Rattle.std.specs.Prelude.{◌≡◌, IfOk, OnErr, true};
 ghost use Rattle.core_rules.specs.Next.{next_of};
 ghost use Rattle.domain_spec.specs.Asks.{asks_left};
 ghost use Rattle.domain_spec.specs.Call.{guest_plan};
 ghost use Rattle.domain_spec.specs.Reading.{live_of};
 ghost use Rattle.domain_spec.specs.Sequential.{seq, still_asked};
 ghost use Rattle.domain_spec.specs.Types.call;
+ghost use Rattle.hotplug_core.specs.Asks.{is_ask};
 ghost use Rattle.hotplug_core.specs.Fitting.{HasRoomIn};
 ghost use Rattle.hotplug_core.specs.Left.{Leaves, attached_in};
 
@@ -24,7 +25,8 @@ fn attach_asks(
     device: &DeviceDef,
     answers: &[Answer],
 ) -> Result<Next, NoMemory>
-    ensures { IfOk result (λ next. next ≡ next_of (asks_left (guest_plan live.now (call.Attach device.now)) answers.now)) }
+    ensures next { IfOk result (λ next. next ≡ next_of (asks_left (guest_plan live.now (call.Attach device.now)) answers.now)) }
+    ensures memory { OnErr result (is_ask (next_of (asks_left (guest_plan live.now (call.Attach device.now)) answers.now)) ≡ true) }
 {
     match live {
         None => Ok(Next::Finish),
@@ -43,7 +45,8 @@ pub fn attach_next(
     boot: Option<u64>,
     answers: &[Answer],
 ) -> Result<Next, NoMemory>
-    ensures { IfOk result (λ next. next ≡ next_of (still_asked state.now (call.Attach device.now) boot answers.now)) }
+    ensures next { IfOk result (λ next. next ≡ next_of (still_asked state.now (call.Attach device.now) boot answers.now)) }
+    ensures memory { OnErr result (is_ask (next_of (still_asked state.now (call.Attach device.now) boot answers.now)) ≡ true) }
 {
     match attach_fault(state, device, boot) {
         Some(_) => Ok(Next::Finish),

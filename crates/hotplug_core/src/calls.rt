@@ -1,9 +1,10 @@
 // Attaching and detaching a device, as each part of the driver has its calls.
-ghost use Rattle.std.specs.Prelude.{◌≡◌, ◌++◌, IfOk};
+ghost use Rattle.std.specs.Prelude.{◌≡◌, ◌++◌, IfOk, OnErr, true};
 ghost use Rattle.core_rules.specs.Cores.{core_of_call};
 ghost use Rattle.core_rules.specs.Next.{next_of};
 ghost use Rattle.core_rules.specs.declared.cores.Core.TheVariants as core;
 ghost use Rattle.domain_spec.specs.Sequential.{seq, still_asked};
+ghost use Rattle.hotplug_core.specs.Asks.{is_ask};
 ghost use Rattle.hotplug_core.specs.Fitting.{Fits};
 ghost use Rattle.hotplug_core.specs.Left.{Leaves};
 
@@ -23,7 +24,8 @@ pub fn next(
     answers: &[Answer],
 ) -> Result<Next, NoMemory>
     requires { core_of_call call.now ≡ core.Hotplug }
-    ensures { IfOk result (λ next. next ≡ next_of (still_asked state.now call.now boot answers.now)) }
+    ensures next { IfOk result (λ next. next ≡ next_of (still_asked state.now call.now boot answers.now)) }
+    ensures memory { OnErr result (is_ask (next_of (still_asked state.now call.now boot answers.now)) ≡ true) }
 {
     match call {
         Call::Attach(device) => attach_next(alloc, state, device, boot, answers),

@@ -1,5 +1,5 @@
 // Detaching a device: what is next, and what is left at the end.
-ghost use Rattle.std.specs.Prelude.{◌≡◌, IfOk};
+ghost use Rattle.std.specs.Prelude.{◌≡◌, IfOk, OnErr, true};
 ghost use Rattle.core_rules.specs.Led.{Says};
 ghost use Rattle.core_rules.specs.Next.{next_of};
 ghost use Rattle.domain_spec.specs.Asks.{asks_left};
@@ -9,6 +9,7 @@ ghost use Rattle.domain_spec.specs.Sequential.{seq, still_asked};
 ghost use Rattle.domain_spec.specs.Types.call;
 ghost use Rattle.domain_spec.specs.Types.reply;
 ghost use Rattle.hotplug_core.specs.Faults.{fault_refusal};
+ghost use Rattle.hotplug_core.specs.Asks.{is_ask};
 ghost use Rattle.hotplug_core.specs.Fitting.{mac_of};
 ghost use Rattle.hotplug_core.specs.Left.{Leaves, detached_in};
 
@@ -23,7 +24,8 @@ fn detach_asks(
     device: &DeviceDef,
     answers: &[Answer],
 ) -> Result<Next, NoMemory>
-    ensures { IfOk result (λ next. next ≡ next_of (asks_left (guest_plan live.now (call.Detach device.now)) answers.now)) }
+    ensures next { IfOk result (λ next. next ≡ next_of (asks_left (guest_plan live.now (call.Detach device.now)) answers.now)) }
+    ensures memory { OnErr result (is_ask (next_of (asks_left (guest_plan live.now (call.Detach device.now)) answers.now)) ≡ true) }
 {
     match live {
         None => Ok(Next::Finish),
@@ -38,7 +40,8 @@ pub fn detach_next(
     boot: Option<u64>,
     answers: &[Answer],
 ) -> Result<Next, NoMemory>
-    ensures { IfOk result (λ next. next ≡ next_of (still_asked state.now (call.Detach device.now) boot answers.now)) }
+    ensures next { IfOk result (λ next. next ≡ next_of (still_asked state.now (call.Detach device.now) boot answers.now)) }
+    ensures memory { OnErr result (is_ask (next_of (still_asked state.now (call.Detach device.now) boot answers.now)) ≡ true) }
 {
     match detach_fault(state, device, boot) {
         Some(_) => Ok(Next::Finish),

@@ -1,5 +1,5 @@
 // Which device of a guest has the key of another: a disk's target, an interface's MAC.
-ghost use Rattle.std.specs.Prelude.{◌≡◌, IfOk, bytes_eq, option_map, position, slice_get};
+ghost use Rattle.std.specs.Prelude.{◌≡◌, IfOk, OnErr, bytes_eq, option_map, position, slice_get, is_some, true};
 ghost use Rattle.domain_spec.specs.Devices.{both, device_like, devices_of, has_same_key, is_same_mac};
 
 use virt_types::{DeviceDef, Disk, DomainDef, Interface, Live, Mac, NoMemory, TryCopy};
@@ -46,7 +46,8 @@ pub fn place_like(def: &DomainDef, wanted: &DeviceDef) -> Option<usize>
 
 // A copy of the device at a place among the disks, or behind them among the interfaces.
 fn device_at(def: &DomainDef, place: usize) -> Result<Option<DeviceDef>, NoMemory>
-    ensures { IfOk result (λ device. device ≡ slice_get (devices_of def.now) place) }
+    ensures device { IfOk result (λ device. device ≡ slice_get (devices_of def.now) place) }
+    ensures memory { OnErr result (is_some (slice_get (devices_of def.now) place) ≡ true) }
 {
     let disks = def.disks.as_slice();
     if place < disks.len() {
@@ -60,7 +61,8 @@ fn device_at(def: &DomainDef, place: usize) -> Result<Option<DeviceDef>, NoMemor
 
 // The slot and a copy of the device at a place, where both are there.
 fn placed(live: &Live, place: usize) -> Result<Option<(u32, DeviceDef)>, NoMemory>
-    ensures { IfOk result (λ found. found ≡ both (slice_get live.now.slots place) (slice_get (devices_of live.now.def) place)) }
+    ensures found { IfOk result (λ found. found ≡ both (slice_get live.now.slots place) (slice_get (devices_of live.now.def) place)) }
+    ensures memory { OnErr result (is_some (both (slice_get live.now.slots place) (slice_get (devices_of live.now.def) place)) ≡ true) }
 {
     match live.slots.as_slice().get(place) {
         None => Ok(None),
@@ -73,7 +75,8 @@ fn placed(live: &Live, place: usize) -> Result<Option<(u32, DeviceDef)>, NoMemor
 
 /// A copy of the guest's device that has the key of this one, and its slot.
 pub fn device_like(live: &Live, wanted: &DeviceDef) -> Result<Option<(u32, DeviceDef)>, NoMemory>
-    ensures { IfOk result (λ found. found ≡ device_like live.now wanted.now) }
+    ensures found { IfOk result (λ found. found ≡ device_like live.now wanted.now) }
+    ensures memory { OnErr result (is_some (device_like live.now wanted.now) ≡ true) }
 {
     match place_like(&live.def, wanted) {
         None => Ok(None),
