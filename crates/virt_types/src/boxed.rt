@@ -13,12 +13,18 @@ pub struct Boxed<T> {
 }
 
 impl<T> Model for Boxed<T> {
+    ghost use Rattle.std.specs.Prelude.{◌≡◌};
+
     ghost Value = { T };
 
     ghost view = { λ b. b.value.value };
 }
 
 impl<T> Boxed<T> {
+    ghost use Rattle.std.specs.Prelude.{◌≡◌, IfOk};
+    ghost use Rattle.std.specs.Borrow.{Lends, sem};
+    ghost use Rattle.virt_types.specs.contracts.boxed.Boxed.{the_row};
+
     /// The value, in a box.
     pub fn new(alloc: Global, value: T) -> Result<Boxed<T>, NoMemory>
     where
@@ -42,6 +48,14 @@ impl<T> Boxed<T> {
         ensures { result.now ≡ self.now }
     {
         &self.value
+    }
+
+    /// The value, to be changed in its box.
+    pub fn as_mut(&mut self) -> &mut T
+        ensures* writes_back { sem 𝓛 (Lends (the_row T.row) T.row self.entry result (λ value. value)) }
+        ensures value { result.now ≡ self.old }
+    {
+        &mut self.value
     }
 }
 
