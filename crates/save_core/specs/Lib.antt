@@ -1,0 +1,4 @@
+pub mod Leaving
+pub mod Parts
+pub mod Steps
+pub mod PhaseFits
