@@ -1,6 +1,6 @@
 // The calls on snapshots. None asks anything as a call; a Snapshot and a Revert that pass their tests
 // go on as operations.
-ghost use Rattle.std.specs.Prelude.{◌≡◌, ◌++◌, [], IfOk, None, false};
+ghost use Rattle.std.specs.Prelude.{◌≡◌, ◌++◌, [], IfOk, IsOk, None, false};
 ghost use Rattle.core_rules.specs.Cores.{core_of_call};
 ghost use Rattle.core_rules.specs.Led.{Says};
 ghost use Rattle.core_rules.specs.Next.{next_of};
@@ -29,7 +29,8 @@ pub fn next(
     _answers: &[Answer],
 ) -> Result<Next, NoMemory>
     requires core { core_of_call _call.now ≡ core.Snapshot }
-    ensures { IfOk result (λ next. next ≡ next_of (still_asked _state.now _call.now _boot _answers.now)) }
+    ensures asked { IfOk result (λ next. next ≡ next_of (still_asked _state.now _call.now _boot _answers.now)) }
+    ensures succeeds { IsOk result }
 {
     Ok(Next::Finish)
 }

@@ -1,5 +1,5 @@
 // The phases that take a snapshot, or make one the current one; and where no phase is due.
-ghost use Rattle.std.specs.Prelude.{◌≡◌, ◌++◌, ◌≤◌, [], IfOk, IfSome, IsSome, false, true};
+ghost use Rattle.std.specs.Prelude.{◌≡◌, ◌++◌, ◌≤◌, [], IfOk, IfSome, IsOk, IsSome, false, true};
 ghost use Rattle.core_rules.specs.Cores.{Serves, core_due, core_on};
 ghost use Rattle.core_rules.specs.Ends.{done_in, done_on, has_operation};
 ghost use Rattle.core_rules.specs.Next.{next_if, next_of};
@@ -66,7 +66,8 @@ pub fn next_phase(
     answers: &[Answer],
 ) -> Result<Next, NoMemory>
     requires core { Serves core.Snapshot state.now operation.now }
-    ensures { IfOk result (λ next. next ≡ next_of (phase_still_asked state.now operation.now answers.now)) }
+    ensures asked { IfOk result (λ next. next ≡ next_of (phase_still_asked state.now operation.now answers.now)) }
+    ensures succeeds { IsOk result }
 {
     if carries_ended(state, operation.boot) {
         return Ok(Next::Finish);

@@ -5,8 +5,8 @@ use Rattle.snapshot_core.specs.Plan.{due_plan}
 use Rattle.snapshot_core.proofs.PhaseProofs.{next_due}
 use Rattle.snapshot_core.proofs.phases.next_phase.Goals as goal
 
-pub returns-in-Held : goal.returns-in-Held
-returns-in-Held c =
+pub returns-in-Held-clause-asked : goal.returns-in-Held-clause-asked
+returns-in-Held-clause-asked c =
     let live : carries_ended c.args.state.now c.args.operation.now.boot ≡ false = cc (c.carries_ended.ensures, c.if-carries_ended.false) in
     rw (c.in-Held.is)
     (c.of.ensures ∙ c.due_ask.ensures ∙ ap (next_at (due_plan c.in-Held.domain)) c.place_after.ensures
