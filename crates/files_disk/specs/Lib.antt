@@ -1,0 +1,5 @@
+pub mod Telling
+pub mod Seeing
+pub mod Listing
+pub mod Images
+pub mod Memory

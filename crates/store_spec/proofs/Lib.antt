@@ -1,0 +1,11 @@
+pub mod Names
+pub mod Operating
+pub mod Crashes
+pub mod Moments
+pub mod Spelling
+pub mod Stands
+pub mod Settling
+pub mod Whole
+pub mod Runs
+pub mod Empty
+pub mod StatusSpelling

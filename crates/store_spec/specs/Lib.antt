@@ -1,0 +1,12 @@
+pub mod Directory
+pub mod Disk
+pub mod FileNames
+pub mod DefinitionFile
+pub mod StatusFile
+pub mod Changes
+pub mod StandsFor
+pub mod Steps
+pub mod Prefix
+pub mod Settled
+pub mod Laws
+pub mod FileLaws
