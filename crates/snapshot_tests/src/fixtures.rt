@@ -2,9 +2,9 @@
 use domain_spec::{OpenOperation, Outcome};
 use std::alloc::Global;
 use virt_types::{
-    AnswerValue, Answer, AnswerList, Bytes, Call, Cause, CrashAction, Domain, DomainDef, DomainType,
-    LifecycleAction, ListOf, Live, Name, NoMemory, Op, OpKind, Os, Phase, RunState, Script, SnapInfo,
-    SnapList, State, Text, Uuid, Who,
+    Answer, AnswerList, AnswerValue, Bytes, Call, Cause, CrashAction, Domain, DomainDef,
+    DomainType, LifecycleAction, ListOf, Live, Name, NoMemory, Op, OpKind, Os, Phase, RunState,
+    Script, SnapInfo, SnapList, State, Text, Uuid, Who,
 };
 
 fn text(alloc: Global, text: &str) -> Result<Text, NoMemory> {

@@ -12,8 +12,8 @@ use std::alloc::Global;
 use std::process::Abort;
 use std::test::Fail;
 use virt_types::{
-    Answer, Ask, Call, Command, Name, NoMemory, Phase, RESUMED_UNPAUSED, RefusalCode, Reply, RunState,
-    State, TransitionList, Value,
+    Answer, Ask, Call, Command, Name, NoMemory, Phase, RESUMED_UNPAUSED, RefusalCode, Reply,
+    RunState, State, TransitionList, Value,
 };
 
 // Takes a snapshot of a domain without a guest, and answers its name.

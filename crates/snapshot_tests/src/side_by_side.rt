@@ -10,7 +10,9 @@ use model_phases::{phase_of, phase_still_asked};
 use same::Same;
 use snapshot_core::{finish, finish_phase, next_phase, parts, phase_parts};
 use std::alloc::Global;
-use virt_types::{Answer, AskList, Call, NoMemory, Reply, SnapList, State, Transition, TransitionList};
+use virt_types::{
+    Answer, AskList, Call, NoMemory, Reply, SnapList, State, Transition, TransitionList,
+};
 
 fn is_same_list(one: &SnapList, other: &SnapList) -> bool {
     if one.len() != other.len() {
