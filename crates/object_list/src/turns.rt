@@ -6,14 +6,16 @@ ghost use Rattle.book_spec.specs.declared.list.ListCall.TheVariants as call;
 ghost use Rattle.book_spec.specs.Slots.{all_holders};
 ghost use Rattle.book_spec.specs.ListCalls.{answer};
 ghost use Rattle.book_spec.specs.ListHistory.{LeavesMark, slots_of, with_call};
+ghost use Rattle.object_list.specs.Names.{AreNames};
 ghost use Rattle.object_list.specs.Table.{Holds};
 ghost use Rattle.object_list.specs.Turns.{HasAsked, HasReleased};
 
 use crate::list::ObjectList;
+use crate::slot_name::SlotNameList;
 use book_spec::ListFault;
 use std::sync::Wait;
 use turn_cell::{Pass, Turn, TurnCell};
-use virt_types::{Front, Name, OrNoMemory, Uuid};
+use virt_types::{Front, Name, NoMemory, OrNoMemory, Uuid};
 
 /// The right to take turns at the list.
 pub type ListPass = Pass<ObjectList>;
@@ -188,4 +190,12 @@ pub fn release<R: Wait>(
     };
     release_in(&mut turn, slot, front, occupied);
     Ok(cell.leave(turn))
+}
+
+/// The domains with their slots, by rising name, as they are in this turn. It leaves no mark.
+pub fn names_in(turn: &mut ListTurn) -> Result<SlotNameList, NoMemory>
+    ensures names { IfOk result (AreNames (slots_of turn.old.value)) }
+    ensures same { turn.new ≡ turn.old }
+{
+    turn.value().names()
 }
