@@ -7,7 +7,7 @@ use domain_spec::{Base, Client, OpenOperation, Registration, Standing};
 use model_calls::new_domain;
 use model_phases::copy_of_operation;
 use std::alloc::Global;
-use virt_types::{DomainDef, ListOf, NoMemory, State, TryCopy, both};
+use virt_types::{DomainDef, ListOf, NoMemory, State, TryCopy};
 
 // How many transitions a registration was given, as far as they can be counted.
 fn given(registration: &Registration) -> Result<u64, NoMemory>
@@ -58,8 +58,7 @@ fn with_registered(
 pub fn at_base(alloc: Global, base: Base) -> Result<Standing, NoMemory>
     ensures { IfOk result (λ standing. standing ≡ fold.at_base base) }
 {
-    let clients = with_registered(ListOf::new(alloc), base.registrations.as_slice());
-    let (base, clients) = both(Ok(base), clients)?;
+    let clients = with_registered(ListOf::new(alloc), base.registrations.as_slice())?;
     Ok(Standing {
         state: base.state,
         job: None,
@@ -120,11 +119,9 @@ fn copied_operation(operation: &Option<OpenOperation>) -> Result<Option<OpenOper
 pub fn next_base(s: &Standing, registrations: ListOf<Registration>) -> Result<Base, NoMemory>
     ensures { IfOk result (λ base. base ≡ chapter.next_base s.now registrations) }
 {
-    let open = both(s.state.copy(), copied_operation(&s.operation));
-    let ((state, operation), registrations) = both(open, Ok(registrations))?;
     Ok(Base {
-        state,
-        operation,
+        state: s.state.copy()?,
+        operation: copied_operation(&s.operation)?,
         registrations,
     })
 }

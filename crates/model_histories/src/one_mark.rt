@@ -16,7 +16,7 @@ use model_domain::jobs::phase_taken_up;
 use model_domain::reading::live_boot;
 use model_phases::{lost_boot, phase_of, without_operation};
 use std::alloc::Global;
-use virt_types::{Answer, Call, EndReason, GuestEvent, Job, NoMemory, State, TryCopy, Who, both};
+use virt_types::{Answer, Call, EndReason, GuestEvent, Job, NoMemory, State, TryCopy, Who};
 
 fn carries(carried: Option<u64>, boot: u64) -> bool
     ensures { result ≡ fold.carries carried boot }
@@ -151,10 +151,8 @@ fn start(
 ) -> Result<(), NoMemory>
     ensures { OnOk result (s.new ≡ fold.after_start s.old number who call.now) }
 {
-    let (state, call) = both(
-        begin_state(alloc, &s.state, who, call),
-        named_call(alloc, &s.state, call),
-    )?;
+    let state = begin_state(alloc, &s.state, who, call)?;
+    let call = named_call(alloc, &s.state, call)?;
     let operation = new_operation(number, who, call, &state);
     open_operation(s, operation);
     set_state(s, state);
@@ -178,8 +176,8 @@ fn take_up(s: &mut Standing, number: u64, who: Who, call: &Call) -> Result<(), N
     match &mut s.operation {
         None => Ok(()),
         Some(operation) => {
-            let (state, call) = both(taken_up_state(&s.state, who, call), call.copy())?;
-            taken_up(operation, number, who, call);
+            let state = taken_up_state(&s.state, who, call)?;
+            taken_up(operation, number, who, call.copy()?);
             set_state(s, state);
             close_job(s);
             Ok(())
@@ -211,11 +209,8 @@ fn finish_phase(
     match &mut s.operation {
         None => Ok(()),
         Some(operation) => {
-            let (state, next) = both(
-                state_of_phase(alloc, &s.state, operation, answers),
-                next.copy(),
-            )?;
-            set_outcome(operation, next);
+            let state = state_of_phase(alloc, &s.state, operation, answers)?;
+            set_outcome(operation, next.copy()?);
             s.lost = lost_boot(&state, operation.boot, answers);
             set_state(s, state);
             close_job(s);
@@ -253,8 +248,8 @@ fn note_end(state: &State, boot: u64, job: &mut Option<OpenJob>) -> Result<(), N
 fn end_boot(s: &mut Standing, boot: u64, why: EndReason) -> Result<(), NoMemory>
     ensures { OnOk result (s.new ≡ record s.old { state = exits.exit_state s.old.state why; job = fold.job_at_exit s.old.state boot s.old.job; just_admitted = false; lost = None }) }
 {
-    note_end(&s.state, boot, &mut s.job)?;
     let state = exit_state(&s.state, why)?;
+    note_end(&s.state, boot, &mut s.job)?;
     set_state(s, state);
     s.lost = None;
     Ok(())
