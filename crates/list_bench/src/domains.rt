@@ -8,7 +8,10 @@ pub struct Listed {
     pub uuid: Uuid,
 }
 
-/// So many domains, `domain-0` and so on.
+/// A number with which another becomes an identifier: they differ early, as those of a system do.
+const SPREAD: u128 = 0x9e37_79b9_7f4a_7c15_f39c_c060_5ced_c835;
+
+/// So many domains, `vm-0` and so on.
 pub fn domains(alloc: Global, entries: u32) -> Option<Vec<Listed>> {
     let mut all = Vec::new(alloc);
     for number in 0..entries {
@@ -18,10 +21,10 @@ pub fn domains(alloc: Global, entries: u32) -> Option<Vec<Listed>> {
 }
 
 fn domain(alloc: Global, number: u32) -> Option<Listed> {
-    let text = format!(in alloc; "domain-{number}").ok()?;
+    let text = format!(in alloc; "vm-{number}").ok()?;
     let name = Name::read(alloc, text.as_bytes()).ok()?;
     Some(Listed {
         name,
-        uuid: Uuid::from_u128(number as u128),
+        uuid: Uuid::from_u128(SPREAD.wrapping_mul(number as u128 + 1)),
     })
 }

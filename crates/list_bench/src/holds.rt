@@ -7,20 +7,20 @@ use std::sync::Wait;
 use turn_cell::TurnCell;
 use virt_types::{Front, ListOf};
 
-/// Holds a domain by its name and releases it so often, one after the other of so many domains.
-pub fn by_name<R: Wait>(rt: &R, alloc: Global, times: u64, entries: u32) -> Option<()> {
+/// Holds a domain by its name and releases it so often, of so many domains: each so often in a row.
+pub fn by_name<R: Wait>(rt: &R, alloc: Global, times: u64, entries: u32, row: u64) -> Option<()> {
     let all = domains(alloc, entries)?;
     let (cell, pass) = open(alloc, &ListOf::new(alloc)).ok()?;
     let pass = claim_all(rt, &cell, pass, all.as_slice())?;
-    hold_names(rt, &cell, pass, all.as_slice(), times)
+    hold_names(rt, &cell, pass, all.as_slice(), times, row)
 }
 
-/// Holds a domain by its identifier and releases it so often, one after the other of so many domains.
-pub fn by_uuid<R: Wait>(rt: &R, alloc: Global, times: u64, entries: u32) -> Option<()> {
+/// The same by its identifier.
+pub fn by_uuid<R: Wait>(rt: &R, alloc: Global, times: u64, entries: u32, row: u64) -> Option<()> {
     let all = domains(alloc, entries)?;
     let (cell, pass) = open(alloc, &ListOf::new(alloc)).ok()?;
     let pass = claim_all(rt, &cell, pass, all.as_slice())?;
-    hold_uuids(rt, &cell, pass, all.as_slice(), times)
+    hold_uuids(rt, &cell, pass, all.as_slice(), times, row)
 }
 
 // Claims each, and keeps it.
@@ -50,14 +50,16 @@ fn hold_names<R: Wait>(
     pass: ListPass,
     all: &[Listed],
     times: u64,
+    row: u64,
 ) -> Option<()>
     requires { pass.cell ≡ cell.now }
 {
     let mut pass = pass;
     let mut place = 0;
+    let mut left = row;
     for _ in 0..times {
         let one = all.get(place)?;
-        place = after(place, all.len());
+        (place, left) = after(place, left, all.len(), row);
         let (held_by, held) = hold_name(rt, cell, pass, one.name.as_bytes()).ok()?;
         let Ok(slot) = held else {
             return None;
@@ -73,14 +75,16 @@ fn hold_uuids<R: Wait>(
     pass: ListPass,
     all: &[Listed],
     times: u64,
+    row: u64,
 ) -> Option<()>
     requires { pass.cell ≡ cell.now }
 {
     let mut pass = pass;
     let mut place = 0;
+    let mut left = row;
     for _ in 0..times {
         let one = all.get(place)?;
-        place = after(place, all.len());
+        (place, left) = after(place, left, all.len(), row);
         let (held_by, held) = hold_uuid(rt, cell, pass, one.uuid).ok()?;
         let Ok(slot) = held else {
             return None;
@@ -90,10 +94,13 @@ fn hold_uuids<R: Wait>(
     Some(())
 }
 
-// The place after this one, round and round.
-fn after(place: usize, count: usize) -> usize {
+// The place of the next hold, and how many more there are of it: round and round.
+fn after(place: usize, left: u64, count: usize, row: u64) -> (usize, u64) {
+    if left > 1 {
+        return (place, left - 1);
+    }
     let next = place.saturating_add(1);
-    if next < count { next } else { 0 }
+    (if next < count { next } else { 0 }, row)
 }
 
 fn give_back<R: Wait>(
