@@ -1,6 +1,5 @@
 // Room for the text that a refusal keeps, and the refusals that are written into it.
-ghost use Rattle.std.specs.Prelude.{◌≡◌, ◌+◌, ◌++◌, ◌≤◌, IsCharBoundary, decimal, length, take};
-ghost use Rattle.std.specs.Str.Lossy.{utf8_valid_len};
+ghost use Rattle.std.specs.Prelude.{◌≡◌, ◌+◌, ◌++◌, ◌≤◌, decimal, length};
 ghost use Rattle.std.specs.String.{string_bytes, string_capacity, string_len};
 ghost use Rattle.domain_spec.specs.Refusals.{bad_kick, bare, boots_spent, failed, guest_ended, invalid, list_full, out_of_range, refusal, stalled};
 ghost use Rattle.domain_spec.specs.Types.code;
@@ -13,7 +12,9 @@ use crate::reason::Reason;
 use itoa::Buffer;
 use std::alloc::Global;
 use std::marker::Model;
-use virt_types::{DomainState, Live, MOST_KEPT_BYTES, Name, NoMemory, Refusal, RefusalCode, Text};
+use virt_types::{
+    DomainState, Live, MOST_KEPT_BYTES, Name, NoMemory, Refusal, RefusalCode, Text, kept_length,
+};
 
 /// Room for the longest text that a refusal keeps. A refusal that is written into it takes no memory.
 /// Contracts see nothing of it: one is as good as another.
@@ -55,20 +56,6 @@ fn put_number(text: &mut String, n: u64)
 {
     let mut buffer = Buffer::new();
     put(text, buffer.format(n));
-}
-
-// How much of a text a refusal keeps.
-fn cut_place(text: &str) -> usize
-    ensures place { result ≡ utf8_valid_len (take 1024 text.now) }
-    ensures boundary { IsCharBoundary text.now result }
-    ensures short { result ≤ 1024 }
-{
-    let bytes = text.as_bytes();
-    let front = &bytes[..MOST_KEPT_BYTES.min(bytes.len())];
-    match str::from_utf8(front) {
-        Ok(_) => front.len(),
-        Err(fault) => fault.valid_up_to(),
-    }
 }
 
 impl KeptText {
@@ -131,7 +118,7 @@ impl KeptText {
     pub fn cut(self, code: RefusalCode, text: &str) -> Refusal
         ensures { result ≡ refusal code (kept_cut text.now) }
     {
-        self.whole(code, &text[..cut_place(text)])
+        self.whole(code, &text[..kept_length(text)])
     }
 
     fn in_state(self, state: DomainState) -> Refusal

@@ -32,7 +32,10 @@ pub struct PhaseMark<'a> {
 fn is_starved(asks: &AskList, answers: &AnswerList) -> bool
     ensures { IsTrue result ↔ IsStarved asks.now answers.now }
 {
-    asks.is_empty() && matches!(answers.as_slice(), [Answer::NoMemory])
+    match answers.as_slice() {
+        [answer] => asks.is_empty() && matches!(answer, Answer::NoMemory),
+        _ => false,
+    }
 }
 
 // Whether the asks are those of the phase where it is planned in this state.

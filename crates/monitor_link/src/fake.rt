@@ -117,7 +117,7 @@ fn sent(
     ensures err { OnErr result (exchanges.new ≡ exchanges.old) }
 {
     let answer = next_answer(answers)?;
-    if let Answer::NoMemory = answer {
+    if matches!(&answer, Answer::NoMemory) {
         return Ok(answer);
     }
     let (command, kept) = both(command.copy(), answer.copy())?;
@@ -133,7 +133,10 @@ fn next_answer(answers: &[Answer]) -> Result<Answer, NoMemory>
     ensures guest { IfOk result (λ answer. IsOfGuest answer) }
 {
     match answers {
-        [] | [Answer::Device, ..] => Ok(Answer::Lost),
-        [answer, ..] => answer.copy(),
+        [] => Ok(Answer::Lost),
+        [answer, ..] => match answer {
+            Answer::Device => Ok(Answer::Lost),
+            _ => answer.copy(),
+        },
     }
 }

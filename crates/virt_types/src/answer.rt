@@ -11,7 +11,6 @@ use crate::memory::NoMemory;
 use crate::run_state::EndReason;
 
 /// What an ask gives that was done.
-#[derive(Drop)]
 pub enum AnswerValue {
     /// Nothing.
     Nothing,
@@ -21,6 +20,17 @@ pub enum AnswerValue {
     Bytes(Bytes),
     /// The place of the store's history that ends with the mark of this change.
     Front(Front),
+}
+
+impl Drop for AnswerValue {
+    fn drop(self) {
+        match self {
+            AnswerValue::Nothing => {}
+            AnswerValue::Number(_) => {}
+            AnswerValue::Bytes(_) => {}
+            AnswerValue::Front(_) => {}
+        }
+    }
 }
 
 impl TryCopy for AnswerValue {
@@ -35,7 +45,6 @@ impl TryCopy for AnswerValue {
 }
 
 /// What an ask is answered.
-#[derive(Drop)]
 pub enum Answer {
     /// It was done, and gives this.
     Ok(AnswerValue),
@@ -49,6 +58,19 @@ pub enum Answer {
     Device,
     /// There was no memory for it.
     NoMemory,
+}
+
+impl Drop for Answer {
+    fn drop(self) {
+        match self {
+            Answer::Ok(_) => {}
+            Answer::Refused(_) => {}
+            Answer::Ended(_) => {}
+            Answer::Lost => {}
+            Answer::Device => {}
+            Answer::NoMemory => {}
+        }
+    }
 }
 
 impl TryCopy for Answer {

@@ -14,7 +14,6 @@ use crate::text::Text;
 use uuid::Uuid;
 
 /// A command to a guest's monitor (after QEMU's QMP).
-#[derive(Drop)]
 pub enum Command {
     /// Whether the guest runs.
     QueryStatus,
@@ -64,6 +63,32 @@ pub enum Command {
     LoadState(Bytes),
     /// Do something of your own, 1 to 5.
     Kick(u32),
+}
+
+impl Drop for Command {
+    fn drop(self) {
+        match self {
+            Command::QueryStatus => {}
+            Command::QueryMemory => {}
+            Command::Cont => {}
+            Command::Stop => {}
+            Command::Powerdown => {}
+            Command::Reset => {}
+            Command::Quit => {}
+            Command::SetMemory(_) => {}
+            Command::SetVcpus(_) => {}
+            Command::AddBackend { slot: _, device: _ } => {}
+            Command::AddDevice { slot: _, device: _ } => {}
+            Command::RemoveDevice(_) => {}
+            Command::RemoveBackend(_) => {}
+            Command::CopyBegin => {}
+            Command::CopyPoll => {}
+            Command::CopyTake => {}
+            Command::CopyCancel => {}
+            Command::LoadState(_) => {}
+            Command::Kick(_) => {}
+        }
+    }
 }
 
 impl TryCopy for Command {
@@ -127,7 +152,6 @@ impl ImageKind {
 }
 
 /// What a call asks: a command of the guest's monitor, or one of the five asks of the desk.
-#[derive(Drop)]
 pub enum Ask {
     /// This command to the guest's monitor.
     Command(Command),
@@ -167,6 +191,31 @@ pub enum Ask {
         /// The state of the guest.
         bytes: Bytes,
     },
+}
+
+impl Drop for Ask {
+    fn drop(self) {
+        match self {
+            Ask::Command(_) => {}
+            Ask::Make {
+                definition: _,
+                boot: _,
+            } => {}
+            Ask::Put {
+                definition: _,
+                autostart: _,
+            } => {}
+            Ask::Drop(_) => {}
+            Ask::Lease { network: _, mac: _ } => {}
+            Ask::WriteImage {
+                name: _,
+                kind: _,
+                definition: _,
+                running: _,
+                bytes: _,
+            } => {}
+        }
+    }
 }
 
 impl TryCopy for Ask {

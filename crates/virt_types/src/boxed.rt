@@ -7,9 +7,14 @@ use std::alloc::Global;
 use std::marker::Model;
 
 /// A value in a box of its own, which contracts see as the value.
-#[derive(Drop)]
 pub struct Boxed<T> {
     value: Box<T>,
+}
+
+impl<T: Drop> Drop for Boxed<T> {
+    fn drop(self) {
+        let Boxed { value: _ } = self;
+    }
 }
 
 impl<T> Model for Boxed<T> {
@@ -40,7 +45,8 @@ impl<T> Boxed<T> {
     pub fn into_inner(self) -> T
         ensures { result ≡ self }
     {
-        Box::into_inner(self.value)
+        let Boxed { value } = self;
+        Box::into_inner(value)
     }
 
     /// The value.

@@ -7,9 +7,15 @@ use std::alloc::Global;
 use std::marker::Model;
 
 /// Bytes of any value, which contracts see as their list.
-#[derive(Debug, Drop)]
+#[derive(Debug)]
 pub struct Bytes {
     bytes: Vec<u8>,
+}
+
+impl Drop for Bytes {
+    fn drop(self) {
+        let Bytes { bytes: _ } = self;
+    }
 }
 
 impl Model for Bytes {
@@ -41,7 +47,8 @@ impl Bytes {
     pub fn into_vec(self) -> Vec<u8>
         ensures { result.items ≡ self }
     {
-        self.bytes
+        let Bytes { bytes } = self;
+        bytes
     }
 
     /// The bytes.

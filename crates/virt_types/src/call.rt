@@ -9,7 +9,6 @@ use crate::name::Name;
 
 /// A call on a domain's cell. The last nine begin an operation, and `Confirm` and `Finish` take up one
 /// that rests.
-#[derive(Drop)]
 pub enum Call {
     /// The guest is to pause.
     Suspend,
@@ -88,6 +87,52 @@ pub enum Call {
     },
 }
 
+impl Drop for Call {
+    fn drop(self) {
+        match self {
+            Call::Suspend => {}
+            Call::Resume => {}
+            Call::Shutdown => {}
+            Call::Reboot => {}
+            Call::Destroy => {}
+            Call::Define(_) => {}
+            Call::Undefine => {}
+            Call::SetAutostart(_) => {}
+            Call::SetMemory(_) => {}
+            Call::SetVcpus(_) => {}
+            Call::Attach(_) => {}
+            Call::Detach(_) => {}
+            Call::MemoryStats => {}
+            Call::Kick(_) => {}
+            Call::Abort => {}
+            Call::SnapDelete {
+                name: _,
+                children: _,
+            } => {}
+            Call::Limit(_) => {}
+            Call::Confirm(_) => {}
+            Call::Finish(_) => {}
+            Call::Start => {}
+            Call::Create(_) => {}
+            Call::Restore {
+                definition: _,
+                running: _,
+                saved: _,
+            } => {}
+            Call::Save(_) => {}
+            Call::Dump(_) => {}
+            Call::Snapshot(_) => {}
+            Call::Revert(_) => {}
+            Call::Perform => {}
+            Call::Prepare {
+                definition: _,
+                running: _,
+                saved: _,
+            } => {}
+        }
+    }
+}
+
 impl TryCopy for Call {
     fn copy(&self) -> Result<Call, NoMemory> {
         Ok(match self {
@@ -149,7 +194,6 @@ impl TryCopy for Call {
 }
 
 /// What is read of a domain's cell.
-#[derive(Drop)]
 pub enum Query {
     /// How the wire refers to the domain, and its state.
     Reference,
@@ -170,6 +214,21 @@ pub enum Query {
     SnapParent(Name),
     /// The snapshot of this name.
     SnapText(Name),
+}
+
+impl Drop for Query {
+    fn drop(self) {
+        match self {
+            Query::Reference => {}
+            Query::Text { stored: _ } => {}
+            Query::Autostart => {}
+            Query::Info => {}
+            Query::JobInfo => {}
+            Query::SnapNames => {}
+            Query::SnapParent(_) => {}
+            Query::SnapText(_) => {}
+        }
+    }
 }
 
 impl TryCopy for Query {

@@ -93,7 +93,6 @@ impl TryCopy for DiskTarget {
 }
 
 /// `disk`: a disk of a domain (libvirt's domain XML, "Hard drives, floppy disks, CDROMs").
-#[derive(Drop)]
 pub struct Disk {
     /// The attribute `type`.
     pub kind: DiskType,
@@ -107,6 +106,19 @@ pub struct Disk {
     pub target: DiskTarget,
     /// Whether the element `readonly` is there.
     pub readonly: bool,
+}
+
+impl Drop for Disk {
+    fn drop(self) {
+        let Disk {
+            kind: _,
+            device: _,
+            driver: _,
+            source: _,
+            target: _,
+            readonly: _,
+        } = self;
+    }
 }
 
 impl TryCopy for Disk {
@@ -171,7 +183,6 @@ impl TryCopy for InterfaceModel {
 }
 
 /// `interface`: a network interface of a domain (libvirt's domain XML, "Network interfaces").
-#[derive(Drop)]
 pub struct Interface {
     /// The attribute `type`.
     pub kind: InterfaceType,
@@ -181,6 +192,17 @@ pub struct Interface {
     pub source: Option<InterfaceSource>,
     /// The element `model`.
     pub model: Option<InterfaceModel>,
+}
+
+impl Drop for Interface {
+    fn drop(self) {
+        let Interface {
+            kind: _,
+            mac: _,
+            source: _,
+            model: _,
+        } = self;
+    }
 }
 
 impl TryCopy for Interface {

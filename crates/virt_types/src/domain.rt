@@ -15,7 +15,6 @@ use uuid::Uuid;
 pub type SlotList = ListOf<u32>;
 
 /// The live part of a domain: its guest of now.
-#[derive(Drop)]
 pub struct Live {
     /// The number of the boot in its cell, from 1.
     pub boot: u64,
@@ -26,6 +25,17 @@ pub struct Live {
     /// The slot of each device of that definition, 0x02 to 0x1f: first of its disks, then of its
     /// interfaces, in order.
     pub slots: SlotList,
+}
+
+impl Drop for Live {
+    fn drop(self) {
+        let Live {
+            boot: _,
+            run: _,
+            def: _,
+            slots: _,
+        } = self;
+    }
 }
 
 impl TryCopy for Live {
@@ -40,12 +50,20 @@ impl TryCopy for Live {
 }
 
 /// What a snapshot is to be, as a caller describes it (libvirt's snapshot XML format).
-#[derive(Drop)]
 pub struct SnapInfo {
     /// `name`; without it the daemon gives one.
     pub name: Option<Name>,
     /// `description`.
     pub description: Option<Text>,
+}
+
+impl Drop for SnapInfo {
+    fn drop(self) {
+        let SnapInfo {
+            name: _,
+            description: _,
+        } = self;
+    }
 }
 
 impl TryCopy for SnapInfo {
@@ -58,7 +76,6 @@ impl TryCopy for SnapInfo {
 }
 
 /// A snapshot.
-#[derive(Drop)]
 pub struct Snap {
     /// Its name, which no other snapshot of the domain has.
     pub name: Name,
@@ -72,6 +89,19 @@ pub struct Snap {
     pub def: DomainDef,
     /// The state of the guest, at most 4,096 bytes; empty where there was no guest.
     pub saved: Bytes,
+}
+
+impl Drop for Snap {
+    fn drop(self) {
+        let Snap {
+            name: _,
+            description: _,
+            parent: _,
+            run: _,
+            def: _,
+            saved: _,
+        } = self;
+    }
 }
 
 impl TryCopy for Snap {
@@ -95,7 +125,6 @@ impl TryCopy for Snap {
 
 /// A domain (libvirt's domain object, `virDomainObj` of `domain_conf.h`). It has a stored
 /// definition or a live part, or an operation is to give it one.
-#[derive(Drop)]
 pub struct Domain {
     /// Its identifier.
     pub uuid: Uuid,
@@ -117,6 +146,23 @@ pub struct Domain {
     pub boots: u64,
     /// The number of the boot that ended last, and why it ended.
     pub last: Option<(u64, EndReason)>,
+}
+
+impl Drop for Domain {
+    fn drop(self) {
+        let Domain {
+            uuid: _,
+            name: _,
+            stored: _,
+            live: _,
+            autostart: _,
+            snaps: _,
+            current: _,
+            op: _,
+            boots: _,
+            last: _,
+        } = self;
+    }
 }
 
 impl TryCopy for Domain {
@@ -144,7 +190,6 @@ impl TryCopy for Domain {
 }
 
 /// What a cell holds. It serves one domain after another.
-#[derive(Drop)]
 pub enum State {
     /// No domain.
     Vacant {
@@ -153,6 +198,15 @@ pub enum State {
     },
     /// A domain.
     Held(Domain),
+}
+
+impl Drop for State {
+    fn drop(self) {
+        match self {
+            State::Vacant { boots: _ } => {}
+            State::Held(_) => {}
+        }
+    }
 }
 
 impl TryCopy for State {

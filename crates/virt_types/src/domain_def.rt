@@ -40,7 +40,6 @@ impl TryCopy for BootDevice {
 pub type BootDeviceList = ListOf<BootDevice>;
 
 /// `os`: what the guest is.
-#[derive(Drop)]
 pub struct Os {
     /// The content of `type`, as `hvm`.
     pub kind: Text,
@@ -50,6 +49,17 @@ pub struct Os {
     pub machine: Option<Text>,
     /// The elements `boot`.
     pub boot: BootDeviceList,
+}
+
+impl Drop for Os {
+    fn drop(self) {
+        let Os {
+            kind: _,
+            arch: _,
+            machine: _,
+            boot: _,
+        } = self;
+    }
 }
 
 impl TryCopy for Os {
@@ -199,8 +209,6 @@ pub struct DomainDef {
     pub memballoon: Option<Memballoon>,
 }
 
-// Written out, and not derived: so a proof meets one call where a definition is let go, and not a walk
-// over its fields. A function that holds two definitions took minutes to prove otherwise.
 impl Drop for DomainDef {
     fn drop(self) {
         let DomainDef {

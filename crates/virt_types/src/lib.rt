@@ -1,6 +1,9 @@
 //! The words in which the whole system is said: names, texts, domains, calls and what they answer.
 #![tactic(auto)]
 
+// Types that hold memory have a written `Drop` and not a derived one: so a proof meets one call where a
+// value is let go, and not a walk over its fields and variants.
+
 mod answer;
 mod ask;
 mod boxed;
@@ -119,6 +122,7 @@ pub use reference::PoolRef;
 pub use reference::PoolTarget;
 pub use refusal::Refusal;
 pub use refusal::RefusalCode;
+pub use refusal::kept_length;
 pub use request::Request;
 pub use request::RequestList;
 pub use room::RoomyList;

@@ -7,9 +7,14 @@ use std::alloc::Global;
 use std::marker::Model;
 
 /// Values in order, which contracts see as their list.
-#[derive(Drop)]
 pub struct ListOf<T> {
     entries: Vec<T>,
+}
+
+impl<T: Drop> Drop for ListOf<T> {
+    fn drop(self) {
+        let ListOf { entries: _ } = self;
+    }
 }
 
 impl<T> Model for ListOf<T> {
@@ -41,7 +46,8 @@ impl<T> ListOf<T> {
     pub fn into_vec(self) -> Vec<T>
         ensures { result.items ≡ self }
     {
-        self.entries
+        let ListOf { entries } = self;
+        entries
     }
 
     /// The values.

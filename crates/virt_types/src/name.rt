@@ -11,9 +11,15 @@ use std::marker::Model;
 
 /// A name: 1 to 128 bytes of UTF-8 with no `/`, no byte below 0x20 and no 0x7f, which is neither
 /// `.` nor `..`. So it can be in the name of a file.
-#[derive(Debug, Drop)]
+#[derive(Debug)]
 pub struct Name {
     text: String,
+}
+
+impl Drop for Name {
+    fn drop(self) {
+        let Name { text: _ } = self;
+    }
 }
 
 impl Model for Name {

@@ -5,7 +5,6 @@ use crate::text::Text;
 
 /// What is asked of a domain: the procedures of the first program, as in libvirt's
 /// `remote_protocol.x`, and those of this project's own program.
-#[derive(Drop)]
 pub enum DomainRequest {
     /// `DOMAIN_ATTACH_DEVICE`, 8.
     AttachDevice {
@@ -133,6 +132,49 @@ pub enum DomainRequest {
     },
 }
 
+impl Drop for DomainRequest {
+    fn drop(self) {
+        match self {
+            DomainRequest::AttachDevice { xml: _ } => {}
+            DomainRequest::Create => {}
+            DomainRequest::Destroy => {}
+            DomainRequest::DetachDevice { xml: _ } => {}
+            DomainRequest::GetXmlDesc { flags: _ } => {}
+            DomainRequest::GetAutostart => {}
+            DomainRequest::GetInfo => {}
+            DomainRequest::Reboot { flags: _ } => {}
+            DomainRequest::Resume => {}
+            DomainRequest::SetAutostart { autostart: _ } => {}
+            DomainRequest::SetMemory { memory: _ } => {}
+            DomainRequest::SetVcpus { vcpus: _ } => {}
+            DomainRequest::Shutdown => {}
+            DomainRequest::Suspend => {}
+            DomainRequest::Undefine => {}
+            DomainRequest::CoreDump { to: _, flags: _ } => {}
+            DomainRequest::Save { to: _ } => {}
+            DomainRequest::JobInfo => {}
+            DomainRequest::JobAbort => {}
+            DomainRequest::SnapCreate { xml: _ } => {}
+            DomainRequest::SnapList => {}
+            DomainRequest::SnapParent { snapshot: _ } => {}
+            DomainRequest::SnapDelete {
+                snapshot: _,
+                children: _,
+            } => {}
+            DomainRequest::SnapRevert { snapshot: _ } => {}
+            DomainRequest::SnapXml { snapshot: _ } => {}
+            DomainRequest::EventRegister => {}
+            DomainRequest::EventDeregister => {}
+            DomainRequest::MemoryStats => {}
+            DomainRequest::Kick { action: _ } => {}
+            DomainRequest::MigratePerform => {}
+            DomainRequest::MigrateConfirm { verdict: _ } => {}
+            DomainRequest::MigrateFinish { go: _ } => {}
+            DomainRequest::MigrateLimit { rest: _ } => {}
+        }
+    }
+}
+
 impl TryCopy for DomainRequest {
     fn copy(&self) -> Result<DomainRequest, NoMemory> {
         Ok(match self {
@@ -213,7 +255,6 @@ pub enum NetworkRequest {
 }
 
 /// What is asked of a pool or of one of its volumes.
-#[derive(Drop)]
 pub enum PoolRequest {
     /// `POOL_CREATE`, 21 of the second program.
     Create,
@@ -245,6 +286,22 @@ pub enum PoolRequest {
         /// The volume's name.
         volume: Text,
     },
+}
+
+impl Drop for PoolRequest {
+    fn drop(self) {
+        match self {
+            PoolRequest::Create => {}
+            PoolRequest::Destroy => {}
+            PoolRequest::Undefine => {}
+            PoolRequest::Xml => {}
+            PoolRequest::SetAutostart { autostart: _ } => {}
+            PoolRequest::VolCreate { xml: _ } => {}
+            PoolRequest::VolDelete { volume: _ } => {}
+            PoolRequest::VolList => {}
+            PoolRequest::VolXml { volume: _ } => {}
+        }
+    }
 }
 
 impl TryCopy for PoolRequest {

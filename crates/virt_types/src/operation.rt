@@ -165,7 +165,6 @@ impl Phase {
 }
 
 /// An operation that is under way.
-#[derive(Drop)]
 pub struct Op {
     /// What kind it is.
     pub kind: OpKind,
@@ -191,6 +190,25 @@ pub struct Op {
     pub limit: u64,
     /// Whether it rests: no call works on it until one takes it up.
     pub rests: bool,
+}
+
+impl Drop for Op {
+    fn drop(self) {
+        let Op {
+            kind: _,
+            who: _,
+            boot: _,
+            new_boot: _,
+            phase: _,
+            was_running: _,
+            abort: _,
+            still: _,
+            remaining: _,
+            refusal: _,
+            limit: _,
+            rests: _,
+        } = self;
+    }
 }
 
 impl TryCopy for Op {

@@ -7,7 +7,6 @@ use uuid::Uuid;
 
 /// A domain as replies and messages name it (`remote_nonnull_domain` of libvirt's
 /// `remote_protocol.x`).
-#[derive(Drop)]
 pub struct DomainRef {
     /// Its name.
     pub name: Name,
@@ -15,6 +14,16 @@ pub struct DomainRef {
     pub uuid: Uuid,
     /// The number of its live boot, or 2,147,483,647 where that is greater; -1 where none is live.
     pub id: i32,
+}
+
+impl Drop for DomainRef {
+    fn drop(self) {
+        let DomainRef {
+            name: _,
+            uuid: _,
+            id: _,
+        } = self;
+    }
 }
 
 impl TryCopy for DomainRef {

@@ -1,5 +1,5 @@
 // Refusals: why a call was not done, as an error on the wire reports it.
-ghost use Rattle.std.specs.Prelude.{◌≡◌, ◌==◌, ◌≢◌, IfOk, IfNone, IfSome, IsCharBoundary, find, take};
+ghost use Rattle.std.specs.Prelude.{◌≡◌, ◌==◌, ◌≢◌, ◌≤◌, IfOk, IfNone, IfSome, IsCharBoundary, find, take};
 ghost use Rattle.std.specs.Str.Lossy.{utf8_valid_len};
 ghost use Rattle.virt_types.specs.declared.refusal.RefusalCode.{RefusalCode as Code};
 ghost use Rattle.virt_types.specs.Refusal.{kept_cut, refusal_message, refusal_number};
@@ -176,12 +176,18 @@ impl fmt::Display for RefusalCode {
 }
 
 /// Why a call was not done.
-#[derive(Debug, Drop)]
+#[derive(Debug)]
 pub struct Refusal {
     /// The reason.
     pub code: RefusalCode,
     /// What it is about: a name, a number, a place. Empty where nothing is to be said.
     pub kept: Text,
+}
+
+impl Drop for Refusal {
+    fn drop(self) {
+        let Refusal { code: _, kept: _ } = self;
+    }
 }
 
 impl fmt::Display for Refusal {
@@ -201,10 +207,12 @@ impl TryCopy for Refusal {
     }
 }
 
-// How much of the text a refusal keeps.
-fn cut_place(text: &str) -> usize
+/// How many bytes of a text a refusal keeps: those of its longest front of whole characters within
+/// 1,024 bytes.
+pub fn kept_length(text: &str) -> usize
     ensures place { result ≡ utf8_valid_len (take 1024 text.now) }
     ensures boundary { IsCharBoundary text.now result }
+    ensures short { result ≤ 1024 }
 {
     let bytes = text.as_bytes();
     let front = &bytes[..MOST_KEPT_BYTES.min(bytes.len())];
@@ -223,7 +231,7 @@ impl Refusal {
     {
         Ok(Refusal {
             code,
-            kept: Text::copy_of(alloc, &kept[..cut_place(kept)])?,
+            kept: Text::copy_of(alloc, &kept[..kept_length(kept)])?,
         })
     }
 }

@@ -11,7 +11,6 @@ use uuid::Uuid;
 /// What a session is asked. The procedures that are for one domain, network or pool are in an enum
 /// of their own, after the reference that is the first argument of each. Numbers and texts are as the
 /// wire has them: whether they are in their range is tested where the request is served.
-#[derive(Drop)]
 pub enum Request {
     /// `CONNECT_OPEN`, 1.
     ConnectOpen {
@@ -120,6 +119,47 @@ pub enum Request {
         /// What is asked of it.
         request: PoolRequest,
     },
+}
+
+impl Drop for Request {
+    fn drop(self) {
+        match self {
+            Request::ConnectOpen { name: _, flags: _ } => {}
+            Request::ConnectClose => {}
+            Request::DomainCreateXml { xml: _, flags: _ } => {}
+            Request::DomainDefineXml { xml: _ } => {}
+            Request::ListDefinedDomains { most: _ } => {}
+            Request::DomainLookupByName { name: _ } => {}
+            Request::DomainLookupByUuid { uuid: _ } => {}
+            Request::ListDefinedNetworks { most: _ } => {}
+            Request::ListNetworks { most: _ } => {}
+            Request::NetworkDefineXml { xml: _ } => {}
+            Request::NetworkLookupByName { name: _ } => {}
+            Request::DomainRestore { from: _ } => {}
+            Request::ListAll => {}
+            Request::Titles => {}
+            Request::PoolDefine { xml: _ } => {}
+            Request::PoolLookup { name: _ } => {}
+            Request::PoolList => {}
+            Request::MigratePrepare {
+                xml: _,
+                running: _,
+                state: _,
+            } => {}
+            Request::OnDomain {
+                domain: _,
+                request: _,
+            } => {}
+            Request::OnNetwork {
+                network: _,
+                request: _,
+            } => {}
+            Request::OnPool {
+                pool: _,
+                request: _,
+            } => {}
+        }
+    }
 }
 
 /// Requests in order.

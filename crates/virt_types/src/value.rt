@@ -27,12 +27,20 @@ pub type TextList = ListOf<Text>;
 pub type TransitionList = RoomyList<Transition>;
 
 /// A domain with its state.
-#[derive(Drop)]
 pub struct DomainRow {
     /// The domain.
     pub domain: DomainRef,
     /// Its state.
     pub state: DomainState,
+}
+
+impl Drop for DomainRow {
+    fn drop(self) {
+        let DomainRow {
+            domain: _,
+            state: _,
+        } = self;
+    }
 }
 
 impl TryCopy for DomainRow {
@@ -135,7 +143,6 @@ pub struct JobInfo {
 }
 
 /// A guest that leaves for another host, as its cell gives it.
-#[derive(Drop)]
 pub struct MigratedGuest {
     /// The definition that the guest had.
     pub definition: DomainDef,
@@ -143,6 +150,16 @@ pub struct MigratedGuest {
     pub running: bool,
     /// The state of the guest.
     pub state: Bytes,
+}
+
+impl Drop for MigratedGuest {
+    fn drop(self) {
+        let MigratedGuest {
+            definition: _,
+            running: _,
+            state: _,
+        } = self;
+    }
 }
 
 impl TryCopy for MigratedGuest {
@@ -156,7 +173,6 @@ impl TryCopy for MigratedGuest {
 }
 
 /// A guest that leaves for another host, as the reply has it.
-#[derive(Drop)]
 pub struct MigratedText {
     /// The text of the definition that the guest had.
     pub definition: Text,
@@ -164,6 +180,16 @@ pub struct MigratedText {
     pub running: bool,
     /// The state of the guest.
     pub state: Bytes,
+}
+
+impl Drop for MigratedText {
+    fn drop(self) {
+        let MigratedText {
+            definition: _,
+            running: _,
+            state: _,
+        } = self;
+    }
 }
 
 impl TryCopy for MigratedText {
@@ -179,7 +205,6 @@ impl TryCopy for MigratedText {
 /// What a call or a query that was done gives. The last five are what calls and queries read of a
 /// domain's cell, of which the driver makes rows and texts; no reply on the wire has them. What is
 /// large is boxed, so that a value takes 64 bytes.
-#[derive(Drop)]
 pub enum Value {
     /// Nothing.
     Nothing,
@@ -227,6 +252,35 @@ pub enum Value {
     MigratedGuest(Boxed<MigratedGuest>),
 }
 
+impl Drop for Value {
+    fn drop(self) {
+        match self {
+            Value::Nothing => {}
+            Value::Domain(_) => {}
+            Value::Network(_) => {}
+            Value::Pool(_) => {}
+            Value::Text(_) => {}
+            Value::Autostart(_) => {}
+            Value::Info(_) => {}
+            Value::Names(_) => {}
+            Value::Domains(_) => {}
+            Value::Pools(_) => {}
+            Value::Job(_) => {}
+            Value::Name(_) => {}
+            Value::Parent(_) => {}
+            Value::Memory(_) => {}
+            Value::Leases(_) => {}
+            Value::Titles(_) => {}
+            Value::MigratedText(_) => {}
+            Value::Reference(_) => {}
+            Value::Definition(_) => {}
+            Value::Live(_) => {}
+            Value::Snapshot(_) => {}
+            Value::MigratedGuest(_) => {}
+        }
+    }
+}
+
 impl TryCopy for Value {
     fn copy(&self) -> Result<Value, NoMemory> {
         Ok(match self {
@@ -257,12 +311,20 @@ impl TryCopy for Value {
 }
 
 /// What a call is answered.
-#[derive(Drop)]
 pub enum Reply {
     /// It was done.
     Ok(Value),
     /// It was not done.
     No(Refusal),
+}
+
+impl Drop for Reply {
+    fn drop(self) {
+        match self {
+            Reply::Ok(_) => {}
+            Reply::No(_) => {}
+        }
+    }
 }
 
 impl TryCopy for Reply {
@@ -275,7 +337,6 @@ impl TryCopy for Reply {
 }
 
 /// A message that no call asked for.
-#[derive(Drop)]
 pub enum Note {
     /// Something came about in a domain.
     Event {
@@ -293,6 +354,19 @@ pub enum Note {
         /// Its identifier.
         uuid: Uuid,
     },
+}
+
+impl Drop for Note {
+    fn drop(self) {
+        match self {
+            Note::Event {
+                name: _,
+                uuid: _,
+                transition: _,
+            } => {}
+            Note::Lost { name: _, uuid: _ } => {}
+        }
+    }
 }
 
 impl TryCopy for Note {

@@ -4,4 +4,4 @@ use Rattle.virt_types.proofs.refusal.Refusal.new.Goals as goal
 
 pub returns-clause-kept : goal.returns-clause-kept
 unfolding kept_cut
-returns-clause-kept c = grind (arith, c.in_ok-copy_of.ensures, c.range.ensures.value, c.cut_place.ensures.place)
+returns-clause-kept c = grind (arith, c.in_ok-copy_of.ensures, c.range.ensures.value, c.kept_length.ensures.place)

@@ -4,7 +4,7 @@ use Rattle.std.proofs.lemmas.Str.{utf8_valid_len-IsUtf8}
 use Rattle.std.specs.Str.{IsUtf8}
 use Rattle.std.specs.Str.Lossy.{utf8_valid_len}
 use Rattle.virt_types.proofs.Kept.{cut_boundary}
-use Rattle.core_rules.proofs.kept.cut_place.Goals as goal
+use Rattle.virt_types.proofs.refusal.kept_length.Goals as goal
 
 pub returns-in-Ok-clause-place : goal.returns-in-Ok-clause-place
 returns-in-Ok-clause-place c =
