@@ -51,9 +51,10 @@ fn ask_many<M: Monitor>(monitor: &mut M, times: u64) -> Option<()> {
     // Outside the loop: a command has room for a device's definition, and is slow to make.
     let command = Command::QueryMemory;
     for _ in 0..times {
-        let Answer::Ok(AnswerValue::Number(_)) = monitor.ask(&command) else {
+        let answer = monitor.ask(&command);
+        if !matches!(&answer, Answer::Ok(AnswerValue::Number(_))) {
             return None;
-        };
+        }
     }
     Some(())
 }
