@@ -2,10 +2,13 @@
 use Rattle.std.proofs.Common.{◌≡◌, ℕ, zero, suc, ◌+◌, ◌-◌, ◌<◌, ◌≤◌, List, [], ◌∷◌, ◌++◌, Bool, true, false, not, Option, None, Some, if◌then◌else◌, length, drop, take, map, slice_get, refl, sym, ap, ◌∙◌, arith, nat_lt}
 use Rattle.std.specs.List.{position_or_len}
 use Rattle.std.proofs.lemmas.Bool.Decides.{nat_tests}
-use Rattle.std.proofs.Math.Seq.{take-nil}
+use Rattle.std.proofs.Math.Numerals.{add-one}
+use Rattle.std.proofs.Math.Seq.{drop-nil, take-nil}
+use Rattle.std.proofs.lemmas.List.{length-append}
 use Rattle.domain_spec.specs.Types.{Answer, Ask}
 use Rattle.domain_spec.specs.declared.planned.PlannedAsk.{PlannedAsk}
 use Rattle.domain_spec.specs.Asks.{asks_left, asks_made, bad_place, course, course_at, first_bad, is_ok_answer, is_undone, undo_at}
+use Rattle.core_rules.specs.declared.next.Next.TheVariants as next
 use Rattle.core_rules.specs.Next.{next_of}
 use Rattle.lifecycle_core.specs.Plans.{is_ask}
 use Rattle.ask_course.specs.Along.{made_along, most_asks}
@@ -83,6 +86,9 @@ no_course : (answers : List Answer) (o : Option ℕ) → course_at [] answers o 
 no_course answers None = refl
 no_course answers (Some k) = rw (take-nil (k + 1)) refl
 
+nothing_left : (answers : List Answer) → next_of (asks_left [] answers) ≡ next.Finish
+nothing_left answers = ap next_of (ap (λ (asks : List Ask). drop (length answers) asks) (no_course answers (bad_place answers)) ∙ drop-nil (length answers))
+
 taken_if : (b : Bool) (n : ℕ) (asks : List Ask) → take n (if b then asks else []) ≡ (if b then take n asks else [])
 taken_if true n asks = refl
 taken_if false n asks = take-nil n
@@ -137,3 +143,52 @@ has_room plan answers e =
     let h : length answers < length (course plan answers) = has_more (length answers) (course plan answers) e in
     let short : length (course plan answers) ≤ most_asks plan = course_short plan answers in
     omega (arith, h, short)
+
+-- one more answer, and the ask that it answers
+
+take_more : (n : ℕ) (xs : List Ask) (a : Ask) → next_of (drop n xs) ≡ next.Ask a → take (suc n) xs ≡ take n xs ++ a ∷ []
+take_more zero [] a e = cc
+take_more zero (x ∷ xs) a e = let same : x ≡ a = cc in ap (λ (y : Ask). y ∷ []) same
+take_more (suc n) [] a e = cc
+take_more (suc n) (x ∷ xs) a e = ap (λ (ys : List Ask). x ∷ ys) (take_more n xs a e)
+
+first_more : (ok undone : Bool) (p : PlannedAsk) (plan : List PlannedAsk) → p.ask ∷ (if ok then [] else if undone then take 0 p.undo else []) ≡ p.ask ∷ []
+first_more true undone p plan = refl
+first_more false true p plan = refl
+first_more false false p plan = refl
+
+none_dropped : (n : ℕ) → next_of (drop n []) ≡ next.Finish
+none_dropped n = ap next_of (drop-nil n)
+
+not_both : (a : Ask) → next.Finish ≡ next.Ask a → ⊥
+not_both a e = cc
+
+undone_more : (undone : Bool) (p : PlannedAsk) (answers : List Answer) (x : Answer) (a : Ask) → next_of (drop (length answers) (if undone then p.undo else [])) ≡ next.Ask a
+    → (if undone then take (length (answers ++ x ∷ [])) p.undo else []) ≡ (if undone then take (length answers) p.undo else []) ++ a ∷ []
+undone_more true p answers x a e =
+    let more : length (answers ++ x ∷ []) ≡ suc (length answers) = length-append answers (x ∷ []) ∙ add-one (length answers) in
+    ap (λ (n : ℕ). take n p.undo) more ∙ take_more (length answers) p.undo a e
+undone_more false p answers x a e = absurd (not_both a (sym (none_dropped (length answers)) ∙ e))
+
+behind_more : (ok : Bool) (p : PlannedAsk) (plan : List PlannedAsk) (b : Answer) (answers : List Answer) (x : Answer) (a : Ask) → is_ok_answer b ≡ ok
+    → (next_of (asks_left plan answers) ≡ next.Ask a → made_along plan (answers ++ x ∷ []) ≡ made_along plan answers ++ a ∷ [])
+    → next_of (asks_left (p ∷ plan) (b ∷ answers)) ≡ next.Ask a
+    → p.ask ∷ (if ok then made_along plan (answers ++ x ∷ []) else if is_undone b then take (length (answers ++ x ∷ [])) p.undo else [])
+    ≡ (p.ask ∷ (if ok then made_along plan answers else if is_undone b then take (length answers) p.undo else [])) ++ a ∷ []
+behind_more true p plan b answers x a is more e =
+    ap (λ (asks : List Ask). p.ask ∷ asks) (more (sym (ap (λ (asks : List Ask). next_of (drop (suc (length answers)) asks)) (course_behind p plan b answers is)) ∙ e))
+behind_more false p plan b answers x a is more e =
+    ap (λ (asks : List Ask). p.ask ∷ asks) (undone_more (is_undone b) p answers x a (sym (ap (λ (asks : List Ask). next_of (drop (suc (length answers)) asks)) (course_bad p plan b answers is)) ∙ e))
+
+along_more : (plan : List PlannedAsk) (answers : List Answer) (x : Answer) (a : Ask) → next_of (asks_left plan answers) ≡ next.Ask a
+    → made_along plan (answers ++ x ∷ []) ≡ made_along plan answers ++ a ∷ []
+along_more [] answers x a e = absurd (not_both a (sym (nothing_left answers) ∙ e))
+along_more (p ∷ plan) [] x a e = let same : p.ask ≡ a = cc in first_more (is_ok_answer x) (is_undone x) p plan ∙ ap (λ (y : Ask). y ∷ []) same
+along_more (p ∷ plan) (b ∷ answers) x a e =
+    behind_more (is_ok_answer b) p plan b answers x a refl (along_more plan answers x a) e
+
+-- the asks that are made where one more answer comes
+pub made_more : (plan : List PlannedAsk) (answers : List Answer) (x : Answer) (a : Ask) → next_of (asks_left plan answers) ≡ next.Ask a
+    → asks_made plan (answers ++ x ∷ []) ≡ asks_made plan answers ++ a ∷ []
+made_more plan answers x a e =
+    sym (made_so plan (answers ++ x ∷ [])) ∙ along_more plan answers x a e ∙ ap (λ (asks : List Ask). asks ++ a ∷ []) (made_so plan answers)
