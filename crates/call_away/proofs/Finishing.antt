@@ -16,7 +16,7 @@ use Rattle.domain_spec.specs.Asks.{asks_left, asks_made, is_ended_answer}
 use Rattle.domain_spec.specs.Call.{begins, is_on_stored, plan_of, takes_up}
 use Rattle.domain_spec.specs.Lawful.{EndedFirst, IsDoneAs, IsUnsentUntilMade, UnsentBefore, WerePlanned, planned_in}
 use Rattle.domain_spec.specs.Open.{operation_held}
-use Rattle.domain_spec.specs.Reading.{boot_in, is_boot_in, is_live, live_boot, live_of}
+use Rattle.domain_spec.specs.Reading.{boot_in, carries_ended, is_boot_in, is_live, live_boot, live_of}
 use Rattle.domain_spec.specs.Sequential.{asked, makes_asks, meets_ended, still_asked}
 use Rattle.domain_spec.specs.TakeUp.{rests_for, step_at, takes_it_up}
 use Rattle.domain_spec.specs.Tests.{refusal_of}
@@ -26,7 +26,8 @@ use Rattle.core_rules.specs.Next.{next_of}
 use Rattle.lifecycle_core.specs.Plans.{is_ask}
 use Rattle.ask_course.specs.Along.{Asked}
 use Rattle.ask_course.proofs.Courses.{made_more}
-use Rattle.call_away.specs.Away.{IsAway, IsUnsent, NoneSince, planned}
+use Rattle.domain_tidy.specs.Tidy.{planned}
+use Rattle.call_away.specs.Away.{IsAway, IsOfKind, IsOnGuest, IsUnsent}
 use Rattle.call_away.specs.AwayLaws.{IsDoneAtOnce, IsDoneEnded, IsDoneLive, answered, made}
 use Rattle.call_away.proofs.Planning.{asked_planned, still_planned}
 
@@ -163,18 +164,9 @@ any_more (b ∷ answers) x e f =
     let h = both_false (is_ended_answer b) (list_any is_ended_answer answers) e in
     or_false (is_ended_answer b) (list_any is_ended_answer (answers ++ x ∷ [])) h.0 (any_more answers x h.1 f)
 
-none_live : (l : Option Live) (boot : ℕ) → boot_in l ≡ None → is_boot_in l boot ≡ false
-none_live None boot e = refl
-none_live (Some l) boot e = cc
-
 same_live : (l : Option Live) (boot : ℕ) → boot_in l ≡ Some boot → is_boot_in l boot ≡ true
 same_live None boot e = cc
 same_live (Some l) boot e = let same : l.boot ≡ boot = cc in grind (arith, nat_tests, same)
-
-meets_by : (stored live : Bool) → stored ≡ false → live ≡ false → (not stored && not live) ≡ true
-meets_by true live e f = cc
-meets_by false true e f = cc
-meets_by false false e f = refl
 
 meets_not : (stored live : Bool) → live ≡ true → (not stored && not live) ≡ true → ⊥
 meets_not true true e f = cc
@@ -185,41 +177,32 @@ meets_not false false e f = cc
 true_not_false : true ≡ false → ⊥
 true_not_false e = cc
 
-is_gone : (s : State) (c : Call) (carried : Option ℕ) (boot : ℕ) → live_boot s ≡ None → carried ≡ Some boot → is_on_stored c ≡ false → meets_ended s c carried ≡ false → ⊥
-is_gone s c carried boot none is on_guest live =
-    let gone : meets_ended s c (Some boot) ≡ true = meets_by (is_on_stored c) (is_live s boot) on_guest (none_live (live_of s) boot none) in
-    true_not_false (sym gone ∙ (ap (λ (o : Option ℕ). meets_ended s c o) (sym is) ∙ live))
-
 is_there : (s : State) (c : Call) (carried : Option ℕ) (boot : ℕ) → live_boot s ≡ Some boot → carried ≡ Some boot → meets_ended s c carried ≡ true → ⊥
 is_there s c carried boot at is ended =
     meets_not (is_on_stored c) (is_live s boot) (same_live (live_of s) boot at) (ap (λ (o : Option ℕ). meets_ended s c o) (sym is) ∙ ended)
 
--- while the boot is live the plan is that of the present state
-here_by : (s : State) (o : Option OpenOperation) (j : OpenJob) (a : Asked) (before : Option State) → j.before ≡ before → IsAway s o j a → meets_ended s j.call j.boot ≡ false → a.plan ≡ planned s j.call j.boot
-here_by s o j a None e h live = h.plan ∙ ap (λ (y : Option State). planned (unwrap_or y s) j.call j.boot) e
-here_by s o j a (Some was) e h live =
-    let none : live_boot s ≡ None = subst (λ (y : Option State). NoneSince y s) e h.ended in
-    absurd (is_gone s j.call j.boot h.boot none h.carried h.on_guest live)
-
-is_here : (s : State) (o : Option OpenOperation) (j : OpenJob) (a : Asked) → IsAway s o j a → meets_ended s j.call j.boot ≡ false → a.plan ≡ planned s j.call j.boot
-is_here s o j a h live = here_by s o j a j.before refl h live
+-- a call whose boot has ended is on a guest
+is_guest : (stored : Bool) (s : State) (c : Call) (carried : Option ℕ) → is_on_stored c ≡ stored → meets_ended s c carried ≡ true → is_on_stored c ≡ false
+is_guest true s c carried is ended = absurd (true_not_false (sym ended ∙ ap (λ (b : Bool). not b && carries_ended s carried) is))
+is_guest false s c carried is ended = is
 
 -- a boot that was never live since the call was let in can't have ended meanwhile
-done_since : (s : Standing) (j : OpenJob) (a : Asked) (x : Answer) → IsAway s.state s.operation j a → (before : Option State) → j.before ≡ before
+done_since : (s : Standing) (j : OpenJob) (a : Asked) (x : Answer) → IsAway s.state s.operation j a → IsOnGuest s.state j a → (before : Option State) → j.before ≡ before
     → meets_ended s.state j.call j.boot ≡ true → IsUnsent s.operation j (answered a x)
     → IsDoneAs s j.before j.call j.boot (made (answered a x)) (answered a x).answers (step_at s j.call j.boot (answered a x).answers).reply (step_at s j.call j.boot (answered a x).answers).transitions
-done_since s j a x h None e ended unsent =
-    let at : live_boot s.state ≡ Some h.boot = ap (λ (y : Option State). live_boot (unwrap_or y s.state)) (sym e) ∙ h.was_live in
-    absurd (is_there s.state j.call j.boot h.boot at h.carried ended)
-done_since s j a x h (Some was) e ended unsent =
+done_since s j a x h g None e ended unsent =
+    let at : live_boot s.state ≡ Some g.boot = ap (λ (y : Option State). live_boot (unwrap_or y s.state)) (sym e) ∙ g.was_live in
+    absurd (is_there s.state j.call j.boot g.boot at g.carried ended)
+done_since s j a x h g (Some was) e ended unsent =
     subst (λ (y : Option State). IsDoneAs s y j.call j.boot (made (answered a x)) (answered a x).answers (step_at s j.call j.boot (answered a x).answers).reply (step_at s j.call j.boot (answered a x).answers).transitions) (sym e)
     (done_ended s was j.call j.boot a.plan (a.answers ++ x ∷ []) ended h.begins_none h.takes_none
-    (h.plan ∙ ap (λ (y : Option State). planned (unwrap_or y s.state) j.call j.boot) e) (one_more s.state s.operation j a x h) unsent)
+    (g.plan ∙ ap (λ (y : Option State). planned (unwrap_or y s.state) j.call j.boot) e) (one_more s.state s.operation j a x h) unsent)
 
 pub is_done_live : IsDoneLive
 is_done_live s j a x h live through last unsent =
-    let at = is_here s.state s.operation j a h live in
-    done_live s j.before j.call j.boot a.plan (a.answers ++ x ∷ []) live h.begins_none h.takes_none at through (one_more s.state s.operation j a x h) (any_more a.answers x h.none_ended last) unsent
+    done_live s j.before j.call j.boot a.plan (a.answers ++ x ∷ []) live h.begins_none h.takes_none (h.now live) through (one_more s.state s.operation j a x h) (any_more a.answers x h.none_ended last) unsent
 
 pub is_done_ended : IsDoneEnded
-is_done_ended s j a x h ended unsent = done_since s j a x h j.before refl ended unsent
+is_done_ended s j a x h ended unsent =
+    let guest = is_guest (is_on_stored j.call) s.state j.call j.boot refl ended in
+    done_since s j a x h (subst (λ (b : Bool). IsOfKind b s.state j a) guest h.kind) j.before refl ended unsent

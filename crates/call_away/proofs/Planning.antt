@@ -12,7 +12,7 @@ use Rattle.domain_spec.specs.Sequential.{asked, makes_asks, still_asked}
 use Rattle.core_rules.specs.Cores.{core_of_call}
 use Rattle.core_rules.specs.declared.cores.Core.TheVariants as core
 use Rattle.core_rules.specs.Next.{at_most, next_if, next_of}
-use Rattle.call_away.specs.Away.{planned}
+use Rattle.domain_tidy.specs.Tidy.{planned}
 use Rattle.call_away.specs.AwayLaws.{OneIsPlanned}
 
 no_course : (answers : List Answer) (o : Option ℕ) → course_at [] answers o ≡ []

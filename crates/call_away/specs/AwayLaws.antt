@@ -18,7 +18,8 @@ use Rattle.core_rules.specs.declared.cores.Core.TheVariants as core
 use Rattle.core_rules.specs.declared.next.Next.TheVariants as next
 use Rattle.core_rules.specs.Next.{at_most, next_if, next_of}
 use Rattle.ask_course.specs.Along.{Asked}
-use Rattle.call_away.specs.Away.{IsAway, IsUnsent, planned}
+use Rattle.domain_tidy.specs.Tidy.{IsTidy, planned}
+use Rattle.call_away.specs.Away.{IsAway, IsUnsent}
 
 -- the asks that were made with one more answer are those of the answers so far
 abbrev pub made : Asked → List Ask
@@ -28,12 +29,12 @@ made a = asks_made a.plan a.answers
 abbrev pub answered : Asked → Answer → Asked
 answered a x = record a { answers = a.answers ++ x ∷ [] }
 
--- a boot that ends while a call is away is the call's own; it is away as before, with the state of before
+-- after the end of a boot a call is away as before; where the boot was its own it keeps the state of before
 abbrev pub ExitKeeps : Type 0
 ExitKeeps =
     (s : State) (o : Option OpenOperation) (j : OpenJob) (a : Asked) (boot : ℕ) (why : EndReason)
-    → IsAway s o j a → is_live s boot ≡ true
-    → (job_at_exit s boot (Some j) ≡ Some (record j { before = Some s })) × IsAway (exit_state s why) o (record j { before = Some s }) a
+    → IsTidy s → IsAway s o j a → is_live s boot ≡ true
+    → (k : OpenJob) × (job_at_exit s boot (Some j) ≡ Some k) × IsAway (exit_state s why) o k a
 
 -- the end of an operation changes nothing of it
 abbrev pub EndKeeps : Type 0
