@@ -1,0 +1,51 @@
+-- A call that was let in and waits for an answer.
+use Rattle.std.specs.Prelude.{◌≡◌, ℕ, length, Bool, true, false, Option, None, Some}
+use Rattle.std.specs.List.{list_any}
+use Rattle.domain_spec.specs.Types.{State}
+use Rattle.domain_spec.specs.declared.open.OpenJob.{OpenJob}
+use Rattle.domain_spec.specs.declared.open.OpenOperation.{OpenOperation}
+use Rattle.domain_spec.specs.Asks.{asks_left, asks_made, is_ended_answer}
+use Rattle.domain_spec.specs.Call.{begins, is_on_stored, job_of, takes_up}
+use Rattle.domain_spec.specs.Cell.{planned_at}
+use Rattle.domain_spec.specs.Lawful.{IsUnsentUntilMade}
+use Rattle.domain_spec.specs.Reading.{live_boot}
+use Rattle.domain_spec.specs.Sequential.{meets_ended}
+use Rattle.core_rules.specs.Next.{next_of}
+use Rattle.lifecycle_core.specs.Plans.{is_ask}
+use Rattle.ask_course.specs.Along.{Asked}
+use Rattle.domain_tidy.specs.Tidy.{planned}
+
+-- a boot that ended while its call was away is not followed by another before the call is done
+abbrev pub NoneSince : Option State → State → Type 0
+NoneSince None s = Unit {0}
+NoneSince (Some before) s = live_boot s ≡ None
+
+-- until a boot is made its commands are not sent
+abbrev pub IsUnsent : Option OpenOperation → OpenJob → Asked → Type 0
+IsUnsent o j a = IsUnsentUntilMade o j.boot (asks_made a.plan a.answers) a.answers
+
+-- a call on a guest: what it asks was planned where its boot was live
+pub record IsOnGuest (s : State) (j : OpenJob) (a : Asked) : Type 0 where
+  pub boot : ℕ
+  pub carried : j.boot ≡ Some boot
+  pub was_live : live_boot (planned_at s j) ≡ Some boot
+  pub ended : NoneSince j.before s
+  pub plan : a.plan ≡ planned (planned_at s j) j.call j.boot
+
+-- a call on the stored definition, or one on a guest
+abbrev pub IsOfKind : Bool → State → OpenJob → Asked → Type 0
+IsOfKind true s j a = Unit {0}
+IsOfKind false s j a = IsOnGuest s j a
+
+-- a call waits for an answer: while its boot is live, or where it is on the stored definition, what it
+-- plans to ask is what it would plan in the present state
+pub record IsAway (s : State) (o : Option OpenOperation) (j : OpenJob) (a : Asked) : Type 0 where
+  pub own : j.job ≡ job_of j.call
+  pub begins_none : begins j.call ≡ None
+  pub takes_none : takes_up j.call ≡ None
+  pub kind : IsOfKind (is_on_stored j.call) s j a
+  pub now : meets_ended s j.call j.boot ≡ false → a.plan ≡ planned s j.call j.boot
+  pub waits : is_ask (next_of (asks_left a.plan a.answers)) ≡ true
+  pub asked : length (asks_made a.plan a.answers) ≡ length a.answers
+  pub unsent : IsUnsent o j a
+  pub none_ended : list_any is_ended_answer a.answers ≡ false

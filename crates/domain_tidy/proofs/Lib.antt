@@ -1,0 +1,4 @@
+pub mod TidyCalls
+pub mod TidyMarks
+pub mod TidyPhases
+pub mod StoredPlans
