@@ -10,3 +10,6 @@ pub mod Prefix
 pub mod Settled
 pub mod Laws
 pub mod FileLaws
+pub mod ImageFile
+pub mod ImageSteps
+pub mod ImageLaws

@@ -4,6 +4,7 @@
 
 mod change;
 mod entry;
+mod image;
 mod kind;
 mod laws;
 mod operation;
@@ -11,6 +12,7 @@ mod version;
 
 pub use change::Change;
 pub use entry::Entry;
+pub use image::{Image, ImageFault, ImageField};
 pub use kind::BookKind;
 pub use laws::{
     changes_are_whole, empty_is_settled, have_own_files, holds_one_entry, holds_one_status,
