@@ -18,12 +18,17 @@ fn answering(alloc: Global) -> Result<Fake, NoMemory> {
 fn a_list_is_answered_in_order_and_then_the_link_is_lost(rt: HostRuntime) -> Result<(), Fail> {
     let mut fake = answering(rt.alloc())?;
     let first = fake.ask(&Command::QueryMemory);
-    assert!(rt; matches!(first, Answer::Ok(AnswerValue::Number(7))));
-    assert!(rt; matches!(fake.ask(&Command::Cont), Answer::Refused(1)));
-    assert!(rt; matches!(fake.ask(&Command::Stop), Answer::NoMemory));
-    assert!(rt; matches!(fake.ask(&Command::Stop), Answer::Lost));
-    assert!(rt; matches!(fake.ask(&Command::Reset), Answer::Ended(EndReason::Crashed)));
-    assert!(rt; matches!(fake.ask(&Command::Quit), Answer::Lost));
+    assert!(rt; matches!(&first, Answer::Ok(AnswerValue::Number(7))));
+    assert!(rt; matches!(&fake.ask(&Command::Cont), Answer::Refused(1)));
+    assert!(rt; matches!(&fake.ask(&Command::Stop), Answer::NoMemory));
+    assert!(rt; matches!(&fake.ask(&Command::Stop), Answer::Lost));
+    assert!(rt;
+        matches!(
+            &fake.ask(&Command::Reset),
+            Answer::Ended(EndReason::Crashed)
+        )
+    );
+    assert!(rt; matches!(&fake.ask(&Command::Quit), Answer::Lost));
     assert_eq!(rt;
         fake.exchanges().len(),
         5,
@@ -53,6 +58,6 @@ fn a_link_has_three_parts(rt: HostRuntime) -> Result<(), Fail> {
     };
     killer.kill();
     assert_eq!(rt; ears.hear(), Heard::Quiet);
-    assert!(rt; matches!(monitor.ask(&Command::CopyPoll), Answer::Ok(_)));
+    assert!(rt; matches!(&monitor.ask(&Command::CopyPoll), Answer::Ok(_)));
     Ok(())
 }
