@@ -1,0 +1,2 @@
+pub mod Outlasts
+pub mod Served
