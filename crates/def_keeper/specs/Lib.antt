@@ -1,0 +1,10 @@
+pub mod Rows
+pub mod Map
+pub mod Marks
+pub mod Keeping
+pub mod Trying
+pub mod Chapters
+pub mod Safe
+pub mod Calls
+pub mod Keeper
+pub mod Turns

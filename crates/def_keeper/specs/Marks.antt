@@ -1,0 +1,37 @@
+-- What the marks of a store say: which changes were tried, and which of them were acknowledged.
+use Rattle.std.specs.Prelude.{◌++◌, List, [], ◌∷◌, None, Some, Ok, map}
+use Rattle.history_spec.specs.declared.history.History.{History}
+use Rattle.store_spec.specs.declared.change.Change.{Change}
+use Rattle.store_spec.specs.Prefix.{Try}
+use Rattle.def_keeper.specs.declared.mark.StoreBase.{StoreBase}
+use Rattle.def_keeper.specs.declared.mark.StoreDeed.{StoreDeed}
+use Rattle.def_keeper.specs.declared.mark.StoreDeed.TheVariants as deed
+use Rattle.def_keeper.specs.declared.mark.StoreMark.{StoreMark}
+
+abbrev pub StoreHistory : Type 0
+StoreHistory = History StoreBase StoreMark
+
+-- the change that a deed tried, if it did
+abbrev pub try_of : StoreDeed → List Try
+try_of (deed.Tried c) = record { change = c; acknowledged = None } ∷ []
+try_of (deed.Changed c (Ok done) moment) = record { change = c; acknowledged = Some moment } ∷ []
+try_of other = []
+
+-- the changes that were tried, in order
+abbrev pub tries_in : List StoreMark → List Try
+tries_in [] = []
+tries_in (m ∷ ms) = try_of m.deed ++ tries_in ms
+
+-- the change that a deed acknowledged
+abbrev pub acknowledged_by : StoreDeed → List Change
+acknowledged_by (deed.Changed c (Ok done) moment) = c ∷ []
+acknowledged_by other = []
+
+-- the changes that were acknowledged, in order
+abbrev pub acknowledged_in : List StoreMark → List Change
+acknowledged_in [] = []
+acknowledged_in (m ∷ ms) = acknowledged_by m.deed ++ acknowledged_in ms
+
+-- the changes of some tries
+abbrev pub changes_of : List Try → List Change
+changes_of tries = map (λ t. t.change) tries
