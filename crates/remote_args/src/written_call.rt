@@ -135,6 +135,17 @@ fn write_numbered(
     finish_packet(writer)
 }
 
+/// The header of the call that asks this request, with this serial.
+pub fn call_words(request: &Request, serial: u32) -> Header
+    requires { HasArguments request.now }
+    ensures { IfSome (call_packet request.now serial) (λ p. p.header ≡ result) }
+{
+    match call_numbers(request) {
+        Some(numbers) => call_header(numbers, serial),
+        None => unreachable!(),
+    }
+}
+
 /// The call that asks this request, with this serial.
 pub fn write_call(
     alloc: Global,
