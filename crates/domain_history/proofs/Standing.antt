@@ -1,5 +1,5 @@
 -- What is in force after one mark more.
-use Rattle.std.proofs.Common.{◌≡◌, ℕ, List, [], ◌∷◌, ◌++◌, Bool, true, Option, None, Some, refl, sym, ap, ◌∙◌, subst, if◌then◌else◌, is_some, option_map}
+use Rattle.std.proofs.Common.{◌≡◌, ℕ, List, [], ◌∷◌, ◌++◌, Option, None, Some, refl, sym, ap, ◌∙◌, subst, if◌then◌else◌, is_some, option_map}
 use Rattle.history_spec.specs.declared.stamp.Stamp.{Stamp}
 use Rattle.domain_spec.specs.Types.{Call, EndReason, GuestEvent, Job, RefusalCode, Reply, State, Transition, Who}
 use Rattle.domain_spec.specs.declared.mark.HeldJobs.{HeldJobs}
@@ -13,10 +13,12 @@ use Rattle.domain_spec.specs.declared.step.Outcome.TheVariants as outcome
 use Rattle.domain_spec.specs.Begin.{begin_state, due_phase, named_call, taken_up_state}
 use Rattle.domain_spec.specs.Exit.{event_state, exit_state}
 use Rattle.domain_spec.specs.Fold.{after, at_base, job_at_exit, standing, taken_up}
-use Rattle.domain_spec.specs.Legal.{IsLawful, IsLegal, MarksLoss}
+use Rattle.domain_spec.specs.Legal.{IsLawful, IsLegal}
 use Rattle.domain_spec.specs.Phase.{without_operation}
 use Rattle.domain_spec.specs.Reading.{live_boot}
 use Rattle.domain_spec.proofs.LawProofs.{legal-append, standing-append}
+use Rattle.domain_tidy.specs.Tidy.{IsTidy}
+use Rattle.domain_tidy.proofs.TidyMarks.{every_mark}
 use Rattle.domain_history.specs.Numbered.{all_numbered, numbered}
 use Rattle.domain_history.specs.Standing.{Stands, in_force}
 
@@ -36,7 +38,7 @@ legal_more b marks m legal lawful =
     subst (λ (ms : List (Mark ℕ)). IsLegal (at_base b) ms) (sym (numbered_more marks m)) (legal-append (at_base b) (all_numbered marks) (numbered m ∷ []) legal (lawful, tt))
 
 -- what is in force, with the fields that the cell keeps
-abbrev stood : Base → List (Mark Stamp) → State → Option OpenJob → Option OpenOperation → Standing
+abbrev pub stood : Base → List (Mark Stamp) → State → Option OpenJob → Option OpenOperation → Standing
 stood b marks s j o =
     record { state = s; job = j; just_admitted = (in_force b marks).just_admitted; operation = o; lost = None; clients = (in_force b marks).clients }
 
@@ -62,6 +64,7 @@ one_mark b marks left m s t j k o p h lawful is_state is_job is_operation is_los
       job = ap (λ (x : Standing). x.job) more ∙ is_job;
       operation = ap (λ (x : Standing). x.operation) more ∙ is_operation;
       lost = ap (λ (x : Standing). x.lost) more ∙ is_lost;
+      tidy = subst (λ (x : State). IsTidy x) is_state (every_mark (stood b marks s j o) (numbered m) h.tidy);
     }
 
 -- a boot's end more
@@ -133,6 +136,6 @@ takes_over b marks left s t j k (Some o) p by who c h lawful e f g is_left =
     one_mark b marks left (mark.TakeUp by who c) s t j k (Some o) p h lawful (sym e) (sym f) (sym g) refl is_left
 
 -- a chapter without marks, in which no call is open
-pub opens : (b : Base) → Stands b [] b.state None b.operation
+pub opens : (b : Base) → IsTidy b.state → Stands b [] b.state None b.operation
 unfolding in_force
-opens b = record { legal = tt; state = refl; job = refl; operation = refl; lost = refl }
+opens b tidy = record { legal = tt; state = refl; job = refl; operation = refl; lost = refl; tidy = tidy }

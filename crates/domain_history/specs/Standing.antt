@@ -1,5 +1,5 @@
 -- What is in force after the marks of a chapter, as a cell keeps it.
-use Rattle.std.specs.Prelude.{◌≡◌, ℕ, List, Option, None, Some}
+use Rattle.std.specs.Prelude.{◌≡◌, ℕ, List, Option, None}
 use Rattle.history_spec.specs.declared.history.History.{History}
 use Rattle.history_spec.specs.declared.stamp.Stamp.{Stamp}
 use Rattle.domain_spec.specs.Types.{State}
@@ -10,6 +10,7 @@ use Rattle.domain_spec.specs.declared.standing.Base.{Base}
 use Rattle.domain_spec.specs.declared.standing.Standing.{Standing}
 use Rattle.domain_spec.specs.Fold.{at_base, standing}
 use Rattle.domain_spec.specs.Legal.{IsLegal}
+use Rattle.domain_tidy.specs.Tidy.{IsTidy}
 use Rattle.domain_history.specs.Numbered.{all_numbered}
 
 -- a chapter's history, and for how many more marks there is room
@@ -21,10 +22,12 @@ pub record HistoryWithRoom : Type 0 where
 unfoldable pub in_force : Base → List (Mark Stamp) → Standing
 in_force b marks = standing (at_base b) (all_numbered marks)
 
--- the history is legal, and what is in force after it is this; no loss is left to be marked
+-- the history is legal, and what is in force after it is this; no loss is left to be marked, and no domain
+-- without a stored definition has autostart
 pub record Stands (b : Base) (marks : List (Mark Stamp)) (s : State) (j : Option OpenJob) (o : Option OpenOperation) : Type 0 where
   pub legal : IsLegal (at_base b) (all_numbered marks)
   pub state : (in_force b marks).state ≡ s
   pub job : (in_force b marks).job ≡ j
   pub operation : (in_force b marks).operation ≡ o
   pub lost : (in_force b marks).lost ≡ None
+  pub tidy : IsTidy s

@@ -1,17 +1,21 @@
 // The history of a chapter, with what is in force after it.
-ghost use Rattle.std.specs.Prelude.{◌≡◌, ◌++◌, ◌∷◌, ◌+◌, ◌<◌, ◌≤◌, [], IfOk, None, OnErr, OnOk, if◌then◌else◌, is_some, option_map};
+ghost use Rattle.std.specs.Prelude.{◌≡◌, ◌^◌, ◌++◌, ◌∷◌, ◌+◌, ◌<◌, ◌≤◌, [], IfOk, None, OnErr, OnOk, if◌then◌else◌, is_some, length, option_map};
 ghost use Rattle.domain_spec.specs.Begin.{named_call, taken_up_state};
-ghost use Rattle.domain_spec.specs.Chapter.{first_base};
+ghost use Rattle.domain_spec.specs.Chapter.{first_base, next_base};
 ghost use Rattle.domain_spec.specs.Exit.{event_state, event_transitions};
 ghost use Rattle.domain_spec.specs.Fold.{job_at_exit, taken_up};
 ghost use Rattle.domain_spec.specs.Legal.{IsLawful};
 ghost use Rattle.domain_spec.specs.declared.mark.Mark.TheVariants as mark;
+ghost use Rattle.domain_tidy.specs.Tidy.{IsTidy};
+ghost use Rattle.domain_history.specs.Closing.{CanDo, CanPhase, done_in, phased_in, told_in};
 ghost use Rattle.domain_history.specs.Standing.{in_force};
 ghost use Rattle.domain_state.specs.Beginnings.{HasNumber};
 
-use crate::base::ChapterBase;
+use crate::base::{ChapterBase, KeptRegistration};
+use crate::closing::{close_call, close_phase};
 use crate::open::{LetIn, Underway};
 use core_rules::{end_guest, live_boot};
+use domain_driver::{CallParts, PhaseParts};
 use domain_spec::{HeldJobs, Mark, Outcome};
 use domain_state::{begin, due_phase, end_operation, follow_event, opened_state, take_up};
 use history_spec::Stamp;
@@ -19,8 +23,8 @@ use std::alloc::Global;
 use std::marker::Model;
 use std::mem;
 use virt_types::{
-    Call, DomainDef, EndReason, GuestEvent, Job, ListOf, NoMemory, RefusalCode, Reply, RoomyList,
-    State, Transition, TransitionList, TryCopy, Who,
+    AnswerList, AskList, Call, DomainDef, EndReason, GuestEvent, Job, ListOf, NoMemory,
+    RefusalCode, Reply, RoomyList, State, Transition, TransitionList, TryCopy, Who, both,
 };
 
 /// The history of a chapter, with what is in force after it.
@@ -87,10 +91,45 @@ fn take_over(
     }
 }
 
+// What a chapter begins with that comes after one with this at its end.
+fn next_base(
+    state: &State,
+    operation: &Option<Underway>,
+    registrations: ListOf<KeptRegistration>,
+) -> Result<ChapterBase, NoMemory>
+    ensures { IfOk result (λ base. base ≡ record { state = state.now; operation = operation.now; registrations = registrations }) }
+{
+    let (state, operation) = both(state.copy(), again(operation))?;
+    Ok(ChapterBase {
+        state,
+        operation,
+        registrations,
+    })
+}
+
+fn again(operation: &Option<Underway>) -> Result<Option<Underway>, NoMemory>
+    ensures { IfOk result (λ it. it ≡ operation.now) }
+{
+    match operation {
+        None => Ok(None),
+        Some(operation) => match operation.copy() {
+            Ok(operation) => Ok(Some(operation)),
+            Err(e) => Err(e),
+        },
+    }
+}
+
+fn empty(alloc: Global, room: usize) -> Result<RoomyList<Mark<Stamp>>, NoMemory>
+    ensures list { IfOk result (λ marks. marks.list ≡ []) }
+    ensures room { IfOk result (λ marks. room ≤ marks.room) }
+{
+    RoomyList::with_room(alloc, room)
+}
+
 impl Chapter {
     /// The first chapter of a domain, as the store was opened: with this stored definition and its
     /// autostart, or vacant.
-    #[tactic(auto, using(crate::proofs::Standing::opens))]
+    #[tactic(auto, using(crate::proofs::Standing::opens, domain_tidy::proofs::TidyCalls::opened_tidy))]
     pub fn opened(
         alloc: Global,
         stored: Option<DomainDef>,
@@ -114,11 +153,142 @@ impl Chapter {
         })
     }
 
-    /// The state.
+    /// The state. A domain without a stored definition has no autostart.
     pub fn state(&self) -> &State
-        ensures { result.now ≡ (in_force self.now.history.base self.now.history.marks).state }
+        ensures state { result.now ≡ (in_force self.now.history.base self.now.history.marks).state }
+        ensures tidy { IsTidy result.now }
     {
         &self.state
+    }
+
+    /// The call that is open.
+    pub fn job(&self) -> &Option<LetIn>
+        ensures { result.now ≡ (in_force self.now.history.base self.now.history.marks).job }
+    {
+        &self.job
+    }
+
+    /// The operation that is under way.
+    pub fn operation(&self) -> &Option<Underway>
+        ensures { result.now ≡ (in_force self.now.history.base self.now.history.marks).operation }
+    {
+        &self.operation
+    }
+
+    /// The number of the chapter.
+    pub fn chapter(&self) -> u64
+        ensures { result ≡ self.now.history.chapter }
+    {
+        self.chapter
+    }
+
+    /// How many marks the chapter has.
+    pub fn len(&self) -> usize
+        ensures { result ≡ length self.now.history.marks }
+    {
+        self.marks.as_slice().len()
+    }
+
+    /// The marks of the chapter.
+    pub fn marks(&self) -> &[Mark<Stamp>]
+        ensures { result.now ≡ self.now.history.marks }
+    {
+        self.marks.as_slice()
+    }
+
+    /// The open call is done with these answers; where its monitor was lost the end of its boot is
+    /// marked right after. `told` and `end` are room for what listeners are told of both.
+    pub fn done(
+        &mut self,
+        by: Stamp,
+        asks: AskList,
+        answers: AnswerList,
+        parts: CallParts,
+        told: TransitionList,
+        end: TransitionList,
+    ) -> Reply
+        requires room { 2 ≤ self.old.spare }
+        requires told { (told.list ≡ []) × (3 ≤ told.room) }
+        requires end { (end.list ≡ []) × (0 < end.room) }
+        requires can { CanDo (in_force self.old.history.base self.old.history.marks) (in_force self.old.history.base self.old.history.marks).job parts by asks answers }
+        ensures history { self.new.history ≡ record self.old.history { marks = self.old.history.marks ++ done_in (in_force self.old.history.base self.old.history.marks) by asks answers } }
+        ensures reply { result ≡ told_in (in_force self.old.history.base self.old.history.marks) answers }
+        ensures spare { self.old.spare ≤ self.new.spare + 2 }
+    {
+        match self.job.take() {
+            None => unreachable!(),
+            Some(job) => close_call(
+                &mut self.state,
+                &self.operation,
+                &mut self.marks,
+                job,
+                by,
+                asks,
+                answers,
+                parts,
+                told,
+                end,
+            ),
+        }
+    }
+
+    /// The due phase of the operation is done with these answers; where its monitor was lost the end
+    /// of its boot is marked right after. What the phase leads to is the operation's from now on.
+    pub fn phase(
+        &mut self,
+        by: Stamp,
+        asks: AskList,
+        answers: AnswerList,
+        parts: PhaseParts,
+        told: TransitionList,
+        end: TransitionList,
+    )
+        requires room { 2 ≤ self.old.spare }
+        requires told { (told.list ≡ []) × (3 ≤ told.room) }
+        requires end { (end.list ≡ []) × (0 < end.room) }
+        requires can { CanPhase (in_force self.old.history.base self.old.history.marks) (in_force self.old.history.base self.old.history.marks).operation parts by asks answers }
+        ensures history { self.new.history ≡ record self.old.history { marks = self.old.history.marks ++ phased_in (in_force self.old.history.base self.old.history.marks) by asks answers } }
+        ensures spare { self.old.spare ≤ self.new.spare + 2 }
+    {
+        close(&mut self.job);
+        match &mut self.operation {
+            None => unreachable!(),
+            Some(operation) => close_phase(
+                &mut self.state,
+                operation,
+                &mut self.marks,
+                by,
+                asks,
+                answers,
+                parts,
+                told,
+                end,
+            ),
+        }
+    }
+
+    /// The next chapter begins with what is there now, and with who is registered. It has room for so
+    /// many marks. Where there is no memory nothing changes.
+    pub fn rotate(
+        &mut self,
+        alloc: Global,
+        registrations: ListOf<KeptRegistration>,
+        room: usize,
+    ) -> Result<(), NoMemory>
+        requires none { (in_force self.old.history.base self.old.history.marks).job ≡ None }
+        requires number { self.old.history.chapter < 2 ^ 62 }
+        ensures history { OnOk result (self.new.history ≡ record { chapter = self.old.history.chapter + 1; base = next_base (in_force self.old.history.base self.old.history.marks) registrations; marks = [] }) }
+        ensures room { OnOk result (room ≤ self.new.spare) }
+        ensures err { OnErr result (self.new ≡ self.old) }
+    {
+        let (base, marks) = both(
+            next_base(&self.state, &self.operation, registrations),
+            empty(alloc, room),
+        )?;
+        self.base = base;
+        self.marks = marks;
+        self.chapter += 1;
+        Ok(())
     }
 
     /// A call is let in, under the number of this stamp.

@@ -4,8 +4,11 @@
 
 mod base;
 mod chapter;
+mod closing;
+mod held;
 mod open;
 
 pub use base::{ChapterBase, KeptRegistration};
 pub use chapter::Chapter;
+pub use held::{job_held, meets_another, operation_held, takes_up};
 pub use open::{LetIn, Underway};

@@ -1,13 +1,14 @@
 // An operation that is under way in a cell, and a call that was let in.
-ghost use Rattle.std.specs.Prelude.{◌≡◌, None, Some, if◌then◌else◌};
+ghost use Rattle.std.specs.Prelude.{◌≡◌, IfOk, None, Some, if◌then◌else◌};
 ghost use Rattle.domain_spec.specs.Fold.{carries, job_at_exit, taken_up};
 
 use domain_spec::{OpenOperation, Outcome};
 use domain_state::phase_taken_up;
 use history_spec::Stamp;
 use std::marker::Model;
+use std::mem;
 use std::snapshot::Snapshot;
-use virt_types::{Call, Job, State, Who};
+use virt_types::{Call, Job, NoMemory, State, TryCopy, Who, both};
 
 /// An operation that is under way. Contracts see it with the number of its pass; the number in
 /// `shown` says nothing.
@@ -87,6 +88,20 @@ impl Underway {
         &self.shown.outcome
     }
 
+    /// The same operation, for the next chapter.
+    pub fn copy(&self) -> Result<Underway, NoMemory>
+        ensures { IfOk result (λ it. it ≡ self.now) }
+    {
+        let (call, outcome) = both(self.shown.call.copy(), self.shown.outcome.copy())?;
+        Ok(Underway::begun(
+            self.by.again(),
+            self.shown.who,
+            call,
+            self.shown.boot,
+            outcome,
+        ))
+    }
+
     /// A phase led to this.
     pub fn go_on(&mut self, outcome: Outcome)
         ensures { self.new ≡ record self.old { outcome = outcome } }
@@ -141,6 +156,42 @@ impl LetIn {
             boot,
             before: None,
         }
+    }
+
+    /// Its caller.
+    pub fn who(&self) -> Who
+        ensures { result ≡ self.now.who }
+    {
+        self.who
+    }
+
+    /// Its job.
+    pub fn job(&self) -> Job
+        ensures { result ≡ self.now.job }
+    {
+        self.job
+    }
+
+    /// The call.
+    pub fn call(&self) -> &Call
+        ensures { result.now ≡ self.now.call }
+    {
+        &self.call
+    }
+
+    /// The boot that it carries.
+    pub fn boot(&self) -> Option<u64>
+        ensures { result ≡ self.now.boot }
+    {
+        self.boot
+    }
+
+    /// The call, without the rest.
+    pub fn into_call(self) -> Call
+        ensures { result ≡ self.call }
+    {
+        let mut job = self;
+        mem::replace(&mut job.call, Call::Suspend)
     }
 
     /// A boot ends in this state.
