@@ -12,4 +12,3 @@ pub mod Laws
 pub mod FileLaws
 pub mod ImageFile
 pub mod ImageSteps
-pub mod ImageLaws
