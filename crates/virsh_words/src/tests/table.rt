@@ -275,14 +275,19 @@ fn at_most_sixteen_domains_are_listened_to(rt: HostRuntime) -> Result<(), Fail> 
     Ok(())
 }
 
+// The words that start a domain with a name of so many bytes.
+fn starting(alloc: Global, bytes: usize) -> Result<Vec<String>, Fail> {
+    let mut words = words_of(alloc, "start")?;
+    words.push("a".repeat(alloc, bytes)?)?;
+    Ok(words)
+}
+
 #[test]
 fn a_word_has_at_most_65536_bytes(rt: HostRuntime) -> Result<(), Fail> {
-    let mut words = words_of(rt.alloc(), "start")?;
-    let alloc = rt.alloc();
-    words.push("a".repeat(alloc, 65_536)?)?;
-    assert!(rt; read_words(rt.alloc(), words.as_slice()).is_ok());
-    words[1].push('a')?;
-    match read_words(rt.alloc(), words.as_slice()) {
+    let longest = starting(rt.alloc(), 65_536)?;
+    assert!(rt; read_words(rt.alloc(), longest.as_slice()).is_ok());
+    let longer = starting(rt.alloc(), 65_537)?;
+    match read_words(rt.alloc(), longer.as_slice()) {
         Ok(_) => assert!(rt; false, "a word of 65,537 bytes was taken"),
         Err(fault) => {
             assert_eq!(rt; fault, OrNoMemory::Fault(WordFault { at: 1 }));
