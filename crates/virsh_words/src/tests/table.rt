@@ -25,60 +25,48 @@ fn refused(rt: &impl Abort, alloc: Global, line: &'static str, at: u64) -> Resul
     Ok(())
 }
 
-fn joined(alloc: Global, words: &[&str]) -> Result<String, AllocError> {
-    let mut line = String::new(alloc);
-    for word in words {
-        if !line.is_empty() {
-            line.push(' ')?;
-        }
-        line.push_str(word)?;
-    }
-    Ok(line)
+// A command of one word more.
+fn with_one(alloc: Global, verb: &'static str, one: &Text) -> Result<String, AllocError> {
+    format!(in alloc; "{verb} {}", one.as_str())
+}
+
+// A command of two words more.
+fn with_two(
+    alloc: Global,
+    verb: &'static str,
+    one: &Text,
+    other: &Text,
+) -> Result<String, AllocError> {
+    format!(in alloc; "{verb} {} {}", one.as_str(), other.as_str())
 }
 
 fn spelled_command(alloc: Global, command: &Command) -> Result<String, AllocError> {
     match command {
-        Command::Plain { verb } => joined(alloc, &[Form::Plain(*verb).word()]),
-        Command::File { verb, file } => joined(alloc, &[Form::File(*verb).word(), file.as_str()]),
-        Command::Restore { image } => joined(alloc, &["restore", image.as_str()]),
-        Command::Domain { verb, name } => {
-            joined(alloc, &[Form::Domain(*verb).word(), name.as_str()])
-        }
+        Command::Plain { verb } => String::from_str(alloc, Form::Plain(*verb).word()),
+        Command::File { verb, file } => with_one(alloc, Form::File(*verb).word(), file),
+        Command::Restore { image } => with_one(alloc, "restore", image),
+        Command::Domain { verb, name } => with_one(alloc, Form::Domain(*verb).word(), name),
         Command::Number { verb, name, number } => {
             format!(in alloc; "{} {} {number}", Form::Number(*verb).word(), name.as_str())
         }
         Command::SetMem { name, memory } => format!(in alloc; "setmem {} {memory}", name.as_str()),
-        Command::DomainFile { verb, name, file } => joined(
-            alloc,
-            &[Form::DomainFile(*verb).word(), name.as_str(), file.as_str()],
-        ),
-        Command::Image { verb, name, image } => joined(
-            alloc,
-            &[Form::Image(*verb).word(), name.as_str(), image.as_str()],
-        ),
+        Command::DomainFile { verb, name, file } => {
+            with_two(alloc, Form::DomainFile(*verb).word(), name, file)
+        }
+        Command::Image { verb, name, image } => {
+            with_two(alloc, Form::Image(*verb).word(), name, image)
+        }
         Command::Snapshot {
             verb,
             name,
             snapshot,
-        } => joined(
-            alloc,
-            &[
-                Form::Snapshot(*verb).word(),
-                name.as_str(),
-                snapshot.as_str(),
-            ],
-        ),
-        Command::Network { verb, name } => {
-            joined(alloc, &[Form::Network(*verb).word(), name.as_str()])
+        } => with_two(alloc, Form::Snapshot(*verb).word(), name, snapshot),
+        Command::Network { verb, name } => with_one(alloc, Form::Network(*verb).word(), name),
+        Command::Pool { verb, name } => with_one(alloc, Form::Pool(*verb).word(), name),
+        Command::VolCreate { pool, file } => with_two(alloc, "vol-create", pool, file),
+        Command::Volume { verb, pool, volume } => {
+            with_two(alloc, Form::Volume(*verb).word(), pool, volume)
         }
-        Command::Pool { verb, name } => joined(alloc, &[Form::Pool(*verb).word(), name.as_str()]),
-        Command::VolCreate { pool, file } => {
-            joined(alloc, &["vol-create", pool.as_str(), file.as_str()])
-        }
-        Command::Volume { verb, pool, volume } => joined(
-            alloc,
-            &[Form::Volume(*verb).word(), pool.as_str(), volume.as_str()],
-        ),
         Command::Events { count, listens } => {
             format!(in alloc; "events {count} of {}", listens.len())
         }
@@ -90,8 +78,8 @@ fn spelled(alloc: Global, job: &Job) -> Result<String, AllocError> {
     let command = spelled_command(alloc, &job.command)?;
     let option = job.option.map_or("", Flag::word);
     match &job.address {
-        Some(address) => joined(alloc, &["-c", address.as_str(), command.as_str(), option]),
-        None => joined(alloc, &[command.as_str(), option]),
+        Some(address) => format!(in alloc; "-c {} {command} {option}", address.as_str()),
+        None => format!(in alloc; "{command} {option}"),
     }
 }
 
