@@ -1,0 +1,76 @@
+// Calls and their answers.
+use super::link::{OPENED, PING, bytes_of, client, lookup, open, put};
+use packet::memory::{MemorySink, MemorySource};
+use std::alloc::Global;
+use std::process::Abort;
+use std::test::Fail;
+use virt_types::{NoMemory, RefusalCode, Reply, Value};
+
+#[test]
+fn a_call_is_sent_and_answered(rt: HostRuntime) -> Result<(), Fail> {
+    let bytes = bytes_of(rt.alloc(), &[&OPENED])?;
+    let mut client = client(
+        rt.alloc(),
+        MemorySource::new(bytes),
+        MemorySink::new(rt.alloc()),
+    )?;
+    assert!(rt; matches!(client.call(&open()), Ok(Reply::Ok(Value::Nothing))));
+    let sent = bytes_of(rt.alloc(), &[&[0x24, 0x2000_8086, 1, 1, 0, 1, 0, 0, 0]])?;
+    let (source, sink) = client.close();
+    assert_eq!(rt; sink.bytes(), sent.as_slice());
+    assert_eq!(rt; source.left().len(), 0);
+    Ok(())
+}
+
+// `no domain: demo`, as the second reply.
+const NO_DOMAIN: [u32; 23] = [
+    0x60,
+    0x2000_8086,
+    1,
+    23,
+    1,
+    2,
+    1,
+    42,
+    10,
+    1,
+    9,
+    0x6e6f_2064,
+    0x6f6d_6169,
+    0x6e00_0000,
+    2,
+    0,
+    1,
+    4,
+    0x6465_6d6f,
+    0,
+    0,
+    0,
+    0,
+];
+
+fn check(rt: &impl Abort, alloc: Global, most: usize) -> Result<(), NoMemory> {
+    let mut bytes = bytes_of(alloc, &[&PING, &OPENED, &NO_DOMAIN])?;
+    put(&mut bytes, &[0])?;
+    let source = MemorySource::new(bytes).at_most(most);
+    let mut client = client(alloc, source, MemorySink::new(alloc).at_most(most))?;
+    assert!(rt; matches!(client.call(&open()), Ok(Reply::Ok(Value::Nothing))));
+    match client.call(&lookup(alloc, "demo")?) {
+        Ok(Reply::No(refusal)) => {
+            assert!(rt; refusal.code == RefusalCode::NoDomain);
+            assert_eq!(rt; refusal.kept.as_str(), "demo");
+        }
+        _ => assert!(rt; false, "no refusal"),
+    }
+    let (_, sink) = client.close();
+    assert_eq!(rt; sink.bytes().len(), 0x24 + 0x24);
+    Ok(())
+}
+
+#[test]
+fn a_refusal_is_an_answer_in_any_pieces(rt: HostRuntime) -> Result<(), Fail> {
+    check(&rt, rt.alloc(), 4096)?;
+    check(&rt, rt.alloc(), 1)?;
+    check(&rt, rt.alloc(), 7)?;
+    Ok(())
+}
