@@ -1,4 +1,6 @@
 // Calls and their answers.
+ghost use Rattle.std.specs.Prelude.{◌<◌};
+
 use super::link::{OPENED, PING, bytes_of, client, list, open};
 use packet::memory::{MemorySink, MemorySource};
 use std::alloc::Global;
@@ -51,7 +53,9 @@ const REFUSED: [u32; 25] = [
     0,
 ];
 
-fn check(rt: &impl Abort, alloc: Global, most: usize) -> Result<(), NoMemory> {
+fn check(rt: &impl Abort, alloc: Global, most: usize) -> Result<(), NoMemory>
+    requires { 0 < most }
+{
     let bytes = bytes_of(alloc, &[&PING, &OPENED, &REFUSED])?;
     let source = MemorySource::new(bytes).at_most(most);
     let mut client = client(alloc, source, MemorySink::new(alloc).at_most(most))?;
