@@ -13,5 +13,5 @@ pub use form::{
     COMMANDS, DomainFileVerb, DomainVerb, FileVerb, Flag, Form, ImageVerb, NetworkVerb, NumberVerb,
     PlainVerb, PoolVerb, SnapshotVerb, VolumeVerb,
 };
-pub use laws::commands_have_their_words;
+pub use laws::{commands_have_their_words, table_shows_shut_off};
 pub use limits::{MOST_DIGITS, MOST_LISTENS, MOST_MEMORY_DIGITS, MOST_WORD_BYTES};

@@ -1,0 +1,4 @@
+pub mod Giving
+pub mod Hearing
+pub mod Known
+pub mod Missing

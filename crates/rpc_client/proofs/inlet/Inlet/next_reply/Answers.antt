@@ -1,0 +1,36 @@
+use Rattle.std.proofs.Common.{[], ◌∷◌, ◌++◌, arith}
+use Rattle.rpc_client.proofs.Hearing.{fewer, gets_after, hears_none, hears_then, stops_then}
+use Rattle.rpc_client.proofs.inlet.Inlet.next_reply.Goals as goal
+
+pub loop-reply-init : goal.loop-reply-init
+loop-reply-init g c = record { packets = []; hears = hears_none _ _ _; stands = c.requires; later = omega arith }
+
+pub look-requires : goal.look-requires
+look-requires g c = c.loop-reply.invariant.stands
+
+pub returns-in-Ok-Some-clause-ok : goal.returns-in-Ok-Some-clause-ok
+returns-in-Ok-Some-clause-ok g c =
+    let kept = c.loop-reply.invariant in
+    let came = rw c.in-Ok-Some.field-0-is at c.in-Ok-Some.ensures.ok in
+    gets_after _ _ _ _ _ kept.packets _ kept.hears came.0 came.1 came.2
+
+pub loop-reply-smaller : goal.loop-reply-smaller
+loop-reply-smaller g c =
+    let came = rw c.in-Ok-None.field-0-is at c.in-Ok-None.ensures.ok in
+    fewer _ _ _ _ came.0 came.1.passes c.in-Ok-None.ensures.stands.within
+
+pub loop-reply-preserved : goal.loop-reply-preserved
+loop-reply-preserved g c =
+    let kept = c.loop-reply.invariant in
+    let came = rw c.in-Ok-None.field-0-is at c.in-Ok-None.ensures.ok in
+    record {
+      packets = kept.packets ++ came.0 ∷ [];
+      hears = hears_then _ _ _ _ _ kept.packets (came.0 ∷ []) kept.hears came.1;
+      stands = c.in-Ok-None.ensures.stands;
+      later = omega (arith, kept.later, c.look.ensures.later);
+    }
+
+pub returns-in-Err-clause-err : goal.returns-in-Err-clause-err
+returns-in-Err-clause-err g c =
+    let kept = c.loop-reply.invariant in
+    stops_then _ _ _ _ _ kept.packets _ kept.hears kept.later c.in-Err.ensures.err

@@ -1,0 +1,6 @@
+pub mod Answer
+pub mod Calling
+pub mod Ends
+pub mod Inflow
+pub mod Inlets
+pub mod Messages

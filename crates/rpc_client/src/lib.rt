@@ -1,0 +1,17 @@
+//! The client's end of a connection: a call, and the reply to it.
+#![tactic(auto)]
+
+mod answer;
+mod client;
+mod ends;
+mod fault;
+mod inlet;
+mod kind;
+mod put;
+#[cfg(test)]
+mod tests;
+
+pub use client::Client;
+pub use fault::ClientFault;
+pub use kind::{EVENT, EVENT_LOST};
+pub use packet::{Sink, Source};
