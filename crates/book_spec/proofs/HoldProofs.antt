@@ -1,21 +1,18 @@
 -- How often each number holds each slot, after a call.
-use Rattle.std.proofs.Common.{◌≡◌, ◌≢◌, ◌⊎◌, ℕ, ◌+◌, ◌<◌, ◌==◌, ◌&&◌, not, Bool, true, false, cond, eqb, List, [], ◌∷◌, length, get_or, set, map, bytes_eq, is_none, filter, option_map, Option, None, Some, Result, Ok, Err, is_ok, zero, suc, ◌≤◌, refl, sym, ap, ◌∙◌, subst, inl, inr, ⊎_elim, eq-eqb, ne_eqb, eqb-true, slice_index, arith}
+use Rattle.std.proofs.Common.{◌≡◌, ◌≢◌, ◌⊎◌, ℕ, ◌+◌, ◌<◌, ◌==◌, ◌&&◌, not, Bool, true, false, cond, eqb, List, [], ◌∷◌, length, get_or, set, map, filter, option_map, Option, None, Some, Result, Ok, Err, is_ok, zero, suc, ◌≤◌, refl, sym, ap, ◌∙◌, subst, inl, inr, ⊎_elim, eq-eqb, ne_eqb, eqb-true, slice_index, arith}
 use Rattle.std.proofs.Math.Seq.{map-set_same}
 use Rattle.std.proofs.lemmas.Bool.{cond_both, cases_eq, cases_lt, and_parts, false≢true}
-use Rattle.std.proofs.lemmas.List.{length-map, map-set, get_or-set_same, get_or_past, set-set, set-get_or}
-use Rattle.std.proofs.lemmas.List.Quantifiers.{position-Some}
+use Rattle.std.proofs.lemmas.List.{map-set, get_or-set_same, get_or_past, set-set, set-get_or}
 use Rattle.history_spec.specs.Tally.{one_fewer}
 use Rattle.virt_types.specs.Front.{is_longer}
-use Rattle.virt_types.specs.Limits.{most_domains}
 use Rattle.virt_types.specs.declared.caller.Front.{Front}
 use Rattle.book_spec.specs.declared.list.Entry.{Entry}
 use Rattle.book_spec.specs.declared.list.ListCall.{ListCall}
 use Rattle.book_spec.specs.declared.list.ListCall.TheVariants as call
 use Rattle.book_spec.specs.declared.list.ListFault.{ListFault}
-use Rattle.book_spec.specs.declared.list.ListFault.TheVariants as fault
-use Rattle.book_spec.specs.Slots.{Slots, entry_in, least_free_slot, slot_of, name_of, uuid_of, held_by, told, let_go_by, kept, released, times_held, holds_of}
-use Rattle.book_spec.specs.ListCalls.{answer, slots_after, entry_after, claimed, claim_held, claim_new, claim_of_other, found, IsHold}
-use Rattle.book_spec.specs.ListLaws.{OthersHoldTheSame, HoldsMore, HoldsAdd, GivenIsHeld, ReleaseUndoes}
+use Rattle.book_spec.specs.Slots.{Slots, entry_in, slot_of, name_of, uuid_of, held_by, told, let_go_by, kept, released, times_held, holds_of}
+use Rattle.book_spec.specs.ListCalls.{answer, slots_after, entry_after, found, IsHold}
+use Rattle.book_spec.specs.ListLaws.{OthersHoldTheSame, HoldsMore, HoldsAdd, ReleaseUndoes}
 use Rattle.book_spec.proofs.SlotProofs.{slot_of-Some}
 
 abbrev times : ℕ → List ℕ → ℕ
@@ -94,10 +91,6 @@ more_at : (number slot : ℕ) (slots : Slots) (x : Option Entry) → times_held 
 unfolding holds_of
 more_at number slot slots x more = map-set (times_held number) slots slot x ∙ ap (set (map (times_held number) slots) slot) (more ∙ ap (λ (k : ℕ). k + 1) (sym (holds-at number slots slot)))
 
-abbrev ok_or_zero : Result ℕ ListFault → ℕ
-ok_or_zero (Ok n) = n
-ok_or_zero (Err e) = 0
-
 more_found : (number slot : ℕ) (key : Entry → List ℕ) (q : List ℕ) (slots : Slots) (c : ListCall) (o : Option ℕ) → ((e : Entry) → entry_after number c (Some e) ≡ Some (held_by number e)) → slot_of key q slots ≡ o → found o ≡ Ok slot → HoldsMore number slot slots (slots_after number c (Ok slot) slots)
 more_found number slot key q slots c None held is given = absurd (false≢true (ap (λ (r : Result ℕ ListFault). is_ok r) given))
 more_found number slot key q slots c (Some there) held is given =
@@ -106,6 +99,10 @@ more_found number slot key q slots c (Some there) held is given =
     let here : entry_in slots slot ≡ Some at.1 = ap (entry_in slots) (sym same) ∙ at.2 in
     more_at number slot slots (entry_after number c (entry_in slots slot))
     (ap (λ (x : Option Entry). times_held number (entry_after number c x)) here ∙ (ap (times_held number) (held at.1) ∙ (times-cons_same number number at.1.holders refl ∙ ap (λ (x : Option Entry). times_held number x + 1) (sym here))))
+  where
+    ok_or_zero : Result ℕ ListFault → ℕ
+    ok_or_zero (Ok n) = n
+    ok_or_zero (Err e) = 0
 
 times-claimed : (number : ℕ) (name uuid : List ℕ) (o : Option Entry) → times_held number (entry_after number (call.Claim name uuid) o) ≡ times_held number o + 1
 times-claimed number name uuid None = times-cons_same number number [] refl
@@ -117,55 +114,6 @@ holds_add number slot (call.HoldName name) slots hold given = more_found number 
 holds_add number slot (call.HoldUuid uuid) slots hold given = more_found number slot uuid_of uuid slots (call.HoldUuid uuid) (slot_of uuid_of uuid slots) (λ e. refl) refl given
 holds_add number slot (call.Claim name uuid) slots hold given = more_at number slot slots (entry_after number (call.Claim name uuid) (entry_in slots slot)) (times-claimed number name uuid (entry_in slots slot))
 holds_add number slot (call.Release s front occupied) slots hold given = absurd hold
-
--- what was given is one of the slots
-module _ (slots : Slots) (slot : ℕ) where
-  abbrev Gives : Result ℕ ListFault → Type 0
-  Gives r = r ≡ Ok slot
-
-  never : (e : ListFault) → Gives (Err e) → slot < length slots
-  never e given = absurd (false≢true (ap (λ (r : Result ℕ ListFault). is_ok r) given))
-
-  given_here : (there : ℕ) → there < length slots → Gives (Ok there) → slot < length slots
-  given_here there within given = subst (λ (n : ℕ). n < length slots) (ap (λ (r : Result ℕ ListFault). ok_or_zero r) given) within
-
-  found_within : (key : Entry → List ℕ) (q : List ℕ) (o : Option ℕ) → slot_of key q slots ≡ o → Gives (found o) → slot < length slots
-  found_within key q None is given = never fault.Absent given
-  found_within key q (Some there) is given = given_here there (slot_of-Some key q slots there is).0 given
-
-  held_within : (uuid : List ℕ) (there : ℕ) (o : Option Entry) → there < length slots → Gives (claim_held uuid there o) → slot < length slots
-  held_within uuid there None within given = never fault.Absent given
-  held_within uuid there (Some e) within given = cond_both (bytes_eq e.uuid uuid) (Ok there) (Err (fault.Exists e.name e.uuid)) (λ (r : Result ℕ ListFault). Gives r → slot < length slots)
-      (λ _ here. given_here there within here) (λ _ err. never (fault.Exists e.name e.uuid) err) given
-
-  other_within : (o : Option Entry) → Gives (claim_of_other o) → slot < length slots
-  other_within None given = never fault.Absent given
-  other_within (Some e) given = never (fault.Exists e.name e.uuid) given
-
-  new_within : (o : Option ℕ) → least_free_slot slots ≡ o → Gives (claim_new o) → slot < length slots
-  unfolding least_free_slot
-  new_within None is given = never (fault.Full most_domains) given
-  new_within (Some free) is given = given_here free (position-Some is_none slots free None is).0 given
-
-  claimed_within : (name uuid : List ℕ) (of_name of_uuid : Option ℕ) → slot_of name_of name slots ≡ of_name → Gives (claimed uuid slots of_name of_uuid) → slot < length slots
-  claimed_within name uuid (Some there) of_uuid is given = held_within uuid there (entry_in slots there) (slot_of-Some name_of name slots there is).0 given
-  claimed_within name uuid None (Some there) is given = other_within (entry_in slots there) given
-  claimed_within name uuid None None is given = new_within (least_free_slot slots) refl given
-
-  pub given_within : (c : ListCall) → IsHold c → Gives (answer c slots) → slot < length slots
-  unfolding answer
-  given_within (call.HoldName name) hold given = found_within name_of name (slot_of name_of name slots) refl given
-  given_within (call.HoldUuid uuid) hold given = found_within uuid_of uuid (slot_of uuid_of uuid slots) refl given
-  given_within (call.Claim name uuid) hold given = claimed_within name uuid (slot_of name_of name slots) (slot_of uuid_of uuid slots) refl given
-  given_within (call.Release s front occupied) hold given = absurd hold
-
-pub given_is_held : GivenIsHeld
-unfolding holds_of
-given_is_held number slot c slots hold given =
-    let holds : List ℕ = map (times_held number) slots in
-    let within : slot < length holds = subst (λ (n : ℕ). slot < n) (sym (length-map slots (times_held number))) (given_within slots slot c hold given) in
-    let more : get_or (holds_of number (slots_after number c (Ok slot) slots)) slot 0 ≡ get_or holds slot 0 + 1 = ap (λ (l : List ℕ). get_or l slot 0) (holds_add number slot c slots hold given) ∙ get_or-set_same holds slot (get_or holds slot 0 + 1) 0 within in
-    omega (arith, more)
 
 fewer_at : (number slot : ℕ) (front : Front) (occupied : Bool) (slots : Slots) (o : Option Entry) → entry_in slots slot ≡ o → 0 < times_held number o → times_held number (released number front occupied o) + 1 ≡ times_held number o
 fewer_at number slot front occupied slots None is some = absurd (omega (arith, some))

@@ -27,10 +27,6 @@ HoldsMore number slot old new = holds_of number new ≡ slice_set (holds_of numb
 abbrev pub HoldsAdd : Type 0
 HoldsAdd = (number slot : ℕ) (c : ListCall) (slots : Slots) → IsHold c → answer c slots ≡ Ok slot → HoldsMore number slot slots (slots_after number c (Ok slot) slots)
 
--- what it gave is held then, so that it can be released
-abbrev pub GivenIsHeld : Type 0
-GivenIsHeld = (number slot : ℕ) (c : ListCall) (slots : Slots) → IsHold c → answer c slots ≡ Ok slot → 0 < slice_index (holds_of number (slots_after number c (Ok slot) slots)) slot
-
 -- a release undoes one hold: the slot was held once more before
 abbrev pub ReleaseUndoes : Type 0
 ReleaseUndoes = (number slot : ℕ) (front : Front) (occupied : Bool) (slots : Slots) → 0 < slice_index (holds_of number slots) slot

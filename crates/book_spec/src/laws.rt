@@ -1,5 +1,5 @@
 // Laws of the definitions: each function's contract is one, and its body does nothing.
-ghost use Rattle.book_spec.specs.ListLaws.{FreeAreSlots, GivenIsHeld, HoldsAdd, OthersHoldTheSame, ReleaseUndoes, SlotsStay};
+ghost use Rattle.book_spec.specs.ListLaws.{FreeAreSlots, HoldsAdd, OthersHoldTheSame, ReleaseUndoes, SlotsStay};
 
 /// In slots of which none is held no two domains have one name, or one identifier.
 pub fn free_are_slots()
@@ -19,11 +19,6 @@ pub fn others_hold_the_same()
 /// A hold or a claim that gives a slot holds that slot once more, and no other.
 pub fn holds_add()
     ensures { HoldsAdd }
-{}
-
-/// What a hold or a claim gave is held then, so that it can be released.
-pub fn given_is_held()
-    ensures { GivenIsHeld }
 {}
 
 /// A release undoes one hold of its pass.

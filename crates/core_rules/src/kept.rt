@@ -1,5 +1,6 @@
 // Room for the text that a refusal keeps, and the refusals that are written into it.
-ghost use Rattle.std.specs.Prelude.{◌≡◌, ◌+◌, ◌++◌, ◌≤◌, decimal, length};
+ghost use Rattle.std.specs.Prelude.{◌≡◌, ◌+◌, ◌++◌, ◌≤◌, IsCharBoundary, decimal, length, take};
+ghost use Rattle.std.specs.Str.Lossy.{utf8_valid_len};
 ghost use Rattle.std.specs.String.{string_bytes, string_capacity, string_len};
 ghost use Rattle.domain_spec.specs.Refusals.{bad_kick, bare, boots_spent, failed, guest_ended, invalid, list_full, out_of_range, refusal, stalled};
 ghost use Rattle.domain_spec.specs.Types.code;
@@ -12,9 +13,7 @@ use crate::reason::Reason;
 use itoa::Buffer;
 use std::alloc::Global;
 use std::marker::Model;
-use virt_types::{
-    DomainState, Live, MOST_KEPT_BYTES, Name, NoMemory, Refusal, RefusalCode, Text, kept_length,
-};
+use virt_types::{DomainState, Live, MOST_KEPT_BYTES, Name, NoMemory, Refusal, RefusalCode, Text, kept_length};
 
 /// Room for the longest text that a refusal keeps. A refusal that is written into it takes no memory.
 /// Contracts see nothing of it: one is as good as another.

@@ -51,10 +51,9 @@ fn ask_many<M: Monitor>(monitor: &mut M, times: u64) -> Option<()> {
     // Outside the loop: a command has room for a device's definition, and is slow to make.
     let command = Command::QueryMemory;
     for _ in 0..times {
-        let answer = monitor.ask(&command);
-        if !matches!(&answer, Answer::Ok(AnswerValue::Number(_))) {
+        let Answer::Ok(AnswerValue::Number(_)) = monitor.ask(&command) else {
             return None;
-        }
+        };
     }
     Some(())
 }

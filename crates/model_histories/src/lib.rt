@@ -20,3 +20,6 @@ pub use chapter::{at_base, first_base, next_base};
 pub use history::{Verdict, judge, standing_after, state_after};
 pub use legal::is_lawful;
 pub use listener::{owed, owed_at_base, owed_since};
+
+#[test]
+fn nothing_at_all() {}

@@ -13,7 +13,6 @@ use Rattle.book_spec.specs.declared.list.Entry.{Entry}
 use Rattle.book_spec.specs.declared.list.ListFault.{ListFault}
 use Rattle.book_spec.specs.declared.list.ListFault.TheVariants as fault
 use Rattle.book_spec.proofs.SlotProofs.{slot_of-Some}
-use Rattle.book_spec.proofs.HoldProofs.{given_within}
 use Rattle.book_spec.specs.declared.list.ListCall.TheVariants as call
 use Rattle.book_spec.specs.Slots.{Slots, all_holders, entry_in, least_free_slot, slot_of, name_of, uuid_of}
 use Rattle.book_spec.specs.ListCalls.{answer, claim_held, claim_new, claim_of_other, claimed, found, slots_after}
@@ -138,14 +137,19 @@ module _ (name uuid : List ℕ) (slots : Slots) (slot : ℕ) (gone : entry_in sl
   new-other None given = false≢true (ap (λ (r : Result ℕ ListFault). is_ok r) given)
   new-other (Some e) given = false≢true (ap (λ (r : Result ℕ ListFault). is_ok r) given)
 
-  new-by : (of_name of_uuid : Option ℕ) → slot < length slots → slot_of name_of name slots ≡ of_name → slot_of uuid_of uuid slots ≡ of_uuid → claimed uuid slots of_name of_uuid ≡ Ok slot → IsNew slot name uuid slots
-  new-by (Some there) of_uuid within is_name is_uuid given = let at = slot_of-Some name_of name slots there is_name in absurd (new-held there at.1 at.2 (ap (claim_held uuid there) (sym at.2) ∙ given))
-  new-by None (Some there) within is_name is_uuid given = absurd (new-other (entry_in slots there) given)
-  new-by None None within is_name is_uuid given = record { within = within; free = gone; name_is_new = is_name; uuid_is_new = is_uuid }
+  new-free : (o : Option ℕ) → least_free_slot slots ≡ o → claim_new o ≡ Ok slot → slot < length slots
+  unfolding least_free_slot ok_or_zero
+  new-free None is given = absurd (false≢true (ap (λ (r : Result ℕ ListFault). is_ok r) given))
+  new-free (Some free) is given = subst (λ (n : ℕ). n < length slots) (ap ok_or_zero given) (position-Some is_none slots free None is).0
+
+  new-by : (of_name of_uuid : Option ℕ) → slot_of name_of name slots ≡ of_name → slot_of uuid_of uuid slots ≡ of_uuid → claimed uuid slots of_name of_uuid ≡ Ok slot → IsNew slot name uuid slots
+  new-by (Some there) of_uuid is_name is_uuid given = let at = slot_of-Some name_of name slots there is_name in absurd (new-held there at.1 at.2 (ap (claim_held uuid there) (sym at.2) ∙ given))
+  new-by None (Some there) is_name is_uuid given = absurd (new-other (entry_in slots there) given)
+  new-by None None is_name is_uuid given = record { within = new-free (least_free_slot slots) refl given; free = gone; name_is_new = is_name; uuid_is_new = is_uuid }
 
   pub new-given : answer (call.Claim name uuid) slots ≡ Ok slot → IsNew slot name uuid slots
   unfolding answer
-  new-given given = new-by (slot_of name_of name slots) (slot_of uuid_of uuid slots) (given_within slots slot (call.Claim name uuid) tt given) refl refl given
+  new-given given = new-by (slot_of name_of name slots) (slot_of uuid_of uuid slots) refl refl given
 
 -- a release answers its slot
 pub answer-release : (slot : ℕ) (front : Front) (occupied : Bool) (slots : Slots) → answer (call.Release slot front occupied) slots ≡ Ok slot

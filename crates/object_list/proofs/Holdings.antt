@@ -16,11 +16,54 @@ use Rattle.book_spec.specs.Slots.{Slots, entry_in, slot_of, name_of, uuid_of, le
 use Rattle.book_spec.specs.ListCalls.{answer, found, claimed, claim_held, claim_of_other, claim_new, slots_after, IsHold}
 use Rattle.book_spec.specs.ListHistory.{ListHistory, slots_of, with_call, LeavesMark}
 use Rattle.book_spec.proofs.SlotProofs.{slot_of-Some}
-use Rattle.book_spec.proofs.HoldProofs.{given_within, release_undoes}
+use Rattle.book_spec.proofs.HoldProofs.{release_undoes}
 use Rattle.object_list.specs.Holding.{remembered, with_held, HoldsAll}
 use Rattle.object_list.specs.Turns.{one_more}
 use Rattle.object_list.proofs.Chronicles.{slots_of-call, answer-release}
 use Rattle.object_list.proofs.Turning.{after_asked}
+
+ok_or_zero : Result ℕ ListFault → ℕ
+ok_or_zero (Ok n) = n
+ok_or_zero (Err e) = 0
+
+not_ok : {P : Type 0} (e : ListFault) (slot : ℕ) → Err e ≡ Ok slot → P
+not_ok e slot given = absurd (false≢true (ap (λ (r : Result ℕ ListFault). is_ok r) given))
+
+-- a slot that is given is one of the slots
+module _ (slots : Slots) (slot : ℕ) where
+  within_found : (key : Entry → List ℕ) (q : List ℕ) (o : Option ℕ) → slot_of key q slots ≡ o → found o ≡ Ok slot → slot < length slots
+  unfolding ok_or_zero
+  within_found key q None is given = not_ok fault.Absent slot given
+  within_found key q (Some there) is given = subst (λ (n : ℕ). n < length slots) (ap ok_or_zero given) (slot_of-Some key q slots there is).0
+
+  within_held : (uuid : List ℕ) (there : ℕ) (o : Option Entry) → there < length slots → claim_held uuid there o ≡ Ok slot → slot < length slots
+  unfolding ok_or_zero
+  within_held uuid there None lt given = not_ok fault.Absent slot given
+  within_held uuid there (Some e) lt given = ⊎_elim
+      (λ (same : bytes_eq e.uuid uuid ≡ true). subst (λ (n : ℕ). n < length slots) (ap ok_or_zero (sym (cond-true (bytes_eq e.uuid uuid) (Ok there) (Err (fault.Exists e.name e.uuid)) same) ∙ given)) lt)
+      (λ (differs : bytes_eq e.uuid uuid ≡ false). not_ok (fault.Exists e.name e.uuid) slot (sym (cond-false (bytes_eq e.uuid uuid) (Ok there) (Err (fault.Exists e.name e.uuid)) differs) ∙ given))
+      (cases_Bool (bytes_eq e.uuid uuid))
+
+  within_other : (o : Option Entry) → claim_of_other o ≡ Ok slot → slot < length slots
+  within_other None given = not_ok fault.Absent slot given
+  within_other (Some e) given = not_ok (fault.Exists e.name e.uuid) slot given
+
+  within_new : (o : Option ℕ) → least_free_slot slots ≡ o → claim_new o ≡ Ok slot → slot < length slots
+  unfolding least_free_slot ok_or_zero
+  within_new None is given = not_ok (fault.Full 256) slot given
+  within_new (Some free) is given = subst (λ (n : ℕ). n < length slots) (ap ok_or_zero given) (position-Some is_none slots free None is).0
+
+  within_claimed : (name uuid : List ℕ) (of_name of_uuid : Option ℕ) → slot_of name_of name slots ≡ of_name → claimed uuid slots of_name of_uuid ≡ Ok slot → slot < length slots
+  within_claimed name uuid (Some there) of_uuid is given = within_held uuid there (entry_in slots there) (slot_of-Some name_of name slots there is).0 given
+  within_claimed name uuid None (Some there) is given = within_other (entry_in slots there) given
+  within_claimed name uuid None None is given = within_new (least_free_slot slots) refl given
+
+  pub answer-within : (c : ListCall) → IsHold c → answer c slots ≡ Ok slot → slot < length slots
+  unfolding answer
+  answer-within (call.HoldName name) hold given = within_found name_of name (slot_of name_of name slots) refl given
+  answer-within (call.HoldUuid uuid) hold given = within_found uuid_of uuid (slot_of uuid_of uuid slots) refl given
+  answer-within (call.Claim name uuid) hold given = within_claimed name uuid (slot_of name_of name slots) (slot_of uuid_of uuid slots) refl given
+  answer-within (call.Release s front occupied) hold given = absurd hold
 
 holds-length : (number : ℕ) (slots : Slots) → length (holds_of number slots) ≡ length slots
 unfolding holds_of
@@ -43,8 +86,8 @@ more-at share s slot within = ⊎_elim
 pub holds-hold : (c : ListCall) → IsHold c → (slot : ℕ) (old new : ListHistory) (held : List ℕ) → HoldsAll old held → answer c (slots_of old) ≡ Ok slot → LeavesMark {A = ℕ} 0 c (Ok slot) old new → HoldsAll new (held ++ slot ∷ [])
 holds-hold c hold slot old new held all given left s =
     let share : List ℕ = holds_of 0 (slots_of old) in
-    let after : holds_of 0 (slots_of new) ≡ one_more slot share = (after_asked 0 c (Ok slot) old new hold given left).1 in
-    let within : slot < length share = subst (λ (n : ℕ). slot < n) (sym (holds-length 0 (slots_of old))) (given_within (slots_of old) slot c hold given) in
+    let after : holds_of 0 (slots_of new) ≡ one_more slot share = after_asked 0 c (Ok slot) old new hold given left in
+    let within : slot < length share = subst (λ (n : ℕ). slot < n) (sym (holds-length 0 (slots_of old))) (answer-within (slots_of old) slot c hold given) in
     omega (arith, all s, remembered_more s slot held, more-at share slot s within, ap (λ (l : List ℕ). slice_index l s) after)
 
 -- where no slot was given, all is as before

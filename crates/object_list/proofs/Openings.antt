@@ -1,12 +1,11 @@
 -- The list, opened with domains one after the other.
-use Rattle.std.proofs.Common.{◌≡◌, ℕ, ◌+◌, ◌-◌, ◌<◌, ◌≤◌, List, [], ◌∷◌, ◌++◌, length, length-append, length-take-le, get_or, set, take, map, replicate, true, Option, None, Some, refl, sym, ap, ◌∙◌, subst, ⊎_elim, append_assoc, zero, suc, arith}
+use Rattle.std.proofs.Common.{◌≡◌, ℕ, ◌+◌, ◌-◌, ◌<◌, ◌≤◌, List, [], ◌∷◌, ◌++◌, length, length-append, length-take-le, get_or, set, take, map, replicate, true, Option, None, Some, refl, sym, ap, ◌∙◌, subst, ⊎_elim, append_assoc, suc, arith}
 use Rattle.std.specs.Option.{unwrap_or}
 use Rattle.std.proofs.lemmas.Bool.{cases_lt}
 use Rattle.std.proofs.lemmas.Option.{none-some}
 use Rattle.std.proofs.lemmas.List.{length-map, map-append, length-replicate, get_or-replicate, get_or_append_left, get_or-append_right, get_or-take, take_more, set_at, get_or_past, get_or-map}
 use Rattle.book_spec.specs.declared.list.Entry.{Entry}
-use Rattle.book_spec.specs.ListHistory.{slots_of}
-use Rattle.book_spec.specs.Slots.{Slots, entry_in, free_slots, holds_of, new_entry, no_holds, slot_of, name_of, times_held, uuid_of}
+use Rattle.book_spec.specs.Slots.{Slots, entry_in, free_slots, new_entry, slot_of, name_of, uuid_of}
 use Rattle.book_spec.proofs.SlotProofs.{slot_of-Some}
 use Rattle.object_list.specs.declared.slot_name.FoundDomain.{FoundDomain}
 use Rattle.object_list.specs.Opening.{opened, opened_entry, AreDistinct, CanOpen}
@@ -98,20 +97,3 @@ module _ (found : List FoundDomain) (i : ℕ) (d : FoundDomain) (can : CanOpen f
 
   pub next-opened : (new : Slots) → new ≡ set table i (Some row) → new ≡ opened (take (i + 1) found)
   next-opened new put = opened-next found i d can within new (put ∙ (λ j. set (so_far j) i (Some (row_is j))))
-
--- nobody holds what was found
-zeros_only : (number : ℕ) (k : ℕ) → map (times_held number) (replicate k nothing) ≡ replicate k 0
-zeros_only number zero = refl
-zeros_only number (suc k) = ap (λ (l : List ℕ). 0 ∷ l) (zeros_only number k)
-
-zeros_after : (number : ℕ) (ds : List FoundDomain) (k : ℕ) → map (times_held number) (map put_in ds ++ replicate k nothing) ≡ replicate (length ds + k) 0
-zeros_after number [] k = zeros_only number k ∙ ap (λ (n : ℕ). replicate n 0) (omega arith)
-zeros_after number (d ∷ ds) k =
-    let one : suc (length ds + k) ≡ length (d ∷ ds) + k = omega arith in
-    ap (λ (l : List ℕ). 0 ∷ l) (zeros_after number ds k) ∙ ap (λ (n : ℕ). replicate n 0) one
-
-pub nobody_holds : (number : ℕ) (ds : List FoundDomain) → length ds ≤ 256 → holds_of number (slots_of (record { chapter = 0; base = opened ds; marks = [] })) ≡ no_holds
-unfolding slots_of holds_of opened no_holds
-nobody_holds number ds few =
-    let all : length ds + rest ds ≡ 256 = omega (arith, few) in
-    zeros_after number ds (rest ds) ∙ ap (λ (k : ℕ). replicate k 0) all

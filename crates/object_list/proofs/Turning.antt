@@ -18,7 +18,7 @@ use Rattle.book_spec.specs.Slots.{Slots, holds_of}
 use Rattle.book_spec.specs.ListCalls.{answer, slots_after, IsHold}
 use Rattle.book_spec.specs.ListHistory.{ListHistory, slots_of, open_chapter, with_call, LeavesMark}
 use Rattle.book_spec.specs.ListLaws.{HoldsMore}
-use Rattle.book_spec.proofs.HoldProofs.{others_hold_the_same, holds_add, given_is_held, release_undoes}
+use Rattle.book_spec.proofs.HoldProofs.{others_hold_the_same, holds_add, release_undoes}
 use Rattle.object_list.specs.Keeping.{meaning, no_mark_lowers, new_base_keeps}
 use Rattle.object_list.specs.Table.{Holds}
 use Rattle.object_list.specs.Turns.{ListPassed, marks_of, one_more, Shares, HasAsked, HasReleased}
@@ -68,8 +68,7 @@ asked_changes number c (Err NoMemory) old new given left = nothing_changes meani
 -- the slots after a call
 pub after_asked : (number : ℕ) (c : ListCall) (result : Result ℕ (OrNoMemory ListFault)) (old new : ListHistory) → IsHold c → UnlessNoMemory result (answer c (slots_of old)) → LeavesMark number c result old new → Shares result (holds_of number (slots_of old)) (holds_of number (slots_of new))
 after_asked number c (Ok slot) old new hold given left =
-    let slots : slots_of new ≡ slots_after number c (Ok slot) (slots_of old) = ap slots_of left ∙ (slots_of-marked number c old ∙ ap (λ (r : Result ℕ ListFault). slots_after number c r (slots_of old)) given) in
-    (subst (λ (s : Slots). 0 < slice_index (holds_of number s) slot) (sym slots) (given_is_held number slot c (slots_of old) hold given), ap (holds_of number) slots ∙ holds_add number slot c (slots_of old) hold given)
+    ap (λ (h : ListHistory). holds_of number (slots_of h)) left ∙ (ap (holds_of number) (slots_of-marked number c old ∙ ap (λ (r : Result ℕ ListFault). slots_after number c r (slots_of old)) given) ∙ holds_add number slot c (slots_of old) hold given)
 after_asked number c (Err (Fault e)) old new hold given left =
     ap (λ (h : ListHistory). holds_of number (slots_of h)) left ∙ ap (holds_of number) (slots_of-marked number c old ∙ ap (λ (r : Result ℕ ListFault). slots_after number c r (slots_of old)) given)
 after_asked number c (Err NoMemory) old new hold given left = ap (λ (h : ListHistory). holds_of number (slots_of h)) left

@@ -1,9 +1,7 @@
 -- The table of slots: its indexes, its free slots and its count of holders say what its rows do.
-use Rattle.std.specs.Prelude.{◌≡◌, ℕ, ◌+◌, ◌<◌, ◌≤◌, ◌^◌, true, is_some, List, slice_index, slice_set, length, Option, None, Some, option_map, Result, Ok, Err}
+use Rattle.std.specs.Prelude.{◌≡◌, ℕ, ◌+◌, ◌<◌, ◌≤◌, ◌^◌, List, slice_index, slice_set, length, Option, None, Some, option_map, Result, Ok, Err}
 use Rattle.book_spec.specs.declared.list.Entry.{Entry}
 use Rattle.book_spec.specs.declared.list.ListCall.{ListCall}
-use Rattle.book_spec.specs.declared.list.ListFault.{ListFault}
-use Rattle.book_spec.specs.declared.list.ListFault.TheVariants.{Exists}
 use Rattle.book_spec.specs.ListCalls.{slots_after}
 use Rattle.book_spec.specs.Slots.{Slots, AreSlots, entry_in, slot_of, name_of, uuid_of, all_holders, holds_of, held_by}
 use Rattle.object_list.specs.declared.index.SlotIndex.{SlotIndex}
@@ -62,10 +60,3 @@ HoldsFound number (Err e) old new = new ≡ old
 abbrev pub TakesEffect : {E : Type 0} → ℕ → ListCall → Result ℕ E → Slots → Slots → Type 0
 TakesEffect number c (Ok slot) old new = new ≡ slots_after number c (Ok slot) old
 TakesEffect number c (Err e) old new = new ≡ old
-
--- where a claim of this answer may be out of memory: the answer names another domain, a slot was free that is taken, or
--- the holders can't be counted any more
-abbrev pub MayLackMemory : Result ℕ ListFault → Slots → Type 0
-MayLackMemory (Ok slot) slots = is_some (entry_in slots slot) ≡ true → 2 ^ 62 ≤ all_holders slots
-MayLackMemory (Err (Exists name uuid)) slots = Unit {0}
-MayLackMemory (Err other) slots = ⊥

@@ -1,5 +1,5 @@
 -- What a pass knows after a turn at the list.
-use Rattle.std.specs.Prelude.{◌≡◌, ℕ, ◌+◌, ◌<◌, Bool, List, [], ◌∷◌, slice_index, slice_set, Result, Ok, Err}
+use Rattle.std.specs.Prelude.{◌≡◌, ℕ, ◌+◌, Bool, List, [], ◌∷◌, slice_index, slice_set, Result, Ok, Err}
 use Rattle.history_spec.specs.Chapter.{tagged}
 use Rattle.turn_cell.specs.Passes.{Passed}
 use Rattle.turn_cell.specs.Turning.{Went}
@@ -28,9 +28,9 @@ marks_of number c (Err NoMemory) = []
 abbrev pub one_more : ℕ → List ℕ → List ℕ
 one_more slot share = slice_set share slot (slice_index share slot + 1)
 
--- the slot that was given is held once more, so that it can be released; nothing else that is held has changed
+-- the slot that was given is held once more; nothing else that is held has changed
 abbrev pub Shares : Result ℕ (OrNoMemory ListFault) → List ℕ → List ℕ → Type 0
-Shares (Ok slot) before after = (0 < slice_index after slot) × (after ≡ one_more slot before)
+Shares (Ok slot) before after = after ≡ one_more slot before
 Shares (Err e) before after = after ≡ before
 
 -- a pass, after a turn in which it asked for a slot: these slots it found, and they say what it is answered

@@ -8,7 +8,6 @@ mod holder;
 mod index;
 mod kept;
 mod list;
-mod opening;
 #[cfg(test)]
 mod reference;
 mod row;
@@ -17,12 +16,9 @@ mod story;
 mod table;
 #[cfg(test)]
 mod tests;
-#[cfg(test)]
-mod turn_tests;
 mod turns;
 
 pub use list::ObjectList;
-pub use opening::open;
 pub use slot_name::{FoundDomain, SlotName, SlotNameList};
 pub use turns::{
     Held, ListPass, ListTurn, claim, claim_in, hold_name, hold_name_in, hold_uuid, hold_uuid_in,

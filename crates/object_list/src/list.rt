@@ -1,4 +1,4 @@
-ghost use Rattle.std.specs.Prelude.{◌≡◌, ℕ, ◌<◌, ◌≤◌, ◌^◌, [], OnOk, OnErr, IfOk, Ok, Err, None, length};
+ghost use Rattle.std.specs.Prelude.{◌≡◌, ℕ, ◌<◌, ◌≤◌, ◌^◌, [], OnOk, OnErr, IfOk, Ok, Err, length};
 ghost use Rattle.virt_types.specs.Memory.{UnlessNoMemory};
 ghost use Rattle.virt_types.specs.declared.memory.OrNoMemory.TheVariants as or;
 ghost use Rattle.book_spec.specs.declared.list.ListCall.{ListCall};
@@ -8,7 +8,7 @@ ghost use Rattle.book_spec.specs.ListCalls.{answer, claim_held, claim_of_other, 
 ghost use Rattle.book_spec.specs.ListHistory.{LeavesMark, slots_of, with_call};
 ghost use Rattle.object_list.specs.Names.{AreNames};
 ghost use Rattle.object_list.specs.Opening.{CanOpen, opened};
-ghost use Rattle.object_list.specs.Table.{Holds, HoldsFound, MayLackMemory, TakesEffect};
+ghost use Rattle.object_list.specs.Table.{Holds, HoldsFound, TakesEffect};
 
 use crate::chronicle::Chronicle;
 use crate::row::Row;
@@ -81,14 +81,12 @@ impl ObjectList {
 
     /// Holds the slot of the domain of this name and identifier, or the least free one, which is
     /// that domain's from now on. `Exists` where one of the two is held with another; the name is
-    /// tested first. `Full` where neither is held, and all slots are. To hold a domain once more takes
-    /// no memory, nor does `Full`.
+    /// tested first. `Full` where neither is held, and all slots are.
     pub fn claim(&mut self, name: &Name, uuid: Uuid) -> Result<u32, OrNoMemory<ListFault>>
         ghost number: { ℕ }
         requires { self.old.chapter < 2 ^ 62 }
         ensures answer { UnlessNoMemory result (answer (call.Claim name.now uuid) (slots_of self.old)) }
         ensures marked { LeavesMark number (call.Claim name.now uuid) result self.old self.new }
-        ensures no_memory { result ≡ Err or.NoMemory → MayLackMemory (answer (call.Claim name.now uuid) (slots_of self.old)) (slots_of self.old) }
     {
         let held = claim_from(&mut self.table, name, uuid);
         mark_claim(&mut self.chronicle, name, uuid, &held);
@@ -229,7 +227,6 @@ fn claim_from(table: &mut Table, name: &Name, uuid: Uuid) -> Result<u32, OrNoMem
     ghost number: { ℕ }
     ensures answer { UnlessNoMemory result (answer (call.Claim name.now uuid) table.old) }
     ensures held { TakesEffect number (call.Claim name.now uuid) result table.old table.new }
-    ensures no_memory { result ≡ Err or.NoMemory → MayLackMemory (answer (call.Claim name.now uuid) table.old) table.old }
     ensures most { all_holders table.new ≤ 2 ^ 62 }
 {
     let has_room = table.has_room();
@@ -246,8 +243,7 @@ fn claim_from(table: &mut Table, name: &Name, uuid: Uuid) -> Result<u32, OrNoMem
 
 // The slot that a claim gives.
 fn slot_for(table: &Table, name: &Name, uuid: Uuid) -> Result<u32, OrNoMemory<ListFault>>
-    ensures answer { UnlessNoMemory result (answer (call.Claim name.now uuid) table.now) }
-    ensures no_memory { result ≡ Err or.NoMemory → MayLackMemory (answer (call.Claim name.now uuid) table.now) table.now }
+    ensures { UnlessNoMemory result (answer (call.Claim name.now uuid) table.now) }
 {
     if let Some(slot) = table.slot_of_name(name.as_bytes()) {
         return slot_with(table, slot, uuid);
@@ -265,8 +261,7 @@ fn slot_for(table: &Table, name: &Name, uuid: Uuid) -> Result<u32, OrNoMemory<Li
 
 // The slot, where what it holds has this identifier.
 fn slot_with(table: &Table, slot: u32, uuid: Uuid) -> Result<u32, OrNoMemory<ListFault>>
-    ensures answer { UnlessNoMemory result (claim_held uuid slot (entry_in table.now slot)) }
-    ensures no_memory { result ≡ Err or.NoMemory → MayLackMemory (claim_held uuid slot (entry_in table.now slot)) table.now }
+    ensures { UnlessNoMemory result (claim_held uuid slot (entry_in table.now slot)) }
 {
     match table.get(slot) {
         None => Err(OrNoMemory::Fault(ListFault::Absent)),
@@ -281,8 +276,7 @@ fn slot_with(table: &Table, slot: u32, uuid: Uuid) -> Result<u32, OrNoMemory<Lis
 
 // Of the name and the identifier one is held by what stands in this slot, with another.
 fn exists(table: &Table, slot: u32) -> Result<u32, OrNoMemory<ListFault>>
-    ensures answer { UnlessNoMemory result (claim_of_other (entry_in table.now slot)) }
-    ensures no_memory { result ≡ Err or.NoMemory → MayLackMemory (claim_of_other (entry_in table.now slot)) table.now }
+    ensures { UnlessNoMemory result (claim_of_other (entry_in table.now slot)) }
 {
     let Some(row) = table.get(slot) else {
         return Err(OrNoMemory::Fault(ListFault::Absent));
@@ -303,7 +297,6 @@ fn hold_or_put(table: &mut Table, slot: u32, name: &Name, uuid: Uuid) -> Result<
     requires given { answer (call.Claim name.now uuid) table.old ≡ Ok slot }
     ensures ok { OnOk result (table.new ≡ slots_after number (call.Claim name.now uuid) (Ok slot) table.old) }
     ensures err { OnErr result (table.new ≡ table.old) }
-    ensures no_memory { OnErr result (entry_in table.old slot ≡ None) }
     ensures most { all_holders table.new ≤ 2 ^ 62 }
 {
     if table.get(slot).is_some() {

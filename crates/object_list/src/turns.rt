@@ -7,7 +7,7 @@ ghost use Rattle.book_spec.specs.Slots.{all_holders};
 ghost use Rattle.book_spec.specs.ListCalls.{answer};
 ghost use Rattle.book_spec.specs.ListHistory.{LeavesMark, slots_of, with_call};
 ghost use Rattle.object_list.specs.Names.{AreNames};
-ghost use Rattle.object_list.specs.Table.{Holds, MayLackMemory};
+ghost use Rattle.object_list.specs.Table.{Holds};
 ghost use Rattle.object_list.specs.Turns.{HasAsked, HasReleased};
 
 use crate::list::ObjectList;
@@ -116,7 +116,6 @@ fn claim_as(turn: &mut ListTurn, name: &Name, uuid: Uuid) -> Held
     requires { turn.old.value.chapter < 2 ^ 62 }
     ensures answer { UnlessNoMemory result (answer (call.Claim name.now uuid) (slots_of turn.old.value)) }
     ensures marked { LeavesMark number (call.Claim name.now uuid) result turn.old.value turn.new.value }
-    ensures no_memory { result ≡ Err or.NoMemory → MayLackMemory (answer (call.Claim name.now uuid) (slots_of turn.old.value)) (slots_of turn.old.value) }
     ensures same { turn.new ≡ record turn.old { value = turn.new.value } }
 {
     turn.value().claim(name, uuid)
@@ -127,7 +126,6 @@ pub fn claim_in(turn: &mut ListTurn, name: &Name, uuid: Uuid) -> Held
     requires { turn.old.value.chapter < 2 ^ 62 }
     ensures answer { UnlessNoMemory result (answer (call.Claim name.now uuid) (slots_of turn.old.value)) }
     ensures marked { LeavesMark turn.old.pass.number (call.Claim name.now uuid) result turn.old.value turn.new.value }
-    ensures no_memory { result ≡ Err or.NoMemory → MayLackMemory (answer (call.Claim name.now uuid) (slots_of turn.old.value)) (slots_of turn.old.value) }
     ensures same { turn.new ≡ record turn.old { value = turn.new.value } }
 {
     claim_as(turn, name, uuid)

@@ -31,7 +31,7 @@ left_sure (Some f) left sure leaves = leaves sure
 pub up_to_date_alike : (os : List Operation) (left : Directory) → ((n : List ℕ) → IsDefinitionName n → IsSure (files_after os n)) → IsUpToDate os left → (n : List ℕ) → IsDefinitionName n → left n ≡ directory os n
 up_to_date_alike os left sure now n is = left_sure (files_after os n) (left n) (sure n is) (now n)
 
-pub same_kind_itself : (k l : BookKind) → k ≡ l → same_kind k l ≡ true
+same_kind_itself : (k l : BookKind) → k ≡ l → same_kind k l ≡ true
 same_kind_itself k l same = subst (λ (m : BookKind). same_kind k m ≡ true) same (itself k)
   where
     itself : (k : BookKind) → same_kind k k ≡ true
@@ -39,7 +39,7 @@ same_kind_itself k l same = subst (λ (m : BookKind). same_kind k m ≡ true) sa
     itself kind.Network = refl
     itself kind.Pool = refl
 
-pub kind_by_test : (k l : BookKind) → same_kind k l ≡ true → k ≡ l
+kind_by_test : (k l : BookKind) → same_kind k l ≡ true → k ≡ l
 kind_by_test kind.Domain kind.Domain is = refl
 kind_by_test kind.Domain kind.Network is = cc
 kind_by_test kind.Domain kind.Pool is = cc
@@ -59,11 +59,11 @@ either_false true true never = absurd (never refl refl)
 either_false true false never = refl
 either_false false b never = refl
 
-pub eq_of : (one other : List ℕ) → bytes_eq one other ≡ true → one ≡ other
+eq_of : (one other : List ℕ) → bytes_eq one other ≡ true → one ≡ other
 eq_of one other is = ⊎_elim (λ same. same) (λ differ. let unlike : true ≡ false = sym is ∙ bytes_eq_not one other differ in cc) (same_or_not one other)
 
 -- the change is of this definition, or of one with another file
-pub of_or_apart : (c : Change) (k : BookKind) (uuid : List ℕ) → IsUuid (uuid_of c) → IsUuid uuid
+of_or_apart : (c : Change) (k : BookKind) (uuid : List ℕ) → IsUuid (uuid_of c) → IsUuid uuid
     → ((is_of c k uuid ≡ true) × (definition_name k uuid ≡ definition_name (kind_of c) (uuid_of c)))
     ⊎ ((is_of c k uuid ≡ false) × (definition_name k uuid ≡ definition_name (kind_of c) (uuid_of c) → ⊥))
 of_or_apart c k uuid of u = ⊎_elim
@@ -84,11 +84,11 @@ pick_false : {A : Type 0} (b : Bool) (x y : A) → b ≡ false → cond b x y �
 pick_false true x y is = cc
 pick_false false x y is = refl
 
-pub changed_here : (c : Change) (map : Definitions) (k : BookKind) (uuid : List ℕ) → is_of c k uuid ≡ true → changed c map k uuid ≡ entry_of c
+changed_here : (c : Change) (map : Definitions) (k : BookKind) (uuid : List ℕ) → is_of c k uuid ≡ true → changed c map k uuid ≡ entry_of c
 unfolding changed
 changed_here c map k uuid is = pick_true (is_of c k uuid) (entry_of c) (map k uuid) is
 
-pub changed_else : (c : Change) (map : Definitions) (k : BookKind) (uuid : List ℕ) → is_of c k uuid ≡ false → changed c map k uuid ≡ map k uuid
+changed_else : (c : Change) (map : Definitions) (k : BookKind) (uuid : List ℕ) → is_of c k uuid ≡ false → changed c map k uuid ≡ map k uuid
 unfolding changed
 changed_else c map k uuid is = pick_false (is_of c k uuid) (entry_of c) (map k uuid) is
 

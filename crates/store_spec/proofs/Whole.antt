@@ -21,20 +21,20 @@ use Rattle.store_spec.proofs.Names.{draft_apart}
 use Rattle.store_spec.proofs.Operating.{bytes_eq_not, files_more, put_else, put_here}
 use Rattle.store_spec.proofs.Settling.{IsAside, IsChanging, Makes, changing, settled_aside, settled_synced}
 
-pub aside_write : (k : BookKind) (uuid content : List ℕ) → IsAside (op.Write (definition_draft k uuid) content)
+aside_write : (k : BookKind) (uuid content : List ℕ) → IsAside (op.Write (definition_draft k uuid) content)
 aside_write k uuid content = record {
   files = λ fs n is. put_else (definition_draft k uuid) n (Some (record { bytes = content; synced = false })) fs (draft_apart k uuid n is);
   writes_none = λ n is. bytes_eq_not n (definition_draft k uuid) (draft_apart k uuid n is);
 }
 
-pub aside_sync : (k : BookKind) (uuid : List ℕ) → IsAside (op.Sync (definition_draft k uuid))
+aside_sync : (k : BookKind) (uuid : List ℕ) → IsAside (op.Sync (definition_draft k uuid))
 aside_sync k uuid = record {
   files = λ fs n is. put_else (definition_draft k uuid) n (option_map as_synced (fs (definition_draft k uuid))) fs (draft_apart k uuid n is);
   writes_none = λ n is. refl;
 }
 
 -- a file that was written and synced
-pub synced_draft : (os : List Operation) (name content : List ℕ) → files_after ((os ++ op.Write name content ∷ []) ++ op.Sync name ∷ []) name ≡ Some (record { bytes = content; synced = true })
+synced_draft : (os : List Operation) (name content : List ℕ) → files_after ((os ++ op.Write name content ∷ []) ++ op.Sync name ∷ []) name ≡ Some (record { bytes = content; synced = true })
 synced_draft os name content =
     let first = os ++ op.Write name content ∷ [] in
     let wrote : files_after first name ≡ Some (record { bytes = content; synced = false }) =
@@ -43,7 +43,7 @@ synced_draft os name content =
     ∙ put_here name name (option_map as_synced (files_after first name)) (files_after first) refl
     ∙ ap (λ (f : Option File). option_map as_synced f) wrote
 
-pub makes_put : (os : List Operation) (k : BookKind) (uuid : List ℕ) (e : Entry) → IsChange (change.Put k uuid e)
+makes_put : (os : List Operation) (k : BookKind) (uuid : List ℕ) (e : Entry) → IsChange (change.Put k uuid e)
     → files_after os (definition_draft k uuid) ≡ Some (record { bytes = definition_bytes version.Two e; synced = true })
     → Makes os (op.Rename (definition_draft k uuid) (definition_name k uuid)) (change.Put k uuid e)
 makes_put os k uuid e good draft = record {
@@ -62,7 +62,7 @@ makes_put os k uuid e good draft = record {
     name : List ℕ
     name = definition_name k uuid
 
-pub makes_drop : (os : List Operation) (k : BookKind) (uuid : List ℕ) → Makes os (op.Remove (definition_name k uuid)) (change.Drop k uuid)
+makes_drop : (os : List Operation) (k : BookKind) (uuid : List ℕ) → Makes os (op.Remove (definition_name k uuid)) (change.Drop k uuid)
 makes_drop os k uuid = record {
   file = None;
   here = ap (λ (fs : Files). fs (definition_name k uuid)) (files_more os (op.Remove (definition_name k uuid))) ∙ put_here (definition_name k uuid) (definition_name k uuid) None (files_after os) refl;

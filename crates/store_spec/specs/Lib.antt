@@ -10,6 +10,3 @@ pub mod Prefix
 pub mod Settled
 pub mod Laws
 pub mod FileLaws
-pub mod ImageFile
-pub mod ImageSteps
-pub mod ImageLaws

@@ -4,7 +4,6 @@
 
 mod change;
 mod entry;
-mod image;
 mod kind;
 mod laws;
 mod operation;
@@ -12,7 +11,6 @@ mod version;
 
 pub use change::Change;
 pub use entry::Entry;
-pub use image::{Image, ImageFault, ImageField};
 pub use kind::BookKind;
 pub use laws::{
     changes_are_whole, empty_is_settled, have_own_files, holds_one_entry, holds_one_status,

@@ -14,12 +14,6 @@ const ASLEEP: u64 = 1;
 /// How many milliseconds a pass sleeps at most before it draws a ticket.
 const OUTSIDE_MILLIS: u64 = 10;
 
-/// How long a pass pauses between two looks at most, where nobody sleeps: so many turns of a loop.
-const PAUSE: u64 = 64;
-
-/// Pauses grow with those that sleep outside, up to so many of these.
-const MOST_COUNTED: u64 = 8;
-
 /// Those who sleep at a cell.
 #[derive(Drop)]
 pub struct Sleepers {
@@ -57,13 +51,6 @@ impl Sleepers {
 
     pub(crate) fn end_looking(&self) {
         self.looking.store(0, Ordering::SeqCst);
-    }
-
-    /// How long a pause between two looks may be: the more sleep outside, the longer. Where many want
-    /// turns, whoever takes them goes on for longer, and the turn is handed over less often.
-    pub(crate) fn longest_pause(&self) -> u64 {
-        let outside = self.outside.load(Ordering::SeqCst).min(MOST_COUNTED);
-        PAUSE + PAUSE * outside
     }
 
     /// Notes that a pass is about to sleep before it draws a ticket. It has to look once more

@@ -29,9 +29,6 @@ pub(crate) type Place<T> = Seat<Option<Home<T>>, ViewOf<T>>;
 /// How often a pass that waits for its turn looks before it sleeps.
 const LOOKS: u32 = 64;
 
-/// How often a pass looks whether it may draw a ticket, before it sleeps.
-const GLANCES: u32 = 16;
-
 /// How many milliseconds a rest takes where no mark is left.
 const REST_MILLIS: u64 = 100;
 
@@ -70,31 +67,21 @@ fn becomes_free<T: Kept>(board: &Board<T>, sleepers: &Sleepers) -> bool
     if !sleepers.begin_looking() {
         return false;
     }
-    let is_free = is_free_soon(board, sleepers.longest_pause());
+    let is_free = is_free_soon(board);
     sleepers.end_looking();
     is_free
 }
 
-// Each pause is twice as long as the one before, up to the longest: whoever takes turns is slowed down
-// by each look, and takes many in a row meanwhile.
-fn is_free_soon<T: Kept>(board: &Board<T>, longest: u64) -> bool
+fn is_free_soon<T: Kept>(board: &Board<T>) -> bool
     requires { board.now.table_id.words ≡ 3 }
 {
-    let mut pause: u64 = 1;
-    for _ in 0..GLANCES {
+    for _ in 0..LOOKS {
         if is_free(board) {
             return true;
         }
-        spin(pause);
-        pause = pause.saturating_mul(2).min(longest);
-    }
-    false
-}
-
-fn spin(times: u64) {
-    for _ in 0..times {
         spin_loop();
     }
+    false
 }
 
 // Nobody has a ticket.

@@ -209,6 +209,8 @@ pub struct DomainDef {
     pub memballoon: Option<Memballoon>,
 }
 
+// Written out, and not derived: so a proof meets one call where a definition is let go, and not a walk
+// over its fields. A function that holds two definitions took minutes to prove otherwise.
 impl Drop for DomainDef {
     fn drop(self) {
         let DomainDef {

@@ -1,9 +1,6 @@
 //! The words in which the whole system is said: names, texts, domains, calls and what they answer.
 #![tactic(auto)]
 
-// Types that hold memory have a written `Drop` and not a derived one: so a proof meets one call where a
-// value is let go, and not a walk over its fields and variants.
-
 mod answer;
 mod ask;
 mod boxed;

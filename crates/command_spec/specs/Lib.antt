@@ -1,4 +1,0 @@
-pub mod Commands
-pub mod Laws
-pub mod Lines
-pub mod Reading

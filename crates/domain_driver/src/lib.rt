@@ -1,0 +1,9 @@
+//! The driver as one: what any call and any phase of an operation asks, and what the answers give. Each
+//! is served by one of the driver's parts; this crate finds that part.
+#![tactic(auto)]
+
+mod calls;
+mod phases;
+
+pub use calls::{CallParts, finish, next, parts};
+pub use phases::{PhaseParts, finish_phase, next_phase, phase_parts};
