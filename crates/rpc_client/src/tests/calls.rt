@@ -1,5 +1,5 @@
 // Calls and their answers.
-use super::link::{OPENED, PING, bytes_of, client, lookup, open, put};
+use super::link::{OPENED, PING, bytes_of, client, list, open};
 use packet::memory::{MemorySink, MemorySource};
 use std::alloc::Global;
 use std::process::Abort;
@@ -22,27 +22,29 @@ fn a_call_is_sent_and_answered(rt: HostRuntime) -> Result<(), Fail> {
     Ok(())
 }
 
-// `no domain: demo`, as the second reply.
-const NO_DOMAIN: [u32; 23] = [
-    0x60,
+// `invalid argument: -1 0`, as the second reply.
+const REFUSED: [u32; 25] = [
+    0x64,
     0x2000_8086,
     1,
-    23,
+    21,
     1,
     2,
     1,
-    42,
+    8,
     10,
     1,
-    9,
-    0x6e6f_2064,
-    0x6f6d_6169,
-    0x6e00_0000,
+    16,
+    0x696e_7661,
+    0x6c69_6420,
+    0x6172_6775,
+    0x6d65_6e74,
     2,
     0,
     1,
     4,
-    0x6465_6d6f,
+    0x2d31_2030,
+    0,
     0,
     0,
     0,
@@ -50,20 +52,19 @@ const NO_DOMAIN: [u32; 23] = [
 ];
 
 fn check(rt: &impl Abort, alloc: Global, most: usize) -> Result<(), NoMemory> {
-    let mut bytes = bytes_of(alloc, &[&PING, &OPENED, &NO_DOMAIN])?;
-    put(&mut bytes, &[0])?;
+    let bytes = bytes_of(alloc, &[&PING, &OPENED, &REFUSED])?;
     let source = MemorySource::new(bytes).at_most(most);
     let mut client = client(alloc, source, MemorySink::new(alloc).at_most(most))?;
     assert!(rt; matches!(client.call(&open()), Ok(Reply::Ok(Value::Nothing))));
-    match client.call(&lookup(alloc, "demo")?) {
+    match client.call(&list(-1)) {
         Ok(Reply::No(refusal)) => {
-            assert!(rt; refusal.code == RefusalCode::NoDomain);
-            assert_eq!(rt; refusal.kept.as_str(), "demo");
+            assert!(rt; refusal.code == RefusalCode::InvalidArgument);
+            assert_eq!(rt; refusal.kept.as_str(), "-1 0");
         }
         _ => assert!(rt; false, "no refusal"),
     }
     let (_, sink) = client.close();
-    assert_eq!(rt; sink.bytes().len(), 0x24 + 0x24);
+    assert_eq!(rt; sink.bytes().len(), 0x24 + 0x20);
     Ok(())
 }
 

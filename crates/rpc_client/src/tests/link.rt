@@ -1,8 +1,12 @@
 // A client over memory, and the packets of its tests.
+ghost use Rattle.std.specs.Prelude.{◌≤◌, ◌+◌, length};
+ghost use Rattle.procedure_spec.specs.Arguments.{HasArguments, arguments};
+ghost use Rattle.wire_spec.specs.declared.message.TheConstants.{HEADER_LENGTH, MOST_BYTES};
+
 use crate::Client;
 use packet::memory::{MemorySink, MemorySource};
 use std::alloc::{AllocError, Global};
-use virt_types::{NoMemory, Request, Text};
+use virt_types::{NoMemory, Request};
 
 /// The reply to CONNECT_OPEN as the first call.
 pub(super) const OPENED: [u32; 7] = [0x1c, 0x2000_8086, 1, 1, 1, 1, 0];
@@ -75,15 +79,21 @@ pub(super) fn client(
     }
 }
 
-pub(super) fn open() -> Request {
+#[tactic(auto, unfolding(wire_spec::specs::Xdr::word))]
+pub(super) fn open() -> Request
+    ensures arguments { HasArguments result }
+    ensures fits { HEADER_LENGTH + length (arguments result) ≤ MOST_BYTES }
+{
     Request::ConnectOpen {
         name: None,
         flags: 0,
     }
 }
 
-pub(super) fn lookup(alloc: Global, name: &'static str) -> Result<Request, NoMemory> {
-    Ok(Request::DomainLookupByName {
-        name: Text::copy_of(alloc, name)?,
-    })
+#[tactic(auto, unfolding(wire_spec::specs::Xdr::word))]
+pub(super) fn list(most: i32) -> Request
+    ensures arguments { HasArguments result }
+    ensures fits { HEADER_LENGTH + length (arguments result) ≤ MOST_BYTES }
+{
+    Request::ListDefinedDomains { most }
 }
