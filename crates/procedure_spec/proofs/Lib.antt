@@ -6,11 +6,14 @@ pub mod Called
 pub mod Codes
 pub mod Found
 pub mod LinesAre
+pub mod ListParts
 pub mod Messages
 pub mod NameParts
+pub mod NumberedProofs
 pub mod Parts
 pub mod Refusals
 pub mod Requests
+pub mod ResultParts
 pub mod Shaped
 pub mod Targets
 pub mod Told

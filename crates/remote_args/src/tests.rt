@@ -8,6 +8,9 @@ use std::test::Fail;
 use virt_types::{Bytes, OrNoMemory, Refusal, RefusalCode, Request};
 use wire_spec::{Header, XdrFault};
 
+mod events;
+mod replies;
+
 // Words of four bytes, the highest first, as bytes.
 fn bytes_of(alloc: Global, words: &[u32]) -> Result<Vec<u8>, AllocError> {
     let mut bytes = Vec::new(alloc);
@@ -483,7 +486,5 @@ fn tells_the_first_wrong_place_of_a_reply(rt: HostRuntime) -> Result<(), Fail> {
             "at {words:?}"
         );
     }
-    let refused = reply_fault(rt.alloc(), &Request::ListAll, &[0])?;
-    assert_eq!(rt; refused, Some(ArgFault::Procedure));
     Ok(())
 }

@@ -1,7 +1,7 @@
 use Rattle.std.proofs.Common.{◌+◌, ◌≤◌, length, ap, arith}
 use Rattle.procedure_spec.proofs.NameParts.{bad_within}
-use Rattle.remote_args.proofs.NameLists.{string_fits}
-use Rattle.remote_args.proofs.result_reader.name.Goals as goal
+use Rattle.remote_args.proofs.EntryLists.{string_fits}
+use Rattle.remote_args.proofs.result_item.name.Goals as goal
 
 pub overflow_add-result : goal.overflow_add-result
 overflow_add-result c =
