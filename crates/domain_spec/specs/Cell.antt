@@ -13,11 +13,20 @@ use Rattle.domain_spec.specs.Open.{is_rest}
 use Rattle.domain_spec.specs.Phase.{phase_asked, phase_still_asked}
 use Rattle.domain_spec.specs.Sequential.{asked, still_asked}
 
--- who waits by which pass, and how many of its looks found it excluded
+-- a caller that waits, and how many of its looks found it excluded
 pub record Waiter : Type 0 where
-  pub number : ℕ
   pub who : Who
   pub looks : ℕ
+
+-- a pass by which a caller waits
+pub record WaitingPass : Type 0 where
+  pub number : ℕ
+  pub who : Who
+
+-- who waits: the callers, each once, as they came, and the passes by which they wait
+pub record Queue : Type 0 where
+  pub callers : List Waiter
+  pub passes : List WaitingPass
 
 -- what a guest did while a job was open; it is applied once none is
 pub record HeldEvent : Type 0 where
@@ -31,7 +40,7 @@ pub record Cell : Type 0 where
   pub marks : List (Mark ℕ)
   pub registrations : List Registration
   pub answers : List Answer
-  pub waiting : List Waiter
+  pub queue : Queue
   pub held : List HeldEvent
   pub ears : Option (ℕ × ℕ)
 
@@ -93,10 +102,14 @@ abbrev pub ears_of : Option (ℕ × ℕ) → ℕ → Option ℕ
 ears_of None n = None
 ears_of (Some ears) n = if ears.0 == n then Some ears.1 else None
 
+-- the caller that waits by this number
+abbrev pub waits_of : List WaitingPass → ℕ → Option Who
+waits_of passes n = option_map (λ p. p.who) (find (λ p. p.number == n) passes)
+
 -- what the cell keeps for this number
 abbrev pub share_of : Cell → ℕ → Share
 share_of c n = record {
-  waits = option_map (λ w. w.who) (find (λ w. w.number == n) c.waiting);
+  waits = waits_of c.queue.passes n;
   call = call_of (standing_of c) (standing_of c).job c.answers n;
   operation = operation_of (standing_of c).operation n;
   registrations = map (λ r. record { client = r.client; taken = r.taken }) (filter (λ r. r.number == n) c.registrations);

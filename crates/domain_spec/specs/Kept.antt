@@ -1,5 +1,5 @@
 -- What a cell keeps beside its history after a turn: who waits, which events are held, whose ears are out.
-use Rattle.std.specs.Prelude.{◌≡◌, ◌⊎◌, ℕ, ◌+◌, ◌==◌, List, [], ◌∷◌, ◌++◌, filter, length, min, nat_lt, not, ◌&&◌, Option, None, Some, if◌then◌else◌}
+use Rattle.std.specs.Prelude.{◌≡◌, ◌⊎◌, ℕ, ◌+◌, ◌==◌, List, [], ◌∷◌, ◌++◌, filter, find, length, min, nat_lt, not, option_map, unwrap_or, ◌&&◌, Option, None, Some, if◌then◌else◌}
 use Rattle.domain_spec.specs.Types.{Call, GuestEvent, Who}
 use Rattle.domain_spec.specs.declared.core_step.CoreStep.{CoreStep}
 use Rattle.domain_spec.specs.declared.core_step.CoreStep.TheVariants as step
@@ -7,7 +7,7 @@ use Rattle.domain_spec.specs.declared.mark.Mark.{Mark}
 use Rattle.domain_spec.specs.declared.mark.Mark.TheVariants as mark
 use Rattle.domain_spec.specs.declared.open.OpenJob.{OpenJob}
 use Rattle.domain_spec.specs.declared.standing.Standing.{Standing}
-use Rattle.domain_spec.specs.Cell.{Cell, HeldEvent, Waiter, standing_of}
+use Rattle.domain_spec.specs.Cell.{Cell, HeldEvent, Queue, Waiter, WaitingPass, standing_of}
 use Rattle.domain_spec.specs.Open.{Excludes, is_same_who, job_held, operation_held}
 use Rattle.domain_spec.specs.Reading.{is_live}
 
@@ -39,28 +39,44 @@ held_by c (step.Event b e) last (Some j) = held_more c last b e
 held_by c other last (Some j) = c.held
 held_by c t last None = []
 
--- who waits, but for this number
-abbrev pub without_waiter : List Waiter → ℕ → List Waiter
-without_waiter waiting n = filter (λ w. not (w.number == n)) waiting
+-- who waits, but for this caller
+abbrev pub without_caller : List Waiter → Who → List Waiter
+without_caller callers who = filter (λ w. not (is_same_who w.who who)) callers
 
--- so many looks of this caller were excluded, this one among them; no more than 1,000 are counted
-abbrev pub looks_more : List Waiter → ℕ → Who → ℕ
-looks_more [] n who = 1
-looks_more (w ∷ waiting) n who = if w.number == n && is_same_who w.who who then min (w.looks + 1) 1000 else looks_more waiting n who
+-- the passes by which others wait
+abbrev pub without_pass : List WaitingPass → ℕ → List WaitingPass
+without_pass passes n = filter (λ p. not (p.number == n)) passes
+
+-- this caller looked in vain once more: it stays at its place, or comes last; no more than 1,000 are counted
+abbrev pub looked : List Waiter → Who → List Waiter
+looked [] who = record { who = who; looks = 1 } ∷ []
+looked (w ∷ callers) who =
+    if is_same_who w.who who then record { who = w.who; looks = min (w.looks + 1) 1000 } ∷ callers else w ∷ looked callers who
+
+-- how often this caller looked in vain
+abbrev pub looks_of : List Waiter → Who → ℕ
+looks_of callers who = unwrap_or (option_map (λ w. w.looks) (find (λ w. is_same_who w.who who) callers)) 0
+
+-- neither this caller waits nor this number
+abbrev pub left_queue : Queue → ℕ → Who → Queue
+left_queue q n who = record { callers = without_caller q.callers who; passes = without_pass q.passes n }
+
+-- this caller waits, by this number
+abbrev pub joined_queue : Queue → ℕ → Who → Queue
+joined_queue q n who = record { callers = looked q.callers who; passes = without_pass q.passes n ++ record { number = n; who = who } ∷ [] }
 
 -- a call looked: where it is excluded it waits, else it does not, be it let in, turned away or without memory
-abbrev pub LooksOn : Cell → ℕ → Who → Call → List (Mark ℕ) → List Waiter → Type 0
-LooksOn c n who d [] waiting =
-    (waiting ≡ without_waiter c.waiting n)
-    ⊎ (Excludes (job_held (standing_of c).job) (operation_held (standing_of c).operation) d who
-    × (waiting ≡ without_waiter c.waiting n ++ record { number = n; who = who; looks = looks_more c.waiting n who } ∷ []))
-LooksOn c n who d (m ∷ marks) waiting = waiting ≡ without_waiter c.waiting n
+abbrev pub LooksOn : Cell → ℕ → Who → Call → List (Mark ℕ) → Queue → Type 0
+LooksOn c n who d [] queue =
+    (queue ≡ left_queue c.queue n who)
+    ⊎ (Excludes (job_held (standing_of c).job) (operation_held (standing_of c).operation) d who × (queue ≡ joined_queue c.queue n who))
+LooksOn c n who d (m ∷ marks) queue = queue ≡ left_queue c.queue n who
 
 -- who waits after a turn
-abbrev pub WaitAfter : Cell → CoreStep ℕ → List (Mark ℕ) → List Waiter → Type 0
-WaitAfter c (step.Look n who d first) marks waiting = LooksOn c n who d marks waiting
-WaitAfter c (step.BeginOp n who d) marks waiting = LooksOn c n who d marks waiting
-WaitAfter c (step.TakeUp n who d) marks waiting = LooksOn c n who d marks waiting
-WaitAfter c (step.GiveUp n who d) marks waiting = waiting ≡ without_waiter c.waiting n
-WaitAfter c (step.Rotate n who) marks waiting = (waiting ≡ c.waiting) ⊎ (waiting ≡ without_waiter c.waiting n)
-WaitAfter c other marks waiting = waiting ≡ c.waiting
+abbrev pub WaitAfter : Cell → CoreStep ℕ → List (Mark ℕ) → Queue → Type 0
+WaitAfter c (step.Look n who d first) marks queue = LooksOn c n who d marks queue
+WaitAfter c (step.BeginOp n who d) marks queue = LooksOn c n who d marks queue
+WaitAfter c (step.TakeUp n who d) marks queue = LooksOn c n who d marks queue
+WaitAfter c (step.GiveUp n who d) marks queue = queue ≡ left_queue c.queue n who
+WaitAfter c (step.Rotate n who) marks queue = (queue ≡ c.queue) ⊎ (queue ≡ left_queue c.queue n who)
+WaitAfter c other marks queue = queue ≡ c.queue

@@ -60,7 +60,7 @@ pub record IsTurnedAway (c : Cell) (n : ℕ) (who : Who) (d : Call) (number : �
   pub numbered : number ≡ n
   pub caller : w ≡ who
   pub same_call : e ≡ d
-  pub waiting : held.waiting ≡ map (λ x. x.who) c.waiting
+  pub waiting : held.waiting ≡ map (λ w. w.who) c.queue.callers
 
 -- a step turns its call away: too many others wait, or it looked often enough
 abbrev pub TurnsAway : Cell → CoreStep ℕ → ℕ → Who → Call → RefusalCode → HeldJobs → Type 0

@@ -112,7 +112,8 @@ pub record Leads (c : Cell) (t : CoreStep ℕ) (left : List (Mark ℕ)) (d : Cel
   pub answers : AnswersAfter c t left d.answers
   pub away : WaitsForAnswer d (standing_of d).job
   pub held : d.held ≡ held_by c t (standing_of d) (standing_of d).job
-  pub waiting : WaitAfter c t left d.waiting
+  pub queue : WaitAfter c t left d.queue
+  pub ears : d.ears ≡ c.ears
 
 -- a step with the marks that it left
 pub record Turn : Type 0 where

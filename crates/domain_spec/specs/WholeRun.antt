@@ -25,7 +25,15 @@ use Rattle.domain_spec.specs.WholeLife.{ok, unconnected, whole_life}
 -- a cell with this history, in which nobody waits or is registered
 abbrev pub cell_of : DomainDef → List (Mark ℕ) → List Answer → Cell
 cell_of def marks answers =
-    record { base = first_base (Some def) false; marks = marks; registrations = []; answers = answers; waiting = []; held = []; ears = None }
+    record {
+      base = first_base (Some def) false;
+      marks = marks;
+      registrations = [];
+      answers = answers;
+      queue = record { callers = []; passes = [] };
+      held = [];
+      ears = None;
+    }
 
 -- a step, and the marks that it leaves
 abbrev pub turn : CoreStep ℕ → List (Mark ℕ) → Turn
