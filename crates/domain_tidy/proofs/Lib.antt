@@ -2,3 +2,4 @@ pub mod TidyCalls
 pub mod TidyMarks
 pub mod TidyPhases
 pub mod StoredPlans
+pub mod OwnGuests

@@ -1,4 +1,5 @@
 // Laws of the definitions: each function's contract is one, and its body does nothing.
+ghost use Rattle.domain_tidy.specs.Guests.{EveryMarkKeepsGuests};
 ghost use Rattle.domain_tidy.specs.Tidy.{EveryMarkKeepsTidy, OpenedIsTidy, StoredPlansStay};
 
 /// A cell as the store was opened is tidy.
@@ -14,4 +15,9 @@ pub fn every_mark_keeps_tidy()
 /// What a call on the stored definition asks stays as it was where a guest ends.
 pub fn stored_plans_stay()
     ensures { StoredPlansStay }
+{}
+
+/// No mark lets another guest run beside an open operation than the operation's own.
+pub fn every_mark_keeps_guests()
+    ensures { EveryMarkKeepsGuests }
 {}
