@@ -9,8 +9,7 @@ use Rattle.domain_spec.specs.Types.{Answer, Ask}
 use Rattle.domain_spec.specs.declared.planned.PlannedAsk.{PlannedAsk}
 use Rattle.domain_spec.specs.Asks.{asks_left, asks_made, bad_place, course, course_at, first_bad, is_ok_answer, is_undone, undo_at}
 use Rattle.core_rules.specs.declared.next.Next.TheVariants as next
-use Rattle.core_rules.specs.Next.{next_of}
-use Rattle.lifecycle_core.specs.Plans.{is_ask}
+use Rattle.core_rules.specs.Next.{is_ask, next_of}
 use Rattle.ask_course.specs.Along.{made_along, most_asks}
 
 -- all asks, by the place of the first answer that is not Ok, and by that answer

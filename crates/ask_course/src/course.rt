@@ -1,9 +1,8 @@
 // The course of a call: what it asks, and what it was answered so far.
 ghost use Rattle.std.specs.Prelude.{◌≡◌, ◌++◌, ◌∷◌, [], IfOk, OnErr, is_some, slice_get, true};
 ghost use Rattle.domain_spec.specs.Asks.{asks_left, asks_made, plain};
-ghost use Rattle.core_rules.specs.Next.{at_most, next_if, next_of};
+ghost use Rattle.core_rules.specs.Next.{at_most, is_ask, next_if, next_of};
 ghost use Rattle.core_rules.specs.Place.{next_at, planned_at, undo_step};
-ghost use Rattle.lifecycle_core.specs.Plans.{is_ask};
 
 use crate::made::put_made;
 use core_rules::{Next, Place, place_after};

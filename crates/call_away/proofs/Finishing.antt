@@ -22,8 +22,7 @@ use Rattle.domain_spec.specs.TakeUp.{rests_for, step_at, takes_it_up}
 use Rattle.domain_spec.specs.Tests.{refusal_of}
 use Rattle.core_rules.specs.declared.next.Next.TheVariants as next
 use Rattle.core_rules.specs.declared.next.Next.{Next}
-use Rattle.core_rules.specs.Next.{next_of}
-use Rattle.lifecycle_core.specs.Plans.{is_ask}
+use Rattle.core_rules.specs.Next.{is_ask, next_of}
 use Rattle.ask_course.specs.Along.{Asked}
 use Rattle.ask_course.proofs.Courses.{made_more}
 use Rattle.domain_tidy.specs.Tidy.{planned}

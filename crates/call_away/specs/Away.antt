@@ -10,8 +10,7 @@ use Rattle.domain_spec.specs.Cell.{planned_at}
 use Rattle.domain_spec.specs.Lawful.{IsUnsentUntilMade}
 use Rattle.domain_spec.specs.Reading.{live_boot}
 use Rattle.domain_spec.specs.Sequential.{meets_ended}
-use Rattle.core_rules.specs.Next.{next_of}
-use Rattle.lifecycle_core.specs.Plans.{is_ask}
+use Rattle.core_rules.specs.Next.{is_ask, next_of}
 use Rattle.ask_course.specs.Along.{Asked}
 use Rattle.domain_tidy.specs.Tidy.{planned}
 

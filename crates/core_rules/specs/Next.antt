@@ -1,5 +1,5 @@
 -- What is next for a call, or for a phase of an operation.
-use Rattle.std.specs.Prelude.{List, [], ◌∷◌, Option, None, Some}
+use Rattle.std.specs.Prelude.{List, [], ◌∷◌, Bool, true, false, Option, None, Some}
 use Rattle.domain_spec.specs.Types.{Ask}
 use Rattle.core_rules.specs.declared.next.Next.{Next}
 use Rattle.core_rules.specs.declared.next.Next.TheVariants as next
@@ -13,6 +13,11 @@ next_of (a ∷ asks) = next.Ask a
 abbrev pub next_if : Option Ask → Next
 next_if None = next.Finish
 next_if (Some a) = next.Ask a
+
+-- something is to be asked
+abbrev pub is_ask : Next → Bool
+is_ask (next.Ask a) = true
+is_ask next.Finish = false
 
 -- one ask or none
 abbrev pub at_most : Option Ask → List Ask

@@ -20,6 +20,7 @@ mod reading;
 mod reason;
 mod refusing;
 mod slots;
+mod state_room;
 
 pub use answers::{
     bad_place, failure_of, first_bad, first_value, is_ok_answer, is_undone, last_value,
@@ -44,3 +45,4 @@ pub use reading::{
 };
 pub use reason::Reason;
 pub use slots::slots_at_start;
+pub use state_room::StateRoom;

@@ -1,7 +1,7 @@
 // The calls of all parts.
-ghost use Rattle.std.specs.Prelude.{◌≡◌, ◌++◌, ◌≤◌, IfOk};
+ghost use Rattle.std.specs.Prelude.{◌≡◌, ◌++◌, ◌≤◌, IfOk, OnErr, true};
 ghost use Rattle.domain_spec.specs.Sequential.{seq, still_asked};
-ghost use Rattle.core_rules.specs.Next.{next_of};
+ghost use Rattle.core_rules.specs.Next.{is_ask, next_of};
 ghost use Rattle.domain_driver.specs.Fits.{FitsCall};
 
 use core_rules::{CallEnd, Core, Next, Texts, core_of_call};
@@ -55,7 +55,7 @@ impl CallParts {
 }
 
 /// What is next for a call that carries this boot, after these answers. There may be no memory for an
-/// ask.
+/// ask, and never for the end.
 pub fn next(
     alloc: Global,
     state: &State,
@@ -63,7 +63,8 @@ pub fn next(
     boot: Option<u64>,
     answers: &[Answer],
 ) -> Result<Next, NoMemory>
-    ensures { IfOk result (λ next. next ≡ next_of (still_asked state.now call.now boot answers.now)) }
+    ensures asked { IfOk result (λ next. next ≡ next_of (still_asked state.now call.now boot answers.now)) }
+    ensures memory { OnErr result (is_ask (next_of (still_asked state.now call.now boot answers.now)) ≡ true) }
 {
     match core_of_call(call) {
         Core::Lifecycle => lifecycle_core::next(state, call, boot, answers),

@@ -1,7 +1,7 @@
 // The phases of all parts.
-ghost use Rattle.std.specs.Prelude.{◌≡◌, ◌++◌, ◌≤◌, IfOk};
+ghost use Rattle.std.specs.Prelude.{◌≡◌, ◌++◌, ◌≤◌, IfOk, OnErr, true};
 ghost use Rattle.domain_spec.specs.Phase.{phase_of, phase_still_asked};
-ghost use Rattle.core_rules.specs.Next.{next_of};
+ghost use Rattle.core_rules.specs.Next.{is_ask, next_of};
 ghost use Rattle.domain_driver.specs.Fits.{FitsPhase};
 
 use core_rules::{Core, Next, PhaseEnd, core_due};
@@ -21,7 +21,7 @@ pub enum PhaseParts {
 }
 
 /// What is next for the due phase of this operation, after these answers. There may be no memory for
-/// an ask.
+/// an ask, and never for the end.
 #[tactic(auto, using(crate::proofs::Served::no_device))]
 pub fn next_phase(
     alloc: Global,
@@ -29,7 +29,8 @@ pub fn next_phase(
     operation: &OpenOperation,
     answers: &[Answer],
 ) -> Result<Next, NoMemory>
-    ensures { IfOk result (λ next. next ≡ next_of (phase_still_asked state.now operation.now answers.now)) }
+    ensures asked { IfOk result (λ next. next ≡ next_of (phase_still_asked state.now operation.now answers.now)) }
+    ensures memory { OnErr result (is_ask (next_of (phase_still_asked state.now operation.now answers.now)) ≡ true) }
 {
     match core_due(state, &operation.call) {
         Core::Lifecycle => lifecycle_core::next_phase(alloc, state, operation, answers),

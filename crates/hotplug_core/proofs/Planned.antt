@@ -5,8 +5,7 @@ use Rattle.domain_spec.specs.declared.planned.PlannedAsk.{PlannedAsk}
 use Rattle.domain_spec.specs.Asks.{asks_left, plain, undone_by}
 use Rattle.core_rules.specs.declared.course.Place.{Place}
 use Rattle.core_rules.specs.declared.next.Next.{Next}
-use Rattle.core_rules.specs.Next.{next_if, next_of}
-use Rattle.hotplug_core.specs.Asks.{is_ask}
+use Rattle.core_rules.specs.Next.{is_ask, next_if, next_of}
 use Rattle.core_rules.specs.Place.{next_at, place_after, planned_at}
 use Rattle.core_rules.proofs.NextAsk.{next_is_at}
 

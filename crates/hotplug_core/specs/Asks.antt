@@ -1,11 +1,9 @@
 -- The asks of a call that adds a device or removes one, once its slot is known.
-use Rattle.std.specs.Prelude.{ℕ, List, [], ◌∷◌, ◌++◌, Bool, true, false, Option, None, Some}
+use Rattle.std.specs.Prelude.{ℕ, List, [], ◌∷◌, ◌++◌, Option, None, Some}
 use Rattle.domain_spec.specs.Types.{Ask, DeviceDef}
 use Rattle.domain_spec.specs.Types.ask
 use Rattle.domain_spec.specs.Types.command
 use Rattle.domain_spec.specs.Call.{device_lease}
-use Rattle.core_rules.specs.declared.next.Next.{Next}
-use Rattle.core_rules.specs.declared.next.Next.TheVariants as next
 
 -- the host's side of a device and then the guest's
 abbrev pub adding : DeviceDef → ℕ → List Ask
@@ -19,8 +17,3 @@ all_adding d slot = device_lease d ++ adding d slot
 abbrev pub removing : Option ℕ → List Ask
 removing None = []
 removing (Some slot) = ask.Command (command.RemoveDevice slot) ∷ ask.Command (command.RemoveBackend slot) ∷ []
-
--- something is asked
-abbrev pub is_ask : Next → Bool
-is_ask (next.Ask a) = true
-is_ask next.Finish = false

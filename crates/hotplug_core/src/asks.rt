@@ -1,11 +1,11 @@
 // What attaching and detaching a device asks, one ask at a time.
 ghost use Rattle.std.specs.Prelude.{◌≡◌, IfOk, OnErr, Some, is_some, length, slice_get, true};
-ghost use Rattle.core_rules.specs.Next.{at_most, next_of};
+ghost use Rattle.core_rules.specs.Next.{at_most, is_ask, next_of};
 ghost use Rattle.core_rules.specs.Place.{planned_at, undo_step};
 ghost use Rattle.domain_spec.specs.Asks.{asks_left};
 ghost use Rattle.domain_spec.specs.Call.{attach_plan, detach_plan, device_lease};
 ghost use Rattle.domain_spec.specs.Devices.{device_like};
-ghost use Rattle.hotplug_core.specs.Asks.{adding, is_ask, removing};
+ghost use Rattle.hotplug_core.specs.Asks.{adding, removing};
 
 use crate::keys::{device_like, slot_like};
 use core_rules::{Next, Place, has_lease, lease_of, place_after};

@@ -1,10 +1,9 @@
 // Attaching and detaching a device, as each part of the driver has its calls.
 ghost use Rattle.std.specs.Prelude.{◌≡◌, ◌++◌, IfOk, OnErr, true};
 ghost use Rattle.core_rules.specs.Cores.{core_of_call};
-ghost use Rattle.core_rules.specs.Next.{next_of};
+ghost use Rattle.core_rules.specs.Next.{is_ask, next_of};
 ghost use Rattle.core_rules.specs.declared.cores.Core.TheVariants as core;
 ghost use Rattle.domain_spec.specs.Sequential.{seq, still_asked};
-ghost use Rattle.hotplug_core.specs.Asks.{is_ask};
 ghost use Rattle.hotplug_core.specs.Fitting.{Fits};
 ghost use Rattle.hotplug_core.specs.Left.{Leaves};
 

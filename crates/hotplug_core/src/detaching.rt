@@ -1,7 +1,7 @@
 // Detaching a device: what is next, and what is left at the end.
 ghost use Rattle.std.specs.Prelude.{◌≡◌, IfOk, OnErr, true};
 ghost use Rattle.core_rules.specs.Led.{Says};
-ghost use Rattle.core_rules.specs.Next.{next_of};
+ghost use Rattle.core_rules.specs.Next.{is_ask, next_of};
 ghost use Rattle.domain_spec.specs.Asks.{asks_left};
 ghost use Rattle.domain_spec.specs.Call.{guest_plan};
 ghost use Rattle.domain_spec.specs.Devices.{key_of};
@@ -9,7 +9,6 @@ ghost use Rattle.domain_spec.specs.Sequential.{seq, still_asked};
 ghost use Rattle.domain_spec.specs.Types.call;
 ghost use Rattle.domain_spec.specs.Types.reply;
 ghost use Rattle.hotplug_core.specs.Faults.{fault_refusal};
-ghost use Rattle.hotplug_core.specs.Asks.{is_ask};
 ghost use Rattle.hotplug_core.specs.Fitting.{mac_of};
 ghost use Rattle.hotplug_core.specs.Left.{Leaves, detached_in};
 

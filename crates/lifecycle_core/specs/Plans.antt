@@ -1,5 +1,5 @@
 -- The asks by which a guest is made and set going, one by one.
-use Rattle.std.specs.Prelude.{ℕ, Bool, true, false, List, [], ◌∷◌, ◌++◌, flat_map, length, nat_lt, slice_get, Option, None, Some, if◌then◌else◌}
+use Rattle.std.specs.Prelude.{ℕ, List, [], ◌∷◌, ◌++◌, flat_map, length, nat_lt, slice_get, Option, None, Some, if◌then◌else◌}
 use Rattle.domain_spec.specs.Types.{Ask, Interface, Live, Op, Phase, State}
 use Rattle.domain_spec.specs.Types.ask
 use Rattle.domain_spec.specs.Types.command
@@ -12,11 +12,6 @@ use Rattle.core_rules.specs.declared.course.Place.TheVariants as place
 use Rattle.core_rules.specs.declared.next.Next.{Next}
 use Rattle.core_rules.specs.declared.next.Next.TheVariants as next
 use Rattle.core_rules.specs.Next.{next_if}
-
--- something is to be asked
-abbrev pub is_ask : Next → Bool
-is_ask (next.Ask a) = true
-is_ask next.Finish = false
 
 -- the leases of these interfaces, and then the guest is made
 abbrev pub leases_then_make : List Interface → Live → List Ask

@@ -5,10 +5,9 @@ ghost use Rattle.domain_spec.specs.Call.{command_of, guest_plan, held_plan, live
 ghost use Rattle.domain_spec.specs.Types.{Ask as TheAsk};
 ghost use Rattle.domain_spec.specs.Types.ask;
 ghost use Rattle.core_rules.specs.Cores.{core_of_call};
-ghost use Rattle.core_rules.specs.Next.{next_of};
+ghost use Rattle.core_rules.specs.Next.{is_ask, next_of};
 ghost use Rattle.core_rules.specs.declared.next.Next.TheVariants as next;
 ghost use Rattle.core_rules.specs.declared.cores.Core.TheVariants as core;
-ghost use Rattle.lifecycle_core.specs.Plans.{is_ask};
 
 use core_rules::{Next, Place, is_paused, is_running, next_of_one, place_after};
 use virt_types::{Answer, Ask, Call, Command, Domain, DomainDef, Live, NoMemory, State, TryCopy};

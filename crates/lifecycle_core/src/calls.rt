@@ -4,11 +4,10 @@ ghost use Rattle.domain_spec.specs.CallResult.{step_of};
 ghost use Rattle.domain_spec.specs.Sequential.{seq, still_asked};
 ghost use Rattle.core_rules.specs.Cores.{core_of_call};
 ghost use Rattle.core_rules.specs.Led.{Says};
-ghost use Rattle.core_rules.specs.Next.{next_of};
+ghost use Rattle.core_rules.specs.Next.{is_ask, next_of};
 ghost use Rattle.core_rules.specs.declared.cores.Core.TheVariants as core;
 ghost use Rattle.lifecycle_core.specs.Leaves.{Leaves};
 ghost use Rattle.lifecycle_core.specs.Parts.{Fits, is_define};
-ghost use Rattle.lifecycle_core.specs.Plans.{is_ask};
 
 use crate::asks::next_asked;
 use crate::failing::failing;

@@ -3,11 +3,11 @@ ghost use Rattle.std.specs.Prelude.{◌≡◌, ◌++◌, ◌≤◌, IfOk, OnErr,
 ghost use Rattle.domain_spec.specs.Phase.{phase_of, phase_still_asked};
 ghost use Rattle.domain_spec.specs.Reading.{carries_ended};
 ghost use Rattle.core_rules.specs.Cores.{Serves, core_due};
-ghost use Rattle.core_rules.specs.Next.{next_of};
+ghost use Rattle.core_rules.specs.Next.{is_ask, next_of};
 ghost use Rattle.core_rules.specs.declared.cores.Core.TheVariants as core;
 ghost use Rattle.lifecycle_core.specs.Leaves.{LeavesPhase};
 ghost use Rattle.lifecycle_core.specs.Parts.{FitsPhase, ServesPhase};
-ghost use Rattle.lifecycle_core.specs.Plans.{is_ask, next_due};
+ghost use Rattle.lifecycle_core.specs.Plans.{next_due};
 
 use crate::memory::PhaseParts;
 use crate::phase_asks::{ask_at, undo_at};

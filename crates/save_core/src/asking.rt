@@ -1,7 +1,7 @@
 // What a phase asks next.
-ghost use Rattle.std.specs.Prelude.{◌≡◌, IfOk, option_map};
+ghost use Rattle.std.specs.Prelude.{◌≡◌, IfOk, OnErr, option_map, true};
 ghost use Rattle.core_rules.specs.Cores.{Serves, core_of_phase, core_on};
-ghost use Rattle.core_rules.specs.Next.{next_of};
+ghost use Rattle.core_rules.specs.Next.{is_ask, next_of};
 ghost use Rattle.core_rules.specs.declared.cores.Core.TheVariants as core;
 ghost use Rattle.domain_spec.specs.Asks.{asks_left, first_value};
 ghost use Rattle.domain_spec.specs.Phase.{phase_still_asked, plan_on};
@@ -114,7 +114,8 @@ fn next_on_guest(
     answers: &[Answer],
 ) -> Result<Next, NoMemory>
     requires save { core_of_phase op.now.phase call.now ≡ core.Save }
-    ensures { IfOk result (λ next. next ≡ next_of (asks_left (live_phase_plan domain.now live.now op.now call.now answers.now op.now.phase) answers.now)) }
+    ensures asked { IfOk result (λ next. next ≡ next_of (asks_left (live_phase_plan domain.now live.now op.now call.now answers.now op.now.phase) answers.now)) }
+    ensures memory { OnErr result (is_ask (next_of (asks_left (live_phase_plan domain.now live.now op.now call.now answers.now op.now.phase) answers.now)) ≡ true) }
 {
     match step_at(domain, live, op, call, place_after(answers)) {
         None => Ok(Next::Finish),
@@ -130,7 +131,8 @@ fn next_on(
     answers: &[Answer],
 ) -> Result<Next, NoMemory>
     requires save { core_on domain.now.op call.now ≡ core.Save }
-    ensures { IfOk result (λ next. next ≡ next_of (asks_left (plan_on domain.now domain.now.op call.now answers.now) answers.now)) }
+    ensures asked { IfOk result (λ next. next ≡ next_of (asks_left (plan_on domain.now domain.now.op call.now answers.now) answers.now)) }
+    ensures memory { OnErr result (is_ask (next_of (asks_left (plan_on domain.now domain.now.op call.now answers.now) answers.now)) ≡ true) }
 {
     match (&domain.op, &domain.live) {
         (Some(op), Some(live)) => next_on_guest(alloc, domain, live, op, call, answers),
@@ -138,7 +140,8 @@ fn next_on(
     }
 }
 
-/// What the due phase of an operation asks next, after these answers.
+/// What the due phase of an operation asks next, after these answers. There may be no memory for an ask,
+/// and never for the end.
 #[tactic(auto, using(crate::proofs::NothingLeft::nothing_left, core_rules::proofs::Answered::phase_plan_left))]
 pub fn next_phase(
     alloc: Global,
@@ -147,7 +150,8 @@ pub fn next_phase(
     answers: &[Answer],
 ) -> Result<Next, NoMemory>
     requires save { Serves core.Save state.now operation.now }
-    ensures { IfOk result (λ next. next ≡ next_of (phase_still_asked state.now operation.now answers.now)) }
+    ensures asked { IfOk result (λ next. next ≡ next_of (phase_still_asked state.now operation.now answers.now)) }
+    ensures memory { OnErr result (is_ask (next_of (phase_still_asked state.now operation.now answers.now)) ≡ true) }
 {
     if carries_ended(state, operation.boot) {
         return Ok(Next::Finish);

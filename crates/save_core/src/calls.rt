@@ -1,5 +1,5 @@
 // The calls: they ask nothing, and two of them steer the operation that is under way.
-ghost use Rattle.std.specs.Prelude.{◌≡◌, ◌++◌, [], IfOk, List};
+ghost use Rattle.std.specs.Prelude.{◌≡◌, ◌++◌, [], IfOk, IsOk, List};
 ghost use Rattle.core_rules.specs.Cores.{core_of_call};
 ghost use Rattle.core_rules.specs.Led.{Says};
 ghost use Rattle.core_rules.specs.Next.{next_of};
@@ -24,7 +24,8 @@ pub fn next(
     answers: &[Answer],
 ) -> Result<Next, NoMemory>
     requires { core_of_call call.now ≡ core.Save }
-    ensures { IfOk result (λ next. next ≡ next_of (still_asked state.now call.now boot answers.now)) }
+    ensures asked { IfOk result (λ next. next ≡ next_of (still_asked state.now call.now boot answers.now)) }
+    ensures succeeds { IsOk result }
 {
     Ok(Next::Finish)
 }

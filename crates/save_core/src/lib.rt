@@ -17,7 +17,6 @@ mod migrating;
 mod phase_memory;
 mod phases;
 mod quitting;
-mod state_room;
 mod steps;
 
 pub use asking::next_phase;

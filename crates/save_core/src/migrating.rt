@@ -15,8 +15,7 @@ ghost use Rattle.save_core.specs.Leaving.{IsLeft, WithBoth};
 ghost use Rattle.save_core.specs.Parts.{IsForLeaving, IsRoomOf};
 
 use crate::loading::{run_as, tell_paused_unless};
-use crate::state_room::StateRoom;
-use core_rules::{CallEnd, PhaseEnd, is_running, last_value, rests};
+use core_rules::{CallEnd, PhaseEnd, StateRoom, is_running, last_value, rests};
 use std::alloc::Global;
 use std::marker::Model;
 use virt_types::{

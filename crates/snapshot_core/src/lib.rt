@@ -9,7 +9,6 @@ mod made;
 mod names;
 mod phases;
 mod snaps;
-mod state_room;
 mod taking;
 
 pub use calls::{finish, next, parts};
@@ -17,5 +16,4 @@ pub use deletion::{Deletion, Others};
 pub use made::{Parts, PhaseParts};
 pub use phases::{finish_phase, next_phase, phase_parts};
 pub use snaps::Snaps;
-pub use state_room::StateRoom;
 pub use taking::Taking;

@@ -15,8 +15,7 @@ ghost use Rattle.snapshot_core.specs.Both.{AreThere, OnBoth};
 ghost use Rattle.snapshot_core.specs.Taking.{FitsSnapshot, FitsTaken, FitsTaking, def_of, new_snapshot};
 
 use crate::names::snapshot_name;
-use crate::state_room::StateRoom;
-use core_rules::{CallEnd, PhaseEnd, Reason, Texts, first_value, is_held_by_job};
+use core_rules::{CallEnd, PhaseEnd, Reason, StateRoom, Texts, first_value, is_held_by_job};
 use std::alloc::Global;
 use virt_types::{
     Answer, Bytes, Call, Cause, Domain, DomainDef, Live, Name, NewSnap, NoMemory, Op,

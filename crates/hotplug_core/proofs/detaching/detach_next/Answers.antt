@@ -6,8 +6,7 @@ use Rattle.domain_spec.specs.Call.{guest_plan, plan_of}
 use Rattle.domain_spec.specs.Sequential.{still_asked}
 use Rattle.domain_spec.specs.Types.call
 use Rattle.core_rules.specs.declared.next.Next.{Next}
-use Rattle.core_rules.specs.Next.{next_of}
-use Rattle.hotplug_core.specs.Asks.{is_ask}
+use Rattle.core_rules.specs.Next.{is_ask, next_of}
 use Rattle.hotplug_core.proofs.Judged.{detach_on_guest, nothing_asked, plan_asked}
 use Rattle.hotplug_core.proofs.detaching.detach_next.Goals as goal
 use Rattle.hotplug_core.proofs.detaching.detach_next.Goals.{After-detach_asks}

@@ -2,8 +2,7 @@ use Rattle.std.proofs.Common.{◌≡◌, ◌+◌, ◌<◌, List, [], ◌∷◌, 
 use Rattle.std.proofs.lemmas.List.{length-append}
 use Rattle.domain_spec.specs.Types.{Answer}
 use Rattle.domain_spec.specs.Asks.{asks_left}
-use Rattle.core_rules.specs.Next.{next_of}
-use Rattle.lifecycle_core.specs.Plans.{is_ask}
+use Rattle.core_rules.specs.Next.{is_ask, next_of}
 use Rattle.ask_course.specs.Along.{Asked, most_asks}
 use Rattle.ask_course.proofs.Courses.{has_room}
 use Rattle.ask_course.proofs.course.Course.answer.Goals as goal
