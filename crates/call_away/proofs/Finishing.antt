@@ -31,7 +31,7 @@ use Rattle.call_away.specs.AwayLaws.{IsDoneAtOnce, IsDoneEnded, IsDoneLive, answ
 use Rattle.call_away.proofs.Planning.{asked_planned, still_planned}
 
 -- nothing is left where it can be finished
-nothing_next : (asks : List Ask) → next_of asks ≡ next.Finish → asks ≡ []
+pub nothing_next : (asks : List Ask) → next_of asks ≡ next.Finish → asks ≡ []
 nothing_next [] e = refl
 nothing_next (a ∷ asks) e = cc
 
@@ -137,10 +137,10 @@ done_at_once s c boot none takes through = record {
 
 -- a call that was away, with one more answer
 
-more_len : (answers : List Answer) (x : Answer) (asks : List Ask) (a : Ask) → length asks ≡ length answers → length (asks ++ a ∷ []) ≡ length (answers ++ x ∷ [])
+pub more_len : (answers : List Answer) (x : Answer) (asks : List Ask) (a : Ask) → length asks ≡ length answers → length (asks ++ a ∷ []) ≡ length (answers ++ x ∷ [])
 more_len answers x asks a e = length-append asks (a ∷ []) ∙ ap (λ (n : ℕ). n + 1) e ∙ sym (length-append answers (x ∷ []))
 
-next_ask : (n : Next) → is_ask n ≡ true → (a : Ask) × (n ≡ next.Ask a)
+pub next_ask : (n : Next) → is_ask n ≡ true → (a : Ask) × (n ≡ next.Ask a)
 next_ask (next.Ask a) e = (a, refl)
 next_ask next.Finish e = cc
 
@@ -157,7 +157,7 @@ or_false : (b c : Bool) → b ≡ false → c ≡ false → (b || c) ≡ false
 or_false true c e f = cc
 or_false false c e f = f
 
-any_more : (answers : List Answer) (x : Answer) → list_any is_ended_answer answers ≡ false → is_ended_answer x ≡ false → list_any is_ended_answer (answers ++ x ∷ []) ≡ false
+pub any_more : (answers : List Answer) (x : Answer) → list_any is_ended_answer answers ≡ false → is_ended_answer x ≡ false → list_any is_ended_answer (answers ++ x ∷ []) ≡ false
 any_more [] x e f = or_false (is_ended_answer x) false f refl
 any_more (b ∷ answers) x e f =
     let h = both_false (is_ended_answer b) (list_any is_ended_answer answers) e in

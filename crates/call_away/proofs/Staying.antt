@@ -22,7 +22,7 @@ use Rattle.domain_tidy.proofs.StoredPlans.{stored_plans}
 use Rattle.call_away.specs.Away.{IsAway, IsOfKind, IsOnGuest, NoneSince}
 use Rattle.call_away.specs.AwayLaws.{EndKeeps, ExitKeeps}
 
-some_none : (n : ℕ) → Some n ≡ None → ⊥
+pub some_none : (n : ℕ) → Some n ≡ None → ⊥
 some_none n e = cc
 
 -- the end of a boot
@@ -40,7 +40,7 @@ ends_own s j a boot (Some before) e h live =
     let none : live_boot s ≡ None = subst (λ (x : Option State). NoneSince x s) e h.ended in
     absurd (some_none boot (sym was ∙ none))
 
-carries_it : (carried : Option ℕ) (boot : ℕ) → carried ≡ Some boot → carries carried boot ≡ true
+pub carries_it : (carried : Option ℕ) (boot : ℕ) → carried ≡ Some boot → carries carried boot ≡ true
 carries_it None boot e = cc
 carries_it (Some n) boot e = let same : n ≡ boot = cc in grind (arith, nat_tests, same)
 
