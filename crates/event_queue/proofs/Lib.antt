@@ -1,1 +1,2 @@
 pub mod WholeProofs
+pub mod Pushing

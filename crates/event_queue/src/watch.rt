@@ -1,6 +1,6 @@
 // The ring of a registration. All its memory is taken when it is made, so no later call wants any.
-ghost use Rattle.std.specs.Prelude.{◌≡◌, IfOk, length, slice_get};
-ghost use Rattle.event_queue.specs.Ring.{after_push, after_take, answer_to_push, new_ring};
+ghost use Rattle.std.specs.Prelude.{◌≡◌, ◌≤◌, ◌^◌, IfOk, length, slice_get};
+ghost use Rattle.event_queue.specs.Ring.{after_all, after_clear, after_push, after_take, answer_to_push, new_ring, pushed_all};
 
 use std::alloc::Global;
 use std::collections::VecDeque;
@@ -78,6 +78,16 @@ impl Watch {
         Pushed::Kept
     }
 
+    /// These transitions come, one after the other.
+    #[tactic(auto, using(crate::proofs::Pushing::pushes_all, crate::proofs::Pushing::pushes_none))]
+    pub fn extend(&mut self, transitions: &[Transition])
+        ensures { self.new ≡ after_all self.old transitions.now }
+    {
+        if self.ended.is_none() {
+            push_all(self, transitions);
+        }
+    }
+
     /// Takes the oldest transition that pends; none where nothing pends.
     pub fn take(&mut self) -> Option<Transition>
         ensures oldest { result ≡ slice_get self.old.pending 0 }
@@ -86,6 +96,14 @@ impl Watch {
         let oldest = self.pending.pop_front()?;
         self.taken += 1;
         Some(oldest)
+    }
+
+    /// Takes all that pend. It takes no memory.
+    pub fn clear(&mut self)
+        ensures { self.new ≡ after_clear self.old }
+    {
+        self.taken += self.pending.len() as u64;
+        self.pending.clear();
     }
 
     /// Copies of those that pend, the oldest first.
@@ -104,7 +122,8 @@ impl Watch {
 
     /// How many were taken, at most 2^62.
     pub fn taken(&self) -> u64
-        ensures { result ≡ self.now.taken }
+        ensures value { result ≡ self.now.taken }
+        ensures most { result ≤ 2 ^ 62 }
     {
         self.taken
     }
@@ -114,5 +133,17 @@ impl Watch {
         ensures { result ≡ self.now.ended }
     {
         self.ended
+    }
+}
+
+fn push_all(watch: &mut Watch, transitions: &[Transition])
+    ensures { watch.new ≡ pushed_all watch.old transitions.now }
+{
+    match transitions {
+        [] => {}
+        [first, rest @ ..] => {
+            watch.push(*first);
+            push_all(watch, rest);
+        }
     }
 }

@@ -1,0 +1,6 @@
+pub mod Apart
+pub mod Cutting
+pub mod Each
+pub mod Hearing
+pub mod Lawful
+pub mod Places

@@ -1,0 +1,5 @@
+pub mod CutLaws
+pub mod Each
+pub mod Listening
+pub mod Rings
+pub mod Telling
