@@ -23,6 +23,7 @@ fn keeps_256_and_loses_the_next(rt: HostRuntime) -> Result<(), NoMemory> {
     assert_eq!(rt; watch.ended(), None);
     assert_eq!(rt; watch.push(numbered(256)), Pushed::Lost { pending: 256 });
     assert_eq!(rt; watch.ended(), Some(256));
+    assert_eq!(rt; watch.to_list(rt.alloc())?.len(), 256);
     Ok(())
 }
 
