@@ -6,11 +6,13 @@ use Rattle.std.proofs.Math.Numerals.{add-one}
 use Rattle.std.proofs.Math.Seq.{drop-nil, take-nil}
 use Rattle.std.proofs.lemmas.List.{length-append}
 use Rattle.domain_spec.specs.Types.{Answer, Ask}
+use Rattle.domain_spec.specs.Types.answer
 use Rattle.domain_spec.specs.declared.planned.PlannedAsk.{PlannedAsk}
 use Rattle.domain_spec.specs.Asks.{asks_left, asks_made, bad_place, course, course_at, first_bad, is_ok_answer, is_undone, undo_at}
 use Rattle.core_rules.specs.declared.next.Next.TheVariants as next
 use Rattle.core_rules.specs.Next.{is_ask, next_of}
-use Rattle.ask_course.specs.Along.{made_along, most_asks}
+use Rattle.ask_course.specs.Along.{Asked, answered, made_along, most_asks}
+use Rattle.ask_course.specs.Starving.{GoesOn, next_in}
 
 -- all asks, by the place of the first answer that is not Ok, and by that answer
 abbrev course_by : List PlannedAsk → Option ℕ → Option Answer → List Ask
@@ -18,7 +20,7 @@ course_by plan None bad = map (λ p. p.ask) plan
 course_by plan (Some k) bad = map (λ p. p.ask) (take (k + 1) plan) ++ undo_at (slice_get plan k) bad
 
 -- the place after this one
-abbrev further : Option ℕ → Option ℕ
+abbrev pub further : Option ℕ → Option ℕ
 further None = None
 further (Some k) = Some (1 + k)
 
@@ -32,10 +34,10 @@ place_if a n m e =
     ap (λ (t : Bool). let first = (if not (not t) then 1 + n else 0) in if nat_lt first (suc m) then Some first else None) e ∙ further_by n m (nat_lt n m) refl
 
 -- behind an answer Ok the first that is not Ok stands one place further
-bad_behind : (a : Answer) (answers : List Answer) → is_ok_answer a ≡ true → bad_place (a ∷ answers) ≡ further (bad_place answers)
+pub bad_behind : (a : Answer) (answers : List Answer) → is_ok_answer a ≡ true → bad_place (a ∷ answers) ≡ further (bad_place answers)
 bad_behind a answers e = place_if a (position_or_len (λ x. not (is_ok_answer x)) answers) (length answers) e
 
-bad_first : (a : Answer) (answers : List Answer) → is_ok_answer a ≡ false → bad_place (a ∷ answers) ≡ Some 0
+pub bad_first : (a : Answer) (answers : List Answer) → is_ok_answer a ≡ false → bad_place (a ∷ answers) ≡ Some 0
 bad_first a answers e =
     let n : ℕ = position_or_len (λ x. not (is_ok_answer x)) answers in
     let lt : nat_lt 0 (suc (length answers)) ≡ true = grind (arith, nat_tests) in
@@ -60,10 +62,10 @@ course_by_is : (plan : List PlannedAsk) (answers : List Answer) (o : Option ℕ)
 course_by_is plan answers None = refl
 course_by_is plan answers (Some k) = refl
 
-first_behind : (a : Answer) (answers : List Answer) → is_ok_answer a ≡ true → first_bad (a ∷ answers) ≡ first_bad answers
+pub first_behind : (a : Answer) (answers : List Answer) → is_ok_answer a ≡ true → first_bad (a ∷ answers) ≡ first_bad answers
 first_behind a answers e = ap (λ (t : Bool). if not t then Some a else first_bad answers) e
 
-first_is : (a : Answer) (answers : List Answer) → is_ok_answer a ≡ false → first_bad (a ∷ answers) ≡ Some a
+pub first_is : (a : Answer) (answers : List Answer) → is_ok_answer a ≡ false → first_bad (a ∷ answers) ≡ Some a
 first_is a answers e = ap (λ (t : Bool). if not t then Some a else first_bad answers) e
 
 -- the course of a plan along the answers
@@ -143,6 +145,13 @@ has_room plan answers e =
     let short : length (course plan answers) ≤ most_asks plan = course_short plan answers in
     omega (arith, h, short)
 
+-- one more ask that is planned
+pub most_more : (plan : List PlannedAsk) (p : PlannedAsk) → most_asks (plan ++ p ∷ []) ≡ most_asks plan + (1 + length p.undo)
+most_more [] p = omega arith
+most_more (q ∷ plan) p =
+    let h : most_asks (plan ++ p ∷ []) ≡ most_asks plan + (1 + length p.undo) = most_more plan p in
+    omega (arith, h)
+
 -- one more answer, and the ask that it answers
 
 take_more : (n : ℕ) (xs : List Ask) (a : Ask) → next_of (drop n xs) ≡ next.Ask a → take (suc n) xs ≡ take n xs ++ a ∷ []
@@ -185,6 +194,10 @@ along_more [] answers x a e = absurd (not_both a (sym (nothing_left answers) ∙
 along_more (p ∷ plan) [] x a e = let same : p.ask ≡ a = cc in first_more (is_ok_answer x) (is_undone x) p plan ∙ ap (λ (y : Ask). y ∷ []) same
 along_more (p ∷ plan) (b ∷ answers) x a e =
     behind_more (is_ok_answer b) p plan b answers x a refl (along_more plan answers x a) e
+
+-- one more ask for which there was no memory
+pub goes_on_more : (a : Asked) (x : Option Ask) (new : Asked) → is_ask (next_in a) ≡ true → GoesOn (answered a answer.NoMemory) x new → GoesOn a x new
+goes_on_more a x new waits h = record { count = suc h.count; asks = (waits, h.asks); starved_so = h.starved_so; is_next = h.is_next }
 
 -- the asks that are made where one more answer comes
 pub made_more : (plan : List PlannedAsk) (answers : List Answer) (x : Answer) (a : Ask) → next_of (asks_left plan answers) ≡ next.Ask a

@@ -1,5 +1,5 @@
 -- Asks that are planned, and the answers to those that were made.
-use Rattle.std.specs.Prelude.{ℕ, ◌+◌, List, [], ◌∷◌, length, take, if◌then◌else◌}
+use Rattle.std.specs.Prelude.{ℕ, ◌+◌, List, [], ◌∷◌, ◌++◌, length, take, if◌then◌else◌}
 use Rattle.domain_spec.specs.Types.{Answer, Ask}
 use Rattle.domain_spec.specs.declared.planned.PlannedAsk.{PlannedAsk}
 use Rattle.domain_spec.specs.Asks.{is_ok_answer, is_undone}
@@ -8,6 +8,10 @@ use Rattle.domain_spec.specs.Asks.{is_ok_answer, is_undone}
 pub record Asked : Type 0 where
   pub plan : List PlannedAsk
   pub answers : List Answer
+
+-- the course with one more answer
+abbrev pub answered : Asked → Answer → Asked
+answered a x = record a { answers = a.answers ++ x ∷ [] }
 
 -- the asks that are made, along the answers: after the first that is not Ok its undo
 abbrev pub made_along : List PlannedAsk → List Answer → List Ask

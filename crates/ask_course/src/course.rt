@@ -1,10 +1,13 @@
 // The course of a call: what it asks, and what it was answered so far.
-ghost use Rattle.std.specs.Prelude.{◌≡◌, ◌++◌, ◌∷◌, [], IfOk, OnErr, is_some, slice_get, true};
+ghost use Rattle.std.specs.Prelude.{◌≡◌, [], IfOk, OnErr, is_some, slice_get, true};
 ghost use Rattle.domain_spec.specs.Asks.{asks_left, asks_made, plain};
 ghost use Rattle.core_rules.specs.Next.{at_most, is_ask, next_if, next_of};
 ghost use Rattle.core_rules.specs.Place.{next_at, planned_at, undo_step};
+ghost use Rattle.ask_course.specs.Along.{answered};
+ghost use Rattle.ask_course.specs.Starving.{GoesOn};
 
 use crate::made::put_made;
+use crate::plan::Plan;
 use core_rules::{Next, Place, place_after};
 use domain_spec::PlannedAsk;
 use std::alloc::Global;
@@ -54,6 +57,20 @@ impl Course {
         })
     }
 
+    /// All asks of this plan.
+    pub fn of_plan(alloc: Global, plan: Plan) -> Result<Course, NoMemory>
+        ensures { IfOk result (λ course. course ≡ record { plan = plan; answers = [] }) }
+    {
+        let (plan, most) = plan.into_parts();
+        let made = Vec::with_capacity(alloc, most)?;
+        let answers = RoomyList::with_room(alloc, most)?;
+        Ok(Course {
+            plan,
+            made,
+            answers,
+        })
+    }
+
     /// What was answered so far.
     pub fn answers(&self) -> &[Answer]
         ensures { result.now ≡ self.now.answers }
@@ -76,9 +93,24 @@ impl Course {
     /// The ask that is next is answered so.
     pub fn answer(&mut self, answer: Answer)
         requires { is_ask (next_of (asks_left self.old.plan self.old.answers)) ≡ true }
-        ensures { self.new ≡ record self.old { answers = self.old.answers ++ answer ∷ [] } }
+        ensures { self.new ≡ answered self.old answer }
     {
         self.answers.push(answer);
+    }
+
+    /// The ask that is next, if one is. One for which there is no memory is answered so, and then the
+    /// next is tried.
+    pub fn go_on(&mut self) -> Option<Ask>
+        ensures { GoesOn self.old result self.new }
+    {
+        match self.next() {
+            Ok(Next::Ask(ask)) => Some(ask),
+            Ok(Next::Finish) => None,
+            Err(_) => {
+                self.answer(Answer::NoMemory);
+                self.go_on()
+            }
+        }
     }
 
     /// The asks that were made, and what they were answered.

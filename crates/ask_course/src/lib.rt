@@ -4,5 +4,7 @@
 
 mod course;
 mod made;
+mod plan;
 
 pub use course::Course;
+pub use plan::Plan;

@@ -23,11 +23,11 @@ use Rattle.domain_spec.specs.Tests.{refusal_of}
 use Rattle.core_rules.specs.declared.next.Next.TheVariants as next
 use Rattle.core_rules.specs.declared.next.Next.{Next}
 use Rattle.core_rules.specs.Next.{is_ask, next_of}
-use Rattle.ask_course.specs.Along.{Asked}
+use Rattle.ask_course.specs.Along.{Asked, answered}
 use Rattle.ask_course.proofs.Courses.{made_more}
 use Rattle.domain_tidy.specs.Tidy.{planned}
 use Rattle.call_away.specs.Away.{IsAway, IsOfKind, IsOnGuest, IsUnsent}
-use Rattle.call_away.specs.AwayLaws.{IsDoneAtOnce, IsDoneEnded, IsDoneLive, answered, made}
+use Rattle.call_away.specs.AwayLaws.{IsDoneAtOnce, IsDoneEnded, IsDoneLive, made}
 use Rattle.call_away.proofs.Planning.{asked_planned, still_planned}
 
 -- nothing is left where it can be finished
@@ -106,7 +106,7 @@ unsent_by (Some made) None o = tt
 unsent_by (Some made) (Some boot) (outcome.On phase.Make) = λ e. tt
 unsent_by (Some made) (Some boot) other = tt
 
-unsent_none : (o : Option OpenOperation) (boot : Option ℕ) → IsUnsentUntilMade o boot [] []
+pub unsent_none : (o : Option OpenOperation) (boot : Option ℕ) → IsUnsentUntilMade o boot [] []
 unsent_none None boot = tt
 unsent_none (Some o) boot = unsent_by o.boot boot o.outcome
 
@@ -144,8 +144,8 @@ pub next_ask : (n : Next) → is_ask n ≡ true → (a : Ask) × (n ≡ next.Ask
 next_ask (next.Ask a) e = (a, refl)
 next_ask next.Finish e = cc
 
-one_more : (s : State) (o : Option OpenOperation) (j : OpenJob) (a : Asked) (x : Answer) → IsAway s o j a → length (asks_made a.plan (a.answers ++ x ∷ [])) ≡ length (a.answers ++ x ∷ [])
-one_more s o j a x h =
+pub made_one_more : (s : State) (o : Option OpenOperation) (j : OpenJob) (a : Asked) (x : Answer) → IsAway s o j a → length (asks_made a.plan (a.answers ++ x ∷ [])) ≡ length (a.answers ++ x ∷ [])
+made_one_more s o j a x h =
     let waits = next_ask (next_of (asks_left a.plan a.answers)) h.waits in
     ap (λ (asks : List Ask). length asks) (made_more a.plan a.answers x waits.0 waits.1) ∙ more_len a.answers x (asks_made a.plan a.answers) waits.0 h.asked
 
@@ -186,7 +186,7 @@ is_guest true s c carried is ended = absurd (true_not_false (sym ended ∙ ap (�
 is_guest false s c carried is ended = is
 
 -- a boot that was never live since the call was let in can't have ended meanwhile
-done_since : (s : Standing) (j : OpenJob) (a : Asked) (x : Answer) → IsAway s.state s.operation j a → IsOnGuest s.state j a → (before : Option State) → j.before ≡ before
+done_since : (s : Standing) (j : OpenJob) (a : Asked) (x : Answer) → IsAway s.state s.operation j a → IsOnGuest s.state j → (before : Option State) → j.before ≡ before
     → meets_ended s.state j.call j.boot ≡ true → IsUnsent s.operation j (answered a x)
     → IsDoneAs s j.before j.call j.boot (made (answered a x)) (answered a x).answers (step_at s j.call j.boot (answered a x).answers).reply (step_at s j.call j.boot (answered a x).answers).transitions
 done_since s j a x h g None e ended unsent =
@@ -195,13 +195,13 @@ done_since s j a x h g None e ended unsent =
 done_since s j a x h g (Some was) e ended unsent =
     subst (λ (y : Option State). IsDoneAs s y j.call j.boot (made (answered a x)) (answered a x).answers (step_at s j.call j.boot (answered a x).answers).reply (step_at s j.call j.boot (answered a x).answers).transitions) (sym e)
     (done_ended s was j.call j.boot a.plan (a.answers ++ x ∷ []) ended h.begins_none h.takes_none
-    (g.plan ∙ ap (λ (y : Option State). planned (unwrap_or y s.state) j.call j.boot) e) (one_more s.state s.operation j a x h) unsent)
+    (h.plan ∙ ap (λ (y : Option State). planned (unwrap_or y s.state) j.call j.boot) e) (made_one_more s.state s.operation j a x h) unsent)
 
 pub is_done_live : IsDoneLive
 is_done_live s j a x h live through last unsent =
-    done_live s j.before j.call j.boot a.plan (a.answers ++ x ∷ []) live h.begins_none h.takes_none (h.now live) through (one_more s.state s.operation j a x h) (any_more a.answers x h.none_ended last) unsent
+    done_live s j.before j.call j.boot a.plan (a.answers ++ x ∷ []) live h.begins_none h.takes_none (h.now live) through (made_one_more s.state s.operation j a x h) (any_more a.answers x h.none_ended last) unsent
 
 pub is_done_ended : IsDoneEnded
 is_done_ended s j a x h ended unsent =
     let guest = is_guest (is_on_stored j.call) s.state j.call j.boot refl ended in
-    done_since s j a x h (subst (λ (b : Bool). IsOfKind b s.state j a) guest h.kind) j.before refl ended unsent
+    done_since s j a x h (subst (λ (b : Bool). IsOfKind b s.state j) guest h.kind) j.before refl ended unsent

@@ -1,3 +1,4 @@
 pub mod Planning
 pub mod Staying
 pub mod Finishing
+pub mod Going

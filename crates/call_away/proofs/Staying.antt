@@ -28,14 +28,14 @@ some_none n e = cc
 -- the end of a boot
 
 -- a boot that ends while a call on a guest is away is the call's, and none ended before
-ends_own : (s : State) (j : OpenJob) (a : Asked) (boot : ℕ) (before : Option State) → j.before ≡ before → IsOnGuest s j a → is_live s boot ≡ true
+ends_own : (s : State) (j : OpenJob) (boot : ℕ) (before : Option State) → j.before ≡ before → IsOnGuest s j → is_live s boot ≡ true
     → (j.before ≡ None) × (j.boot ≡ Some boot)
-ends_own s j a boot None e h live =
+ends_own s j boot None e h live =
     let was : live_boot s ≡ Some boot = live_is (live_of s) boot live in
     let at : planned_at s j ≡ s = ap (λ (x : Option State). unwrap_or x s) e in
     let here : live_boot s ≡ Some h.boot = ap (λ (x : State). live_boot x) (sym at) ∙ h.was_live in
     (e, h.carried ∙ sym here ∙ was)
-ends_own s j a boot (Some before) e h live =
+ends_own s j boot (Some before) e h live =
     let was : live_boot s ≡ Some boot = live_is (live_of s) boot live in
     let none : live_boot s ≡ None = subst (λ (x : Option State). NoneSince x s) e h.ended in
     absurd (some_none boot (sym was ∙ none))
@@ -56,10 +56,10 @@ meets_gone false s carried boot none is e =
 not_both : (b : Bool) → b ≡ true → b ≡ false → ⊥
 not_both b e f = cc
 
-guest_exit : (s : State) (j : OpenJob) (a : Asked) (boot : ℕ) (why : EndReason) → IsOnGuest s j a → is_live s boot ≡ true
-    → (j.boot ≡ Some boot) × IsOnGuest (exit_state s why) (record j { before = Some s }) a
-guest_exit s j a boot why h live =
-    let own = ends_own s j a boot j.before refl h live in
+guest_exit : (s : State) (j : OpenJob) (boot : ℕ) (why : EndReason) → IsOnGuest s j → is_live s boot ≡ true
+    → (j.boot ≡ Some boot) × IsOnGuest (exit_state s why) (record j { before = Some s }) × (planned_at s j ≡ s)
+guest_exit s j boot why h live =
+    let own = ends_own s j boot j.before refl h live in
     let at : planned_at s j ≡ s = ap (λ (x : Option State). unwrap_or x s) own.0 in (
       own.1,
       record {
@@ -67,19 +67,21 @@ guest_exit s j a boot why h live =
         carried = h.carried;
         was_live = ap (λ (x : State). live_boot x) (sym at) ∙ h.was_live;
         ended = live_boot-exit s why;
-        plan = h.plan ∙ ap (λ (x : State). planned x j.call j.boot) at;
       },
+      at,
     )
 
 -- the same call, in another state
 in_state : (s next : State) (o : Option OpenOperation) (j : OpenJob) (a : Asked) (before : Option State) → IsAway s o j a
-    → IsOfKind (is_on_stored j.call) next (record j { before = before }) a → (meets_ended next j.call j.boot ≡ false → a.plan ≡ planned next j.call j.boot)
+    → IsOfKind (is_on_stored j.call) next (record j { before = before }) → a.plan ≡ planned (unwrap_or before next) j.call j.boot
+    → (meets_ended next j.call j.boot ≡ false → a.plan ≡ planned next j.call j.boot)
     → IsAway next o (record j { before = before }) a
-in_state s next o j a before h kind now = record {
+in_state s next o j a before h kind plan now = record {
   own = h.own;
   begins_none = h.begins_none;
   takes_none = h.takes_none;
   kind = kind;
+  plan = plan;
   now = now;
   waits = h.waits;
   asked = h.asked;
@@ -87,18 +89,24 @@ in_state s next o j a before h kind now = record {
   none_ended = h.none_ended;
 }
 
+-- where its boot has ended already, it is what was planned before that
+planned_then : (before : Option State) (s next : State) (c : Call) (boot : Option ℕ) (a : Asked) → a.plan ≡ planned (unwrap_or before s) c boot → a.plan ≡ planned next c boot
+    → a.plan ≡ planned (unwrap_or before next) c boot
+planned_then None s next c boot a was now = now
+planned_then (Some x) s next c boot a was now = was
+
 stored_exit : (own : Bool) (s : State) (o : Option OpenOperation) (j : OpenJob) (a : Asked) (boot : ℕ) (why : EndReason) → carries j.boot boot ≡ own → is_on_stored j.call ≡ true
-    → IsAway s o j a → a.plan ≡ planned (exit_state s why) j.call j.boot
+    → IsAway s o j a → a.plan ≡ planned s j.call j.boot → a.plan ≡ planned (exit_state s why) j.call j.boot
     → (k : OpenJob) × (job_at_exit s boot (Some j) ≡ Some k) × IsAway (exit_state s why) o k a
-stored_exit true s o j a boot why own is h plan = (
+stored_exit true s o j a boot why own is h before plan = (
   record j { before = Some s },
   ap (λ (b : Bool). Some (if b then record j { before = Some s } else j)) own,
-  in_state s (exit_state s why) o j a (Some s) h (subst (λ (b : Bool). IsOfKind b (exit_state s why) (record j { before = Some s }) a) (sym is) tt) (λ not_ended. plan),
+  in_state s (exit_state s why) o j a (Some s) h (subst (λ (b : Bool). IsOfKind b (exit_state s why) (record j { before = Some s })) (sym is) tt) before (λ not_ended. plan),
 )
-stored_exit false s o j a boot why own is h plan = (
+stored_exit false s o j a boot why own is h before plan = (
   j,
   ap (λ (b : Bool). Some (if b then record j { before = Some s } else j)) own,
-  in_state s (exit_state s why) o j a j.before h (subst (λ (b : Bool). IsOfKind b (exit_state s why) j a) (sym is) tt) (λ not_ended. plan),
+  in_state s (exit_state s why) o j a j.before h (subst (λ (b : Bool). IsOfKind b (exit_state s why) j) (sym is) tt) (planned_then j.before s (exit_state s why) j.call j.boot a h.plan plan) (λ not_ended. plan),
 )
 
 exit_by : (stored : Bool) (s : State) (o : Option OpenOperation) (j : OpenJob) (a : Asked) (boot : ℕ) (why : EndReason) → is_on_stored j.call ≡ stored
@@ -106,12 +114,13 @@ exit_by : (stored : Bool) (s : State) (o : Option OpenOperation) (j : OpenJob) (
     → (k : OpenJob) × (job_at_exit s boot (Some j) ≡ Some k) × IsAway (exit_state s why) o k a
 exit_by true s o j a boot why is tidy h live =
     let plan : a.plan ≡ planned s j.call j.boot = h.now (ap (λ (b : Bool). not b && carries_ended s j.boot) is) in
-    stored_exit (carries j.boot boot) s o j a boot why refl is h (plan ∙ sym (stored_plans s j.call j.boot why tidy is))
+    stored_exit (carries j.boot boot) s o j a boot why refl is h plan (plan ∙ sym (stored_plans s j.call j.boot why tidy is))
 exit_by false s o j a boot why is tidy h live =
-    let g = guest_exit s j a boot why (subst (λ (b : Bool). IsOfKind b s j a) is h.kind) live in (
+    let g = guest_exit s j boot why (subst (λ (b : Bool). IsOfKind b s j) is h.kind) live in (
       record j { before = Some s },
       ap (λ (b : Bool). Some (if b then record j { before = Some s } else j)) (carries_it j.boot boot g.0),
-      in_state s (exit_state s why) o j a (Some s) h (subst (λ (b : Bool). IsOfKind b (exit_state s why) (record j { before = Some s }) a) (sym is) g.1)
+      in_state s (exit_state s why) o j a (Some s) h (subst (λ (b : Bool). IsOfKind b (exit_state s why) (record j { before = Some s })) (sym is) g.1)
+          (h.plan ∙ ap (λ (x : State). planned x j.call j.boot) g.2)
           (λ not_ended. absurd (not_both (meets_ended (exit_state s why) j.call j.boot) (meets_gone (is_on_stored j.call) (exit_state s why) j.boot boot (live_boot-exit s why) g.0 is) not_ended)),
     )
 
@@ -176,14 +185,13 @@ plan_at : (before : Option State) (s : State) (c : Call) (boot : Option ℕ) →
 plan_at None s c boot = sym (end_plan s c boot)
 plan_at (Some x) s c boot = refl
 
-kind_at : (stored : Bool) (s : State) (j : OpenJob) (a : Asked) → IsOfKind stored s j a → IsOfKind stored (without_operation s) j a
-kind_at true s j a h = tt
-kind_at false s j a h = record {
+kind_at : (stored : Bool) (s : State) (j : OpenJob) → IsOfKind stored s j → IsOfKind stored (without_operation s) j
+kind_at true s j h = tt
+kind_at false s j h = record {
   boot = h.boot;
   carried = h.carried;
   was_live = live_at j.before s ∙ h.was_live;
   ended = ended_since j.before s h.ended;
-  plan = h.plan ∙ plan_at j.before s j.call j.boot;
 }
 
 pub end_keeps : EndKeeps
@@ -191,7 +199,8 @@ end_keeps s o j a h = record {
   own = h.own;
   begins_none = h.begins_none;
   takes_none = h.takes_none;
-  kind = kind_at (is_on_stored j.call) s j a h.kind;
+  kind = kind_at (is_on_stored j.call) s j h.kind;
+  plan = h.plan ∙ plan_at j.before s j.call j.boot;
   now = λ not_ended.
       h.now (sym (ap (λ (b : Bool). not (is_on_stored j.call) && b) (end_ended s j.boot)) ∙ not_ended) ∙ sym (end_plan s j.call j.boot);
   waits = h.waits;

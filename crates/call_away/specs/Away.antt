@@ -23,26 +23,27 @@ NoneSince (Some before) s = live_boot s ≡ None
 abbrev pub IsUnsent : Option OpenOperation → OpenJob → Asked → Type 0
 IsUnsent o j a = IsUnsentUntilMade o j.boot (asks_made a.plan a.answers) a.answers
 
--- a call on a guest: what it asks was planned where its boot was live
-pub record IsOnGuest (s : State) (j : OpenJob) (a : Asked) : Type 0 where
+-- a call on a guest: its boot was live where it was planned
+pub record IsOnGuest (s : State) (j : OpenJob) : Type 0 where
   pub boot : ℕ
   pub carried : j.boot ≡ Some boot
   pub was_live : live_boot (planned_at s j) ≡ Some boot
   pub ended : NoneSince j.before s
-  pub plan : a.plan ≡ planned (planned_at s j) j.call j.boot
 
 -- a call on the stored definition, or one on a guest
-abbrev pub IsOfKind : Bool → State → OpenJob → Asked → Type 0
-IsOfKind true s j a = Unit {0}
-IsOfKind false s j a = IsOnGuest s j a
+abbrev pub IsOfKind : Bool → State → OpenJob → Type 0
+IsOfKind true s j = Unit {0}
+IsOfKind false s j = IsOnGuest s j
 
--- a call waits for an answer: while its boot is live, or where it is on the stored definition, what it
--- plans to ask is what it would plan in the present state
+-- a call waits for an answer: what it asks was planned in this state, or where its boot has ended in the
+-- one just before; while its boot is live, or where it is on the stored definition, it is what it would
+-- plan in the present state
 pub record IsAway (s : State) (o : Option OpenOperation) (j : OpenJob) (a : Asked) : Type 0 where
   pub own : j.job ≡ job_of j.call
   pub begins_none : begins j.call ≡ None
   pub takes_none : takes_up j.call ≡ None
-  pub kind : IsOfKind (is_on_stored j.call) s j a
+  pub kind : IsOfKind (is_on_stored j.call) s j
+  pub plan : a.plan ≡ planned (planned_at s j) j.call j.boot
   pub now : meets_ended s j.call j.boot ≡ false → a.plan ≡ planned s j.call j.boot
   pub waits : is_ask (next_of (asks_left a.plan a.answers)) ≡ true
   pub asked : length (asks_made a.plan a.answers) ≡ length a.answers

@@ -17,17 +17,13 @@ use Rattle.core_rules.specs.Cores.{core_of_call}
 use Rattle.core_rules.specs.declared.cores.Core.TheVariants as core
 use Rattle.core_rules.specs.declared.next.Next.TheVariants as next
 use Rattle.core_rules.specs.Next.{at_most, next_if, next_of}
-use Rattle.ask_course.specs.Along.{Asked}
+use Rattle.ask_course.specs.Along.{Asked, answered}
 use Rattle.domain_tidy.specs.Tidy.{IsTidy, planned}
 use Rattle.call_away.specs.Away.{IsAway, IsUnsent}
 
 -- the asks that were made with one more answer are those of the answers so far
 abbrev pub made : Asked → List Ask
 made a = asks_made a.plan a.answers
-
--- the course with one more answer
-abbrev pub answered : Asked → Answer → Asked
-answered a x = record a { answers = a.answers ++ x ∷ [] }
 
 -- after the end of a boot a call is away as before; where the boot was its own it keeps the state of before
 abbrev pub ExitKeeps : Type 0

@@ -1,4 +1,5 @@
 // Laws of the definitions: each function's contract is one, and its body does nothing.
+ghost use Rattle.call_away.specs.Going.{FirstIsAway, FirstIsDone, IsDoneThen, StaysAway};
 ghost use Rattle.call_away.specs.AwayLaws.{ExitKeeps, EndKeeps, IsDoneAtOnce, IsDoneEnded, IsDoneLive, OneIsPlanned};
 
 /// A call that is away still is so after its boot has ended; it keeps the state of before.
@@ -29,4 +30,25 @@ pub fn is_done_after_its_boot()
 /// A call that is on no device asks at most once, and nothing undoes what it asks.
 pub fn is_planned_by_one()
     ensures { OneIsPlanned }
+{}
+
+/// A call that is let in is away where something is left to be asked, whichever asks found no memory.
+pub fn first_is_away()
+    ensures { FirstIsAway }
+{}
+
+/// It is done where nothing is.
+pub fn first_is_done()
+    ensures { FirstIsDone }
+{}
+
+/// A call that was away is so after one more answer where something is left to be asked, whichever
+/// asks found no memory.
+pub fn stays_away()
+    ensures { StaysAway }
+{}
+
+/// It is done where nothing is.
+pub fn is_done_then()
+    ensures { IsDoneThen }
 {}

@@ -5,6 +5,7 @@
 mod laws;
 
 pub use laws::{
-    ends_of_boots_keep, ends_of_operations_keep, is_done_after_its_boot, is_done_at_once,
-    is_done_while_live, is_planned_by_one,
+    ends_of_boots_keep, ends_of_operations_keep, first_is_away, first_is_done,
+    is_done_after_its_boot, is_done_at_once, is_done_then, is_done_while_live, is_planned_by_one,
+    stays_away,
 };
