@@ -48,7 +48,7 @@ forbidden_feed x allowed is = let no : is_forbidden 10 ≡ false = subst (λ (y 
 no_feed : (x : ℕ) → (x ≡ 10 → ⊥) → eqb x 10 ≡ false
 no_feed x differs = ⊎_elim (λ same. absurd (differs same.1)) (λ other. other.0) (eqb_tells x 10)
 
-name_feeds : (name : List ℕ) → All (λ b. is_forbidden b ≡ false) name → feeds name ≡ false
+pub name_feeds : (name : List ℕ) → All (λ b. is_forbidden b ≡ false) name → feeds name ≡ false
 name_feeds [] allowed = refl
 name_feeds (x ∷ xs) allowed = or_false (eqb x 10) (feeds xs)
     (no_feed x (forbidden_feed x (allowed 0 0 (omega arith))))
@@ -61,15 +61,15 @@ digits_feed : (ds : List ℕ) → AllDigits 10 ds → feeds ds ≡ false
 digits_feed [] digits = refl
 digits_feed (x ∷ xs) digits = or_false (eqb x 10) (feeds xs) (no_feed x (digit_feed x digits.0)) (digits_feed xs digits.1)
 
-length_feeds : (n : ℕ) → n ≤ most_text_bytes → feeds (decimal n) ≡ false
+pub length_feeds : (n : ℕ) → n ≤ most_text_bytes → feeds (decimal n) ≡ false
 length_feeds n le = digits_feed (decimal n) (decimal_is_IsNumeral n (omega (arith, le))).0.1
 
 -- a line that names a value, and what comes after it
-labelled : (label value rest : List ℕ) → line (label ++ value) ++ rest ≡ label ++ (value ++ line_feed ∷ rest)
+pub labelled : (label value rest : List ℕ) → line (label ++ value) ++ rest ≡ label ++ (value ++ line_feed ∷ rest)
 labelled label value rest = append_assoc (label ++ value) (line_feed ∷ []) rest ∙ append_assoc label value (line_feed ∷ rest)
 
 -- the first line, and what comes after it
-flagged : (label flag middle name rest : List ℕ) → line (label ++ flag ++ middle ++ name) ++ rest ≡ label ++ (flag ++ (middle ++ (name ++ line_feed ∷ rest)))
+pub flagged : (label flag middle name rest : List ℕ) → line (label ++ flag ++ middle ++ name) ++ rest ≡ label ++ (flag ++ (middle ++ (name ++ line_feed ∷ rest)))
 flagged label flag middle name rest =
     append_assoc (label ++ flag ++ middle ++ name) (line_feed ∷ []) rest
     ∙ append_assoc (label ++ flag ++ middle) name (line_feed ∷ rest)
@@ -104,7 +104,7 @@ unfolding definition_bytes
 bytes_two e = bytes_lines e.autostart e.name e.title (decimal (length e.text)) e.text
 
 -- a flag is read one way
-same_flag : (a b : Bool) (rest other : List ℕ) → yes_or_no a ++ (codes " name=" ++ rest) ≡ yes_or_no b ++ (codes " name=" ++ other) → (a ≡ b) × (rest ≡ other)
+pub same_flag : (a b : Bool) (rest other : List ℕ) → yes_or_no a ++ (codes " name=" ++ rest) ≡ yes_or_no b ++ (codes " name=" ++ other) → (a ≡ b) × (rest ≡ other)
 same_flag true true rest other same = (refl, append_cancel_left (codes "yes name=") rest other same)
 same_flag true false rest other same = let e : 121 ≡ 110 = ap (λ (l : List ℕ). get_or l 0 0) same in absurd (omega (arith, e))
 same_flag false true rest other same = let e : 110 ≡ 121 = ap (λ (l : List ℕ). get_or l 0 0) same in absurd (omega (arith, e))

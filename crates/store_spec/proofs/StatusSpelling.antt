@@ -34,7 +34,7 @@ second true q is = cc
 second false q is = is
 
 -- a space ends the first word
-ends_word : (a b rest other : List ℕ) → spaces a ≡ false → spaces b ≡ false → (a ++ space ∷ rest) ≡ (b ++ space ∷ other) → (a ≡ b) × (rest ≡ other)
+pub ends_word : (a b rest other : List ℕ) → spaces a ≡ false → spaces b ≡ false → (a ++ space ∷ rest) ≡ (b ++ space ∷ other) → (a ≡ b) × (rest ≡ other)
 ends_word [] [] rest other none none' same = (refl, let e : rest ≡ other = cc in e)
 ends_word [] (y ∷ b) rest other none none' same = let e : y ≡ 32 = sym (ap (λ (l : List ℕ). get_or l 0 0) same) in absurd (starts y b e none')
 ends_word (x ∷ a) [] rest other none none' same = let e : x ≡ 32 = ap (λ (l : List ℕ). get_or l 0 0) same in absurd (starts x a e none)
@@ -51,7 +51,7 @@ or_false false b x y = y
 digit_space : (x : ℕ) → digit_value x < 10 → x ≡ 32 → ⊥
 digit_space x low is = let wrong : digit_value 32 < 10 = subst (λ (y : ℕ). digit_value y < 10) is low in omega (arith, wrong)
 
-digits_space : (ds : List ℕ) → AllDigits 10 ds → spaces ds ≡ false
+pub digits_space : (ds : List ℕ) → AllDigits 10 ds → spaces ds ≡ false
 digits_space [] all = refl
 digits_space (x ∷ xs) all = or_false (eqb x 32) (spaces xs) (⊎_elim (λ same. absurd (digit_space x all.0 same.1)) (λ other. other.0) (eqb_tells x 32)) (digits_space xs all.1)
 
@@ -71,7 +71,7 @@ state_known state.Paused = refl
 state_known state.ShutOff = refl
 state_known state.Crashed = refl
 
-state_fits : (x : DomainState) → state_number x < 2 ^ 64
+pub state_fits : (x : DomainState) → state_number x < 2 ^ 64
 state_fits state.Running = omega arith
 state_fits state.Paused = omega arith
 state_fits state.ShutOff = omega arith
@@ -103,7 +103,7 @@ phase_known phase.MigrateBack = refl
 phase_known phase.MigrateRun = refl
 phase_known phase.MigrateDrop = refl
 
-phase_fits : (x : Phase) → phase_number x < 2 ^ 64
+pub phase_fits : (x : Phase) → phase_number x < 2 ^ 64
 phase_fits phase.Nothing = omega arith
 phase_fits phase.Make = omega arith
 phase_fits phase.Run = omega arith
@@ -140,7 +140,7 @@ job_known (Some op.Revert) = refl
 job_known (Some op.MigrateOut) = refl
 job_known (Some op.MigrateIn) = refl
 
-job_fits : (x : (Option OpKind)) → job_number x < 2 ^ 64
+pub job_fits : (x : (Option OpKind)) → job_number x < 2 ^ 64
 job_fits None = omega arith
 job_fits (Some op.Start) = omega arith
 job_fits (Some op.Save) = omega arith
@@ -155,14 +155,14 @@ same_job : (x y : (Option OpKind)) → job_number x ≡ job_number y → x ≡ y
 same_job x y same = let some : Some x ≡ Some y = sym (job_known x) ∙ ap job_of same ∙ job_known y in cc
 
 -- the words of a status file, one after the other
-abbrev words_of : ℕ → ℕ → ℕ → ℕ → List ℕ → List ℕ
+abbrev pub words_of : ℕ → ℕ → ℕ → ℕ → List ℕ → List ℕ
 words_of boot state job phase name =
     codes "run 1 boot=" ++ (decimal boot ++ (codes " state=" ++ (decimal state ++ (codes " op=" ++ (decimal job ++ (codes " phase=" ++ (decimal phase ++ (codes " name=" ++ name))))))))
 
 onward : (a b c : List ℕ) → (a ++ b) ++ c ≡ a ++ (b ++ c)
 onward a b c = append_assoc a b c
 
-bytes_of_status : (s : Status) → status_bytes s ≡ words_of s.boot (state_number s.state) (job_number s.op) (phase_number s.phase) s.name ++ line_feed ∷ []
+pub bytes_of_status : (s : Status) → status_bytes s ≡ words_of s.boot (state_number s.state) (job_number s.op) (phase_number s.phase) s.name ++ line_feed ∷ []
 unfolding status_bytes
 bytes_of_status s =
     let b = decimal s.boot in

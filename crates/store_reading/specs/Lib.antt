@@ -1,0 +1,4 @@
+pub mod Lines
+pub mod Definition
+pub mod FileName
+pub mod Status
