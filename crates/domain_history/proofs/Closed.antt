@@ -28,7 +28,9 @@ use Rattle.domain_driver.specs.declared.calls.CallParts.{CallParts}
 use Rattle.domain_driver.specs.declared.phases.PhaseParts.{PhaseParts}
 use Rattle.domain_driver.specs.declared.phases.PhaseParts.TheVariants as phase_parts
 use Rattle.domain_spec.specs.declared.standing.Registration.{Registration}
+use Rattle.domain_tidy.specs.Guests.{HasOwnGuest}
 use Rattle.domain_tidy.specs.Tidy.{IsTidy}
+use Rattle.domain_tidy.proofs.OwnGuests.{mark_keeps_guests}
 use Rattle.domain_tidy.proofs.TidyCalls.{exit_tidy}
 use Rattle.domain_tidy.proofs.TidyMarks.{every_mark}
 use Rattle.domain_history.specs.Closing.{CanDo, CanPhase, after_loss, done_in, done_mark, done_marks, done_of, left_by, loss, phase_mark, phase_marks, phased_in, phased_of, told_in, told_of}
@@ -106,6 +108,9 @@ closes_by b marks left m s n t j o p None h lawful is_state is_job is_operation 
       operation = ap (λ (x : Standing). x.operation) more ∙ is_operation;
       lost = ap (λ (x : Standing). x.lost) more ∙ is_lost;
       tidy = subst (λ (x : State). IsTidy x) (is_state ∙ sym is_t) (every_mark (stood b marks s j o) (numbered m) h.tidy);
+      guest =
+          subst (λ (x : State). HasOwnGuest x p) (is_state ∙ sym is_t)
+          (subst (λ (x : Option OpenOperation). HasOwnGuest (after (stood b marks s j o) (numbered m)).state x) is_operation (mark_keeps_guests (stood b marks s j o) (numbered m) h.guest));
     }
 closes_by b marks left m s n t j o p (Some boot) h lawful is_state is_job is_operation is_lost live is_t is_left =
     let mid : List (Mark Stamp) = marks ++ m ∷ [] in
@@ -128,6 +133,10 @@ closes_by b marks left m s n t j o p (Some boot) h lawful is_state is_job is_ope
       tidy =
           subst (λ (x : State). IsTidy x) (sym is_t)
           (exit_tidy n reason.Lost (subst (λ (x : State). IsTidy x) is_state (every_mark (stood b marks s j o) (numbered m) h.tidy)));
+      guest =
+          subst (λ (x : State). HasOwnGuest x p) (sym is_t)
+          (mark_keeps_guests (record { state = n; job = None; just_admitted = x.just_admitted; operation = p; lost = Some boot; clients = x.clients }) (numbered exit)
+          (subst (λ (y : State). HasOwnGuest y p) is_state (subst (λ (y : Option OpenOperation). HasOwnGuest x.state y) is_operation (mark_keeps_guests (stood b marks s j o) (numbered m) h.guest))));
     }
 
 -- the open call is done
@@ -233,8 +242,8 @@ shown_fits (phase_parts.Snapshot p) s o n h = h
 
 -- a chapter that begins with what is there
 pub turns_over : (b : Base) (left : List (Mark Stamp)) (s : State) (j : Option OpenJob) (o : Option OpenOperation) (rs : List Registration)
-    → IsTidy s → j ≡ None → b ≡ record { state = s; operation = o; registrations = rs } → left ≡ [] → Stands b left s j o
-turns_over b left s j o rs tidy none is_base is_left =
+    → IsTidy s → HasOwnGuest s o → j ≡ None → b ≡ record { state = s; operation = o; registrations = rs } → left ≡ [] → Stands b left s j o
+turns_over b left s j o rs tidy guest none is_base is_left =
     subst (λ (x : Option OpenJob). Stands b left s x o) (sym none)
     (subst (λ (ms : List (Mark Stamp)). Stands b ms s None o) (sym is_left)
-    (subst (λ (x : Base). Stands x [] s None o) (sym is_base) (opens (record { state = s; operation = o; registrations = rs }) tidy)))
+    (subst (λ (x : Base). Stands x [] s None o) (sym is_base) (opens (record { state = s; operation = o; registrations = rs }) tidy guest)))

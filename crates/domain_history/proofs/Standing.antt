@@ -17,7 +17,9 @@ use Rattle.domain_spec.specs.Legal.{IsLawful, IsLegal}
 use Rattle.domain_spec.specs.Phase.{without_operation}
 use Rattle.domain_spec.specs.Reading.{live_boot}
 use Rattle.domain_spec.proofs.LawProofs.{legal-append, standing-append}
+use Rattle.domain_tidy.specs.Guests.{HasOwnGuest}
 use Rattle.domain_tidy.specs.Tidy.{IsTidy}
+use Rattle.domain_tidy.proofs.OwnGuests.{mark_keeps_guests}
 use Rattle.domain_tidy.proofs.TidyMarks.{every_mark}
 use Rattle.domain_history.specs.Numbered.{all_numbered, numbered}
 use Rattle.domain_history.specs.Standing.{Stands, in_force}
@@ -65,6 +67,9 @@ one_mark b marks left m s t j k o p h lawful is_state is_job is_operation is_los
       operation = ap (λ (x : Standing). x.operation) more ∙ is_operation;
       lost = ap (λ (x : Standing). x.lost) more ∙ is_lost;
       tidy = subst (λ (x : State). IsTidy x) is_state (every_mark (stood b marks s j o) (numbered m) h.tidy);
+      guest =
+          subst (λ (x : State). HasOwnGuest x p) is_state
+          (subst (λ (x : Option OpenOperation). HasOwnGuest (after (stood b marks s j o) (numbered m)).state x) is_operation (mark_keeps_guests (stood b marks s j o) (numbered m) h.guest));
     }
 
 -- a boot's end more
@@ -136,6 +141,6 @@ takes_over b marks left s t j k (Some o) p by who c h lawful e f g is_left =
     one_mark b marks left (mark.TakeUp by who c) s t j k (Some o) p h lawful (sym e) (sym f) (sym g) refl is_left
 
 -- a chapter without marks, in which no call is open
-pub opens : (b : Base) → IsTidy b.state → Stands b [] b.state None b.operation
+pub opens : (b : Base) → IsTidy b.state → HasOwnGuest b.state b.operation → Stands b [] b.state None b.operation
 unfolding in_force
-opens b tidy = record { legal = tt; state = refl; job = refl; operation = refl; lost = refl; tidy = tidy }
+opens b tidy guest = record { legal = tt; state = refl; job = refl; operation = refl; lost = refl; tidy = tidy; guest = guest }

@@ -10,6 +10,7 @@ use Rattle.domain_spec.specs.declared.standing.Base.{Base}
 use Rattle.domain_spec.specs.declared.standing.Standing.{Standing}
 use Rattle.domain_spec.specs.Fold.{at_base, standing}
 use Rattle.domain_spec.specs.Legal.{IsLegal}
+use Rattle.domain_tidy.specs.Guests.{HasOwnGuest}
 use Rattle.domain_tidy.specs.Tidy.{IsTidy}
 use Rattle.domain_history.specs.Numbered.{all_numbered}
 
@@ -22,8 +23,8 @@ pub record HistoryWithRoom : Type 0 where
 unfoldable pub in_force : Base → List (Mark Stamp) → Standing
 in_force b marks = standing (at_base b) (all_numbered marks)
 
--- the history is legal, and what is in force after it is this; no loss is left to be marked, and no domain
--- without a stored definition has autostart
+-- the history is legal, and what is in force after it is this; no loss is left to be marked, no domain
+-- without a stored definition has autostart, and beside an operation no guest runs but its own
 pub record Stands (b : Base) (marks : List (Mark Stamp)) (s : State) (j : Option OpenJob) (o : Option OpenOperation) : Type 0 where
   pub legal : IsLegal (at_base b) (all_numbered marks)
   pub state : (in_force b marks).state ≡ s
@@ -31,3 +32,4 @@ pub record Stands (b : Base) (marks : List (Mark Stamp)) (s : State) (j : Option
   pub operation : (in_force b marks).operation ≡ o
   pub lost : (in_force b marks).lost ≡ None
   pub tidy : IsTidy s
+  pub guest : HasOwnGuest s o

@@ -3,11 +3,13 @@ ghost use Rattle.std.specs.Prelude.{◌≡◌, ◌^◌, ◌++◌, ◌∷◌, ◌
 ghost use Rattle.domain_spec.specs.Begin.{named_call, taken_up_state};
 ghost use Rattle.domain_spec.specs.Chapter.{first_base, next_base};
 ghost use Rattle.domain_spec.specs.Exit.{event_state, event_transitions};
-ghost use Rattle.domain_spec.specs.Fold.{job_at_exit, taken_up};
-ghost use Rattle.domain_spec.specs.Legal.{IsLawful};
+ghost use Rattle.domain_spec.specs.Fold.{at_base, job_at_exit, taken_up};
+ghost use Rattle.domain_spec.specs.Legal.{IsLawful, IsLegal};
 ghost use Rattle.domain_spec.specs.declared.mark.Mark.TheVariants as mark;
+ghost use Rattle.domain_tidy.specs.Guests.{HasOwnGuest};
 ghost use Rattle.domain_tidy.specs.Tidy.{IsTidy};
 ghost use Rattle.domain_history.specs.Closing.{CanDo, CanPhase, done_in, phased_in, told_in};
+ghost use Rattle.domain_history.specs.Numbered.{all_numbered};
 ghost use Rattle.domain_history.specs.Standing.{in_force};
 ghost use Rattle.domain_state.specs.Beginnings.{HasNumber};
 
@@ -153,9 +155,11 @@ impl Chapter {
         })
     }
 
-    /// The state. A domain without a stored definition has no autostart.
+    /// The state. A domain without a stored definition has no autostart, and no boot's end is left to be
+    /// marked.
     pub fn state(&self) -> &State
         ensures state { result.now ≡ (in_force self.now.history.base self.now.history.marks).state }
+        ensures lost { (in_force self.now.history.base self.now.history.marks).lost ≡ None }
         ensures tidy { IsTidy result.now }
     {
         &self.state
@@ -168,9 +172,10 @@ impl Chapter {
         &self.job
     }
 
-    /// The operation that is under way.
+    /// The operation that is under way. Beside it no guest runs but its own.
     pub fn operation(&self) -> &Option<Underway>
-        ensures { result.now ≡ (in_force self.now.history.base self.now.history.marks).operation }
+        ensures operation { result.now ≡ (in_force self.now.history.base self.now.history.marks).operation }
+        ensures guest { HasOwnGuest (in_force self.now.history.base self.now.history.marks).state result.now }
     {
         &self.operation
     }
@@ -189,9 +194,10 @@ impl Chapter {
         self.marks.as_slice().len()
     }
 
-    /// The marks of the chapter.
+    /// The marks of the chapter, which are a legal history.
     pub fn marks(&self) -> &[Mark<Stamp>]
-        ensures { result.now ≡ self.now.history.marks }
+        ensures marks { result.now ≡ self.now.history.marks }
+        ensures legal { IsLegal (at_base self.now.history.base) (all_numbered self.now.history.marks) }
     {
         self.marks.as_slice()
     }

@@ -20,4 +20,4 @@ invariant_of-self c =
     let none : i.job ≡ None =
     sym c.self.invariant.job
     ∙ subst (λ (v : HistoryWithRoom). (in_force v.history.base v.history.marks).job ≡ None) (sym c.self.view_is) c.requires.none in
-    turns_over c.in_ok-base.base c.in_ok-base.marks.list i.state i.job i.operation rs c.self.invariant.tidy none is_base is_left
+    turns_over c.in_ok-base.base c.in_ok-base.marks.list i.state i.job i.operation rs c.self.invariant.tidy c.self.invariant.guest none is_base is_left
