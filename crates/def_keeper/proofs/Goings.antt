@@ -182,18 +182,21 @@ goes_made begun os o base tries reach c of makes but g = (goes_more begun os o b
 true_false : true ≡ false → ⊥
 true_false e = cc
 
--- a sync of the directory ends the doubt
-pub settled_now : (begun : ℕ) (os : List Operation) (base : Definitions) (tries : List Try) (reach : ℕ) → Goes begun os base tries reach → StandsFor (directory os) (after_all base tries) → IsSettled (os ++ op.SyncDirectory ∷ []) (after_all base tries)
-settled_now begun os base tries reach g stands = record { stands = now; sure = sure; images = images }
+-- a sync of the directory ends the doubt, where the files of definitions are sure
+pub settled_sure : (os : List Operation) (map : Definitions) → ((n : List ℕ) → IsDefinitionName n → IsSure (files_after os n)) → StandsFor (directory os) map → IsSettled (os ++ op.SyncDirectory ∷ []) map
+settled_sure os map sure_before stands = record { stands = now; sure = sure; images = images }
   where
     sure : (n : List ℕ) → IsDefinitionName n → IsSure (files_after (os ++ op.SyncDirectory ∷ []) n)
-    sure n is = subst IsSure (sym (files_aside os op.SyncDirectory sync_aside n is)) (g.sure n is)
+    sure n is = subst IsSure (sym (files_aside os op.SyncDirectory sync_aside n is)) (sure_before n is)
 
-    now : StandsFor (directory (os ++ op.SyncDirectory ∷ [])) (after_all base tries)
-    now = stands_aside os op.SyncDirectory (after_all base tries) sync_aside stands
+    now : StandsFor (directory (os ++ op.SyncDirectory ∷ [])) map
+    now = stands_aside os op.SyncDirectory map sync_aside stands
 
-    images : (left : Directory) → MayLeave (os ++ op.SyncDirectory ∷ []) left → StandsFor left (after_all base tries)
+    images : (left : Directory) → MayLeave (os ++ op.SyncDirectory ∷ []) left → StandsFor left map
     images left m = ⊎_elim
-        (λ (done : IsUpToDate (os ++ op.SyncDirectory ∷ []) left). stands_alike (directory (os ++ op.SyncDirectory ∷ [])) left (after_all base tries) (up_to_date_alike (os ++ op.SyncDirectory ∷ []) left sure done) now)
+        (λ (done : IsUpToDate (os ++ op.SyncDirectory ∷ []) left). stands_alike (directory (os ++ op.SyncDirectory ∷ [])) left map (up_to_date_alike (os ++ op.SyncDirectory ∷ []) left sure done) now)
         (λ (before : (true ≡ false) × (b : Directory) × MayLeave os b × SameBut op.SyncDirectory left b). absurd (true_false before.0))
         (images_go_on os op.SyncDirectory left m)
+
+pub settled_now : (begun : ℕ) (os : List Operation) (base : Definitions) (tries : List Try) (reach : ℕ) → Goes begun os base tries reach → StandsFor (directory os) (after_all base tries) → IsSettled (os ++ op.SyncDirectory ∷ []) (after_all base tries)
+settled_now begun os base tries reach g stands = settled_sure os (after_all base tries) g.sure stands

@@ -1,5 +1,5 @@
 pub mod Rows
-pub mod Found
+pub mod MapFinds
 pub mod Tries
 pub mod Goings
 pub mod Attempts

@@ -53,11 +53,7 @@ module _ {Y X : Type 0} where
   pub rows_none : (m : BTreeMap (Vec ℕ Y) X) → tree.IsEmpty m → rows_in m.entries ≡ []
   rows_none m empty = ap (λ (es : List (Vec ℕ Y × X)). rows_in es) empty
 
--- a key that is there is not new, and so takes no memory
-pub surely : {A E U X : Type 0} (r : Result A E) (o p : Option X) → OnOk r U → OnErr r (o ≡ None) → IsSome p → p ≡ o → U
-surely (Ok a) o p updates absent some same = updates
-surely (Err e) o p updates absent some same = absurd (not_none p some (same ∙ absent))
-  where
-    not_none : {X : Type 0} (p : Option X) → IsSome p → p ≡ None → ⊥
-    not_none None some none = cc
-    not_none (Some x) some none = cc
+-- a value that is there is not absent
+pub not_none : {X : Type 0} (p : Option X) → IsSome p → p ≡ None → ⊥
+not_none None some none = cc
+not_none (Some x) some none = cc

@@ -57,6 +57,15 @@ pub record IsReady (k : BookKind) (uuid name : List ℕ) (m : MapRows) : Type 0 
   pub row : IsSome (at m.entries (key_of k uuid))
   pub named : at m.names (key_of k name) ≡ Some uuid
 
+-- a name has a row only where an object of the kind has it
+abbrev pub IsForgotten : BookKind → List ℕ → MapRows → Type 0
+IsForgotten k name m = (uuid : List ℕ) → at m.names (key_of k name) ≡ Some uuid → (e : Entry) × (found m k uuid ≡ Some e) × (e.name ≡ name)
+
+-- and so the name of this entry, if it is one
+abbrev pub HasForgotten : BookKind → Option Entry → MapRows → Type 0
+HasForgotten k None m = Unit {0}
+HasForgotten k (Some e) m = IsForgotten k e.name m
+
 -- no rows
 abbrev pub no_rows : MapRows
 no_rows = record { entries = []; names = [] }

@@ -155,7 +155,11 @@ pub(crate) fn make_put<F: Files>(
 {
     let row = match map.prepare(kind, uuid, &entry.name) {
         Ok(row) => row,
-        Err(NoMemory) => return Err(Fault::NoMemory),
+        Err(NoMemory) => {
+            map.give_up(kind, uuid, &entry.name);
+            drop(entry);
+            return Err(Fault::NoMemory);
+        }
     };
     match put(alloc, files, kind, uuid, &entry) {
         Ok(()) => {
@@ -165,11 +169,13 @@ pub(crate) fn make_put<F: Files>(
         }
         Err(Fault::Failed) => {
             mark_put(chronicle, 2, files, kind, uuid, &entry);
+            map.give_up(kind, uuid, &entry.name);
             drop(entry);
             *doubt = Some(DefKey { kind, uuid });
             Err(Fault::Failed)
         }
         Err(Fault::NoMemory) => {
+            map.give_up(kind, uuid, &entry.name);
             drop(entry);
             Err(Fault::NoMemory)
         }
@@ -246,21 +252,20 @@ fn make<F: Files>(
 }
 
 // Who else has the name of what is put, if anybody.
-fn taken_by(map: &DefMap, change: &Change) -> Result<Option<Uuid>, NoMemory>
-    ensures { IfOk result (IsTakenBy change.now (found map.now)) }
+fn taken_by(map: &DefMap, change: &Change) -> Option<Uuid>
+    ensures { IsTakenBy change.now (found map.now) result }
 {
     match change {
         Change::Put { kind, uuid, entry } => match map.uuid_of(*kind, &entry.name) {
-            Ok(Some(other)) => {
+            Some(other) => {
                 if other == *uuid {
-                    return Ok(None);
+                    return None;
                 }
-                Ok(Some(other))
+                Some(other)
             }
-            Ok(None) => Ok(None),
-            Err(NoMemory) => Err(NoMemory),
+            None => None,
         },
-        Change::Drop { .. } => Ok(None),
+        Change::Drop { .. } => None,
     }
 }
 
@@ -375,16 +380,12 @@ pub(crate) fn change_in<F: Files>(
         return Err(OrNoMemory::NoMemory);
     }
     match taken_by(map, &change) {
-        Err(NoMemory) => {
-            drop(change);
-            Err(OrNoMemory::NoMemory)
-        }
-        Ok(Some(one)) => {
+        Some(one) => {
             let fault = refuse(files, chronicle, &change, one);
             drop(change);
             Err(OrNoMemory::Fault(fault))
         }
-        Ok(None) => match change_free(alloc, files, map, chronicle, doubt, change) {
+        None => match change_free(alloc, files, map, chronicle, doubt, change) {
             Ok(()) => Ok(()),
             Err(Fault::Failed) => Err(OrNoMemory::Fault(StoreFault::Device)),
             Err(Fault::NoMemory) => Err(OrNoMemory::NoMemory),

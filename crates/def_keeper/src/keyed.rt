@@ -1,5 +1,5 @@
 // Values by bytes.
-ghost use Rattle.std.specs.Prelude.{◌≡◌, List, [], ℕ, OnOk, OnErr, None, Some, option_copied};
+ghost use Rattle.std.specs.Prelude.{◌≡◌, List, [], ℕ, OnOk, OnErr, None, Some, length, option_copied};
 ghost use Rattle.std.specs.Option.{IsSome};
 ghost use Rattle.def_keeper.specs.Rows.{at, Stays, Updates};
 
@@ -54,22 +54,34 @@ impl<V> Keyed<V> {
         Ok(())
     }
 
-    /// Gives bytes that have a value another. It takes no memory.
-    pub fn set(&mut self, key: Vec<u8>, value: V)
+    /// Gives bytes that have a value another, and the old one back. It takes no memory.
+    pub fn set(&mut self, key: Vec<u8>, value: V) -> Option<V>
     where
         V: Drop,
         requires { IsSome (at self.old key.items) }
-        ensures { Updates key.items (Some value) self.old self.new }
+        ensures updates { Updates key.items (Some value) self.old self.new }
+        ensures old { result ≡ at self.old key.items }
     {
-        let _ = self.rows.insert(key, value);
+        match self.rows.insert(key, value) {
+            Ok(old) => old,
+            Err(_) => None,
+        }
     }
 
-    /// Takes the value of these bytes away. It takes no memory.
-    pub fn remove(&mut self, bytes: &[u8])
+    /// Takes the value of these bytes away, and gives it back. It takes no memory.
+    pub fn remove(&mut self, bytes: &[u8]) -> Option<V>
     where
         V: Drop,
-        ensures { Updates bytes.now None self.old self.new }
+        ensures updates { Updates bytes.now None self.old self.new }
+        ensures old { result ≡ at self.old bytes.now }
     {
-        let _ = self.rows.remove(bytes);
+        self.rows.remove(bytes)
+    }
+
+    /// How many rows there are.
+    pub fn len(&self) -> usize
+        ensures { result ≡ length self.now }
+    {
+        self.rows.len()
     }
 }

@@ -1,10 +1,10 @@
 // Definitions in memory.
-ghost use Rattle.std.specs.Prelude.{◌≡◌, List, ℕ, IfOk, OnOk, OnErr, None, Some, Ok, option_copied, option_map};
+ghost use Rattle.std.specs.Prelude.{◌≡◌, List, ℕ, IfOk, OnOk, OnErr, None, Some, length, option_copied};
 ghost use Rattle.std.specs.Option.{IsSome};
 ghost use Rattle.store_spec.specs.declared.change.Change.TheVariants as change;
 ghost use Rattle.store_spec.specs.Changes.{changed};
-ghost use Rattle.store_spec.specs.declared.kind.BookKind.{BookKind};
-ghost use Rattle.def_keeper.specs.Map.{FindsTheSame, IsFree, IsHolder, IsMade, IsNamed, IsReady, found, key_of, kind_byte, no_rows};
+ghost use Rattle.store_spec.specs.declared.kind.BookKind.{BookKind as TheKind};
+ghost use Rattle.def_keeper.specs.Map.{FindsTheSame, HasForgotten, IsForgotten, IsFree, IsHolder, IsMade, IsNamed, IsReady, entry_in, found, key_of, kind_byte, no_rows};
 ghost use Rattle.def_keeper.specs.Rows.{at};
 
 use crate::keyed::Keyed;
@@ -12,6 +12,9 @@ use std::alloc::Global;
 use std::marker::Model;
 use store_spec::{BookKind, Entry};
 use virt_types::{Name, NoMemory, Uuid};
+
+/// The most bytes of a key: that of a kind, and those of a name.
+const MOST_KEY: usize = 129;
 
 /// Definitions by kind and identifier. Contracts see their rows, and with `found` the entries.
 #[derive(Drop)]
@@ -52,14 +55,14 @@ fn uuid_key(kind: BookKind, uuid: Uuid) -> [u8; 17]
     key
 }
 
-// The bytes under which a name of a kind has its row.
-fn name_key(alloc: Global, kind: BookKind, name: &Name) -> Result<Vec<u8>, NoMemory>
-    ensures { IfOk result (λ key. key.items ≡ key_of kind name.now) }
+// The bytes under which a name of a kind has its row. It takes no memory.
+fn name_key<'a>(buffer: &'a mut [u8; MOST_KEY], kind: BookKind, name: &Name) -> &'a [u8]
+    ensures { result.now ≡ key_of kind name.now }
 {
-    let mut key = Vec::new(alloc);
-    key.push(kind_byte(kind))?;
-    key.extend_from_slice(name.as_bytes())?;
-    Ok(key)
+    let name = name.as_bytes();
+    buffer[0] = kind_byte(kind);
+    buffer[1..name.len() + 1].copy_from_slice(name);
+    &buffer[..name.len() + 1]
 }
 
 // The keys under which a definition gets its rows: that of its entry twice, since one is kept for
@@ -79,7 +82,8 @@ fn keys_of(alloc: Global, kind: BookKind, uuid: Uuid, name: &Name) -> Result<Key
     let key = uuid_key(kind, uuid);
     let entry = Vec::from_slice(alloc, key.as_slice())?;
     let spare = Vec::from_slice(alloc, key.as_slice())?;
-    let name = name_key(alloc, kind, name)?;
+    let mut buffer = [0u8; MOST_KEY];
+    let name = Vec::from_slice(alloc, name_key(&mut buffer, kind, name))?;
     Ok(Keys { entry, spare, name })
 }
 
@@ -100,6 +104,16 @@ fn make_name(names: &mut Keyed<Uuid>, key: Vec<u8>, uuid: Uuid) -> Result<(), No
     ensures made { IsNamed key.items uuid names.old names.new }
 {
     names.insert(key, uuid)
+}
+
+// The entry in a row.
+fn flat(row: Option<Option<Entry>>) -> Option<Entry>
+    ensures { result ≡ entry_in row }
+{
+    match row {
+        Some(entry) => entry,
+        None => None,
+    }
 }
 
 impl DefMap {
@@ -126,21 +140,22 @@ impl DefMap {
     }
 
     /// The identifier of the object of this kind that has this name.
-    pub fn uuid_of(&self, kind: BookKind, name: &Name) -> Result<Option<Uuid>, NoMemory>
-        ensures { IfOk result (IsHolder kind name.now (found self.now)) }
+    pub fn uuid_of(&self, kind: BookKind, name: &Name) -> Option<Uuid>
+        ensures { IsHolder kind name.now (found self.now) result }
     {
-        let key = name_key(self.alloc, kind, name)?;
-        let Some(uuid) = self.names.get(key.as_slice()).copied() else {
-            return Ok(None);
+        let mut buffer = [0u8; MOST_KEY];
+        let key = name_key(&mut buffer, kind, name);
+        let Some(uuid) = self.names.get(key).copied() else {
+            return None;
         };
         match self.get(kind, uuid) {
             Some(entry) => {
                 if entry.name.as_bytes() == name.as_bytes() {
-                    return Ok(Some(uuid));
+                    return Some(uuid);
                 }
-                Ok(None)
+                None
             }
-            None => Ok(None),
+            None => None,
         }
     }
 
@@ -171,20 +186,84 @@ impl DefMap {
         Ok(spare)
     }
 
-    /// Puts an entry for which there is room.
+    // Puts an entry for which there is room, and gives the old one back.
+    fn put(&mut self, kind: BookKind, uuid: Uuid, row: Vec<u8>, entry: Entry) -> Option<Entry>
+        requires ready { IsReady kind uuid entry.name self.old }
+        requires row { row.items ≡ key_of kind uuid }
+        ensures put { (k : TheKind) (u : List ℕ) → found self.new k u ≡ changed (change.Put kind uuid entry) (found self.old) k u }
+        ensures old { result ≡ found self.old kind uuid }
+    {
+        flat(self.entries.set(row, Some(entry)))
+    }
+
+    // Takes an entry out.
+    fn remove(&mut self, kind: BookKind, uuid: Uuid) -> Option<Entry>
+        ensures dropped { (k : TheKind) (u : List ℕ) → found self.new k u ≡ changed (change.Drop kind uuid) (found self.old) k u }
+        ensures old { result ≡ found self.old kind uuid }
+    {
+        let key = uuid_key(kind, uuid);
+        flat(self.entries.remove(key.as_slice()))
+    }
+
+    // Forgets a name that no definition of the kind has. It takes no memory.
+    fn forget(&mut self, kind: BookKind, name: &Name)
+        ensures same { FindsTheSame self.old self.new }
+        ensures gone { IsForgotten kind name.now self.new }
+    {
+        match self.uuid_of(kind, name) {
+            Some(_) => return,
+            None => {}
+        }
+        let mut buffer = [0u8; MOST_KEY];
+        self.names.remove(name_key(&mut buffer, kind, name));
+    }
+
+    /// Puts an entry for which there is room. The name that the old entry had is forgotten.
     pub(crate) fn set(&mut self, kind: BookKind, uuid: Uuid, row: Vec<u8>, entry: Entry)
         requires ready { IsReady kind uuid entry.name self.old }
         requires row { row.items ≡ key_of kind uuid }
-        ensures { (k : BookKind) (u : List ℕ) → found self.new k u ≡ changed (change.Put kind uuid entry) (found self.old) k u }
+        ensures put { (k : TheKind) (u : List ℕ) → found self.new k u ≡ changed (change.Put kind uuid entry) (found self.old) k u }
+        ensures forgotten { HasForgotten kind (found self.old kind uuid) self.new }
     {
-        self.entries.set(row, Some(entry));
+        if let Some(old) = self.put(kind, uuid, row, entry) {
+            self.forget(kind, &old.name);
+        }
     }
 
-    /// Drops an entry.
+    /// Drops an entry, and forgets its name.
     pub(crate) fn take(&mut self, kind: BookKind, uuid: Uuid)
-        ensures { (k : BookKind) (u : List ℕ) → found self.new k u ≡ changed (change.Drop kind uuid) (found self.old) k u }
+        ensures dropped { (k : TheKind) (u : List ℕ) → found self.new k u ≡ changed (change.Drop kind uuid) (found self.old) k u }
+        ensures forgotten { HasForgotten kind (found self.old kind uuid) self.new }
     {
-        let key = uuid_key(kind, uuid);
-        self.entries.remove(key.as_slice());
+        if let Some(old) = self.remove(kind, uuid) {
+            self.forget(kind, &old.name);
+        }
+    }
+
+    // Takes away a row that has no entry.
+    fn drop_row(&mut self, kind: BookKind, uuid: Uuid)
+        ensures { FindsTheSame self.old self.new }
+    {
+        match self.get(kind, uuid) {
+            Some(_) => return,
+            None => {}
+        }
+        self.remove(kind, uuid);
+    }
+
+    /// Gives the room back that was made for an entry of this name, where it was not put.
+    pub(crate) fn give_up(&mut self, kind: BookKind, uuid: Uuid, name: &Name)
+        ensures same { FindsTheSame self.old self.new }
+        ensures forgotten { IsForgotten kind name.now self.new }
+    {
+        self.drop_row(kind, uuid);
+        self.forget(kind, name);
+    }
+
+    /// How many rows there are, of entries and of names.
+    pub(crate) fn rows(&self) -> (usize, usize)
+        ensures { result ≡ (length self.now.entries, length self.now.names) }
+    {
+        (self.entries.len(), self.names.len())
     }
 }

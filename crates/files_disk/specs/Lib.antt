@@ -3,3 +3,4 @@ pub mod Seeing
 pub mod Listing
 pub mod Images
 pub mod Memory
+pub mod Putting

@@ -9,6 +9,7 @@ mod images;
 mod listing;
 mod memory;
 mod paths;
+mod putting;
 mod seen;
 #[cfg(test)]
 mod tests;
@@ -17,3 +18,4 @@ pub use directory::{DirFiles, MOST_FILE_BYTES};
 pub use failing::{Effect, FailingCall};
 pub use files::Files;
 pub use memory::MemFiles;
+pub use putting::{put_file, remove_file};

@@ -8,8 +8,8 @@ use Rattle.def_keeper.specs.Safe.{IsKeptAt}
 use Rattle.def_keeper.proofs.Knowing.{at_answered}
 use Rattle.def_keeper.proofs.keep.change_in.Goals as goal
 
-pub returns-in-Ok-Some-clause-kept : goal.returns-in-Ok-Some-clause-kept
-returns-in-Ok-Some-clause-kept g c = λ kept.
+pub returns-in-Some-clause-kept : goal.returns-in-Some-clause-kept
+returns-in-Some-clause-kept g c = λ kept.
     let now = g.F.Files.told c.args.files.now in
     subst (λ h. IsKeptAt now h (found c.args.map.now) c.args.doubt.now) (sym c.refuse-fault.ensures.marks)
-    (at_answered g.number now c.args.chronicle.now (found c.args.map.now) c.args.doubt.now (by g.number (deed.Changed c.args.change (Err (store.NameKept c.in-Ok-Some.one (uuid_of c.args.change))) (moment_of now)) ∷ []) refl kept)
+    (at_answered g.number now c.args.chronicle.now (found c.args.map.now) c.args.doubt.now (by g.number (deed.Changed c.args.change (Err (store.NameKept c.in-Some.one (uuid_of c.args.change))) (moment_of now)) ∷ []) refl kept)

@@ -12,7 +12,7 @@ returns-in-Ok-clause-kept g c = λ kept.
     let now = g.F.Files.told c.drop_of.new.files in
     subst (λ d. IsKeptAt now c.mark_drop.new.chronicle (found c.take.new.self) d) (sym c.requires.1.0)
     (subst (λ h. IsKeptAt now h (found c.take.new.self) None) (sym c.mark_drop.ensures)
-    (at_done g.number told now c.args.chronicle.now (found c.args.map.now) (found c.take.new.self) (change.Drop c.args.kind c.args.uuid) c.requires.1.1.1 c.take.ensures c.in-Ok.ensures.tries kept))
+    (at_done g.number told now c.args.chronicle.now (found c.args.map.now) (found c.take.new.self) (change.Drop c.args.kind c.args.uuid) c.requires.1.1.1 c.take.ensures.dropped c.in-Ok.ensures.tries kept))
 
 pub returns-in-Err-Failed-clause-kept : goal.returns-in-Err-Failed-clause-kept
 returns-in-Err-Failed-clause-kept g c = λ kept.

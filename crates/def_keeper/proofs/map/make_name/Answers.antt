@@ -1,4 +1,4 @@
-use Rattle.def_keeper.proofs.Found.{named_by, there_by}
+use Rattle.def_keeper.proofs.MapFinds.{named_by, there_by}
 use Rattle.def_keeper.proofs.map.make_name.Goals as goal
 
 pub returns-clause-there : goal.returns-clause-there

@@ -1,4 +1,4 @@
-use Rattle.def_keeper.proofs.Found.{lead_none}
+use Rattle.def_keeper.proofs.MapFinds.{lead_none}
 use Rattle.def_keeper.proofs.map.DefMap.new.Goals as goal
 
 pub invariant_of-result : goal.invariant_of-result

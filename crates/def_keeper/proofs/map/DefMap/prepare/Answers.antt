@@ -1,6 +1,6 @@
 use Rattle.std.proofs.Common.{inl, refl, subst, sym}
 use Rattle.def_keeper.specs.Map.{MapRows, FindsTheSame, IsFree, IsMade, IsNamed, found}
-use Rattle.def_keeper.proofs.Found.{prepared}
+use Rattle.def_keeper.proofs.MapFinds.{prepared}
 use Rattle.def_keeper.proofs.map.DefMap.prepare.Goals as goal
 
 pub invariant_of-self : goal.invariant_of-self

@@ -7,7 +7,8 @@ use Rattle.store_spec.specs.declared.change.Change.TheVariants as change
 use Rattle.store_spec.specs.declared.entry.Entry.{Entry}
 use Rattle.store_spec.specs.declared.kind.BookKind.{BookKind}
 use Rattle.store_spec.specs.declared.kind.BookKind.TheVariants as kind
-use Rattle.store_spec.specs.Changes.{changed, same_kind}
+use Rattle.store_spec.specs.Changes.{Definitions, changed, is_of, same_kind}
+use Rattle.store_spec.proofs.Stands.{changed_else, changed_here, eq_of, kind_by_test}
 use Rattle.def_keeper.specs.Map.{FindsTheSame, IsFree, IsHolder, IsMade, IsNamed, IsReady, MapRows, NamesLead, entry_in, found, key_of, kind_byte, no_rows}
 use Rattle.def_keeper.specs.Rows.{at, Stays, Updates}
 
@@ -195,3 +196,37 @@ free_own m k uuid name e lead is named other f found_is same =
 pub found_none : (k : BookKind) (uuid : List ℕ) → found no_rows k uuid ≡ None
 unfolding found at
 found_none k uuid = refl
+
+-- what is found rests on the entries alone
+pub found_entries : (es : List (List ℕ × Option Entry)) (ns ms : List (List ℕ × List ℕ)) (k : BookKind) (uuid : List ℕ) → found (record { entries = es; names = ns }) k uuid ≡ found (record { entries = es; names = ms }) k uuid
+unfolding found
+found_entries es ns ms k uuid = refl
+
+-- a name that nobody has is forgotten
+pub lead_forgotten : (old new : MapRows) (k : BookKind) (name : List ℕ) → new.entries ≡ old.entries → IsHolder k name (found old) None → Updates (key_of k name) None old.names new.names → NamesLead old → NamesLead new
+unfolding found
+lead_forgotten old new k name entries none updates lead l uuid e is =
+    let there : found old l uuid ≡ Some e = ap (λ (es : List (List ℕ × Option Entry)). entry_in (at es (key_of l uuid))) (sym entries) ∙ is in
+    ⊎_elim
+    (λ (here : key_of k name ≡ key_of l e.name). let apart = key_apart k l name e.name here in
+    absurd (none uuid e (ap (λ (m : BookKind). found old m uuid) apart.0 ∙ there) (sym apart.1)))
+    (λ (else : key_of k name ≡ key_of l e.name → ⊥). update_else (key_of k name) None old.names new.names updates (key_of l e.name) else ∙ lead l uuid e there)
+    (same_or_apart (key_of k name) (key_of l e.name))
+
+-- to drop what is not there changes nothing
+pub dropped_same : (map : Definitions) (k : BookKind) (uuid : List ℕ) (l : BookKind) (other : List ℕ) → map k uuid ≡ None → changed (change.Drop k uuid) map l other ≡ map l other
+dropped_same map k uuid l other none = ⊎_elim
+    (λ (this : is_of (change.Drop k uuid) l other ≡ true). changed_here (change.Drop k uuid) map l other this ∙ sym none
+    ∙ (λ i. map (sym (kinds_here this) i) (sym (uuids_here this) i)))
+    (λ (apart : is_of (change.Drop k uuid) l other ≡ false). changed_else (change.Drop k uuid) map l other apart)
+    (cases_Bool (is_of (change.Drop k uuid) l other))
+  where
+    both_true : (a b : Bool) → (a && b) ≡ true → (a ≡ true) × (b ≡ true)
+    both_true true b is = (refl, is)
+    both_true false b is = cc
+
+    kinds_here : is_of (change.Drop k uuid) l other ≡ true → l ≡ k
+    kinds_here this = kind_by_test l k (both_true (same_kind l k) (bytes_eq other uuid) this).0
+
+    uuids_here : is_of (change.Drop k uuid) l other ≡ true → other ≡ uuid
+    uuids_here this = eq_of other uuid (both_true (same_kind l k) (bytes_eq other uuid) this).1
