@@ -2,15 +2,20 @@
 #![tactic(auto)]
 
 mod chronicle;
+mod finding;
 mod good;
 mod keep;
 mod keeper;
 mod kept;
 mod keyed;
+mod listing;
 mod map;
 mod mark;
+mod open;
 mod opening;
+mod outcome;
 mod spelling;
+mod statuses;
 mod story;
 #[cfg(test)]
 mod tests;
@@ -22,4 +27,5 @@ pub use keeper::Keeper;
 pub use map::DefMap;
 pub use mark::{DefKey, StoreBase, StoreDeed, StoreFault, StoreMark};
 pub use opening::Opening;
+pub use outcome::{Found, FoundDefinition, OpenFault};
 pub use turns::{KeeperPass, KeeperTurn, change_in};
