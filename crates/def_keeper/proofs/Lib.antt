@@ -9,3 +9,4 @@ pub mod Takes
 pub mod Orders
 pub mod Tidies
 pub mod OpenedSo
+pub mod Booting

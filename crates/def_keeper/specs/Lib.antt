@@ -12,3 +12,4 @@ pub mod Opening
 pub mod Finding
 pub mod Tidying
 pub mod Opened
+pub mod Boots

@@ -1,6 +1,7 @@
 //! The definitions that a daemon keeps in a directory: what was acknowledged survives a crash.
 #![tactic(auto)]
 
+mod boots;
 mod chronicle;
 mod finding;
 mod good;
