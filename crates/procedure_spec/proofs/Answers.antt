@@ -1,6 +1,5 @@
 -- A value is read from the payload of a reply exactly where the payload is that of the request's reply with it.
 use Rattle.std.proofs.Common.{◌≡◌, ℕ, zero, suc, ◌+◌, ◌≤◌, Bool, true, false, cond, ltb, List, [], ◌∷◌, ◌++◌, length, Option, None, Some, Ok, refl, sym, ap, subst, ◌∙◌, append_assoc, arith}
-use Rattle.std.specs.Prelude.{IsSome, option_map}
 use Rattle.std.specs.List.{AllByRecursion, flat_map}
 use Rattle.std.proofs.lemmas.Bool.{ltb-false, le-ltb}
 use Rattle.std.proofs.lemmas.List.{length-append}
@@ -18,16 +17,14 @@ use Rattle.wire_spec.proofs.Steps.{Takes-then}
 use Rattle.wire_spec.proofs.Strings.{IsItem-fixed}
 use Rattle.wire_spec.specs.declared.fault.XdrFault.TheVariants.{TooLong}
 use Rattle.wire_spec.specs.declared.message.Header.{Header}
-use Rattle.procedure_spec.specs.Arguments.{procedure_of}
 use Rattle.procedure_spec.specs.Calls.{IsCall}
 use Rattle.procedure_spec.specs.Reading.{◌>>=◌, item, unless}
 use Rattle.procedure_spec.specs.Results.{HasParts, HasResult, HasShape, IsAnswer, IsReference, domain_reference, names, result, result_shape}
-use Rattle.procedure_spec.specs.ResultsReading.{count_fault, first_count, first_domain, first_list, first_name, first_name_list, first_names, first_nothing, first_reference, first_text, reply_of, value_in, value_shaped}
+use Rattle.procedure_spec.specs.ResultsReading.{count_fault, first_count, first_domain, first_list, first_name, first_name_list, first_names, first_nothing, first_reference, first_text, reply_of, value_in}
 use Rattle.procedure_spec.specs.declared.fault.ArgFault.{ArgFault}
 use Rattle.procedure_spec.specs.declared.fault.ArgFault.TheVariants as fault
-use Rattle.procedure_spec.specs.declared.procedure.Procedure.{Procedure}
-use Rattle.procedure_spec.specs.declared.procedure.ResultShape.{ResultShape}
-use Rattle.procedure_spec.specs.declared.procedure.ResultShape.TheVariants as shape
+use Rattle.procedure_spec.specs.declared.shape.ResultShape.{ResultShape}
+use Rattle.procedure_spec.specs.declared.shape.ResultShape.TheVariants as shape
 use Rattle.procedure_spec.proofs.Answered.{result_shaped}
 use Rattle.procedure_spec.proofs.NameParts.{IsPart-name}
 use Rattle.procedure_spec.proofs.Parts.{IsPart, IsPart-item, after_both, bind_ok, made_again, made_found, ok_is, unless_ok}
@@ -192,31 +189,19 @@ shaped_again s payload _ is = absurd is.shaped
 
 -- ---- replies
 
-built_found : (asked : Request) (p : Option Procedure) (payload : List ℕ) (v : Value) → procedure_of asked ≡ p → IsBytes payload → value_shaped (option_map (λ q. result_shape asked) p) payload ≡ Ok v → IsAnswer asked payload v
-built_found asked None payload v is fits e = absurd cc
-built_found asked (Some p) payload v is fits e =
-    let f = shaped_found (result_shape asked) payload v fits e in
-    record { built = subst (λ (o : Option Procedure). IsSome o) (sym is) refl; shaped = f.shaped; parts = f.parts; spelled = f.spelled }
-
 pub answer_found : (asked : Request) (payload : List ℕ) (v : Value) → IsBytes payload → reply_of asked payload ≡ Ok v → IsAnswer asked payload v
 unfolding reply_of
-answer_found asked payload v fits e = built_found asked (procedure_of asked) payload v refl fits e
-
-built_again : (asked : Request) (p : Option Procedure) (payload : List ℕ) (v : Value) → IsSome p → IsShaped (result_shape asked) payload v → value_shaped (option_map (λ q. result_shape asked) p) payload ≡ Ok v
-built_again asked None payload v some is = absurd cc
-built_again asked (Some p) payload v some is = shaped_again (result_shape asked) payload v is
+answer_found asked payload v fits e =
+    let f = shaped_found (result_shape asked) payload v fits e in
+    record { shaped = f.shaped; parts = f.parts; spelled = f.spelled }
 
 pub answer_again : (asked : Request) (payload : List ℕ) (v : Value) → IsAnswer asked payload v → reply_of asked payload ≡ Ok v
 unfolding reply_of
-answer_again asked payload v is = built_again asked (procedure_of asked) payload v is.built (record { shaped = is.shaped; parts = is.parts; spelled = is.spelled })
+answer_again asked payload v is = shaped_again (result_shape asked) payload v (record { shaped = is.shaped; parts = is.parts; spelled = is.spelled })
 
 -- what answers a call is read by whoever asked it
-is_built : (o : Option Procedure) (p : Procedure) → o ≡ Some p → IsSome o
-is_built o p e = subst (λ (q : Option Procedure). IsSome q) (sym e) refl
-
 pub reads_back : (call : Header) (payload : List ℕ) (asked : Request) (v : Value) → IsCall call payload asked → HasResult call v → HasParts v → reply_of asked (result v) ≡ Ok v
 reads_back call payload asked v is has parts = answer_again asked (result v) v (record {
-  built = is_built (procedure_of asked) is.row.procedure is.procedure;
   shaped = result_shaped call payload asked v is has;
   parts = parts;
   spelled = refl;

@@ -1,13 +1,16 @@
 pub mod Answered
 pub mod Answers
+pub mod ArgumentItems
+pub mod Asked
 pub mod Called
 pub mod Codes
 pub mod Found
+pub mod LinesAre
 pub mod Messages
 pub mod NameParts
 pub mod Parts
 pub mod Refusals
 pub mod Requests
+pub mod Shaped
 pub mod Targets
 pub mod Told
-pub mod Written

@@ -2,11 +2,15 @@ pub mod Arguments
 pub mod ArgumentsReading
 pub mod Calls
 pub mod Codes
+pub mod DomainRequests
 pub mod Errors
 pub mod ErrorsReading
 pub mod Faults
-pub mod Numbers
+pub mod Lines
 pub mod Procedures
 pub mod Reading
+pub mod Requests
+pub mod RequestsReading
 pub mod Results
 pub mod ResultsReading
+pub mod Serving

@@ -8,14 +8,13 @@ use Rattle.virt_types.specs.declared.value.Value.TheVariants as value
 use Rattle.wire_spec.specs.XdrReading.{Left, first_fixed, first_integer, first_string, first_word}
 use Rattle.wire_spec.specs.declared.fault.XdrFault.TheVariants.{TooLong}
 use Rattle.wire_spec.specs.declared.message.Header.{Header}
-use Rattle.procedure_spec.specs.Arguments.{procedure_of}
 use Rattle.procedure_spec.specs.Calls.{IsCall}
 use Rattle.procedure_spec.specs.Reading.{◌>>=◌, all, item, unless}
 use Rattle.procedure_spec.specs.Results.{result, result_shape}
 use Rattle.procedure_spec.specs.declared.fault.ArgFault.{ArgFault}
 use Rattle.procedure_spec.specs.declared.fault.ArgFault.TheVariants as fault
-use Rattle.procedure_spec.specs.declared.procedure.ResultShape.{ResultShape}
-use Rattle.procedure_spec.specs.declared.procedure.ResultShape.TheVariants as shape
+use Rattle.procedure_spec.specs.declared.shape.ResultShape.{ResultShape}
+use Rattle.procedure_spec.specs.declared.shape.ResultShape.TheVariants as shape
 use Rattle.procedure_spec.specs.declared.words.TheConstants.{NAMES_BOUND, PACKET_BOUND}
 
 -- why a string whose length word is at a place is no name
@@ -83,17 +82,9 @@ value_in shape.Text payload = all first_text payload
 value_in shape.Names payload = all first_name_list payload
 value_in _ payload = Err fault.Procedure
 
--- what the reply to a request carries, where its procedure is built
-abbrev pub shape_of : Request → Option ResultShape
-shape_of asked = option_map (λ p. result_shape asked) (procedure_of asked)
-
-abbrev pub value_shaped : Option ResultShape → List ℕ → Result Value ArgFault
-value_shaped None payload = Err fault.Procedure
-value_shaped (Some s) payload = value_in s payload
-
 -- the value that the payload of the reply to a request carries
 unfoldable pub reply_of : Request → List ℕ → Result Value ArgFault
-reply_of asked payload = value_shaped (shape_of asked) payload
+reply_of asked payload = value_in (result_shape asked) payload
 
 -- what a reply with this value carries is read as that value by whoever asked the call of this header
 abbrev pub ReadsBack : Header → Value → Type 0

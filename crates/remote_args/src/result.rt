@@ -3,7 +3,7 @@ ghost use Rattle.std.specs.Prelude.{◌≡◌, ◌≤◌, ◌++◌, ◌<◌, ◌
 ghost use Rattle.std.specs.List.{AllByRecursion, flat_map};
 ghost use Rattle.virt_types.specs.Name.{IsName};
 ghost use Rattle.wire_spec.specs.Xdr.{opaque};
-ghost use Rattle.procedure_spec.specs.declared.procedure.ResultShape.{ResultShape};
+ghost use Rattle.procedure_spec.specs.declared.shape.ResultShape.{ResultShape};
 ghost use Rattle.procedure_spec.specs.Results.{HasShape, IsReference, domain_reference, names as spelled_names, result as spelled};
 ghost use Rattle.remote_args.specs.Holding.{Holds};
 ghost use Rattle.procedure_spec.specs.declared.words.TheConstants.{NAMES_BOUND};

@@ -253,6 +253,14 @@ fn call_fault(alloc: Global, header: &Header, payload: &[u8]) -> Option<ArgFault
     }
 }
 
+// Why the daemon takes it for no call.
+fn served_fault(alloc: Global, header: &Header, payload: &[u8]) -> Option<ArgFault> {
+    match read_served_call(alloc, header, payload) {
+        Err(OrNoMemory::Fault(fault)) => Some(fault),
+        _ => None,
+    }
+}
+
 #[test]
 fn tells_the_first_wrong_place_of_a_call(rt: HostRuntime) -> Result<(), Fail> {
     let alloc = rt.alloc();
@@ -305,12 +313,33 @@ fn of_two_faults_the_first_is_told(rt: HostRuntime) {
         (header(0x2000_8087, 2, 23), ArgFault::Program, false),
         (header(REMOTE, 2, 0x270f), ArgFault::Version, false),
         (header(REMOTE, 1, 0x270f), ArgFault::Procedure, false),
-        (header(REMOTE, 1, 9), ArgFault::Procedure, true),
         (header(OWN, 1, 12), ArgFault::Procedure, false),
+        (header(OWN, 1, 13), ArgFault::Procedure, false),
         (header(REMOTE, 1, 23), short, true),
     ];
     for (header, fault, known) in table {
         assert_eq!(rt; call_fault(rt.alloc(), &header, b"\x01"), Some(fault));
+        assert_eq!(rt; served_fault(rt.alloc(), &header, b"\x01"), Some(fault));
+        assert_eq!(rt; is_known(&header), known);
+    }
+}
+
+// Of what is not served the payload is not looked at, and some numbers are not even known.
+#[test]
+fn what_is_not_served_is_no_call(rt: HostRuntime) {
+    let short = Some(ArgFault::Xdr(XdrFault::Short { at: 0 }));
+    let table = [
+        (header(REMOTE, 1, 9), true),
+        (header(OWN, 1, 40), true),
+        (header(OWN, 1, 50), false),
+        (header(OWN, 1, 52), false),
+    ];
+    for (header, known) in table {
+        assert_eq!(rt; call_fault(rt.alloc(), &header, b"\x01"), short);
+        assert_eq!(rt;
+            served_fault(rt.alloc(), &header, b"\x01"),
+            Some(ArgFault::Procedure)
+        );
         assert_eq!(rt; is_known(&header), known);
     }
 }
