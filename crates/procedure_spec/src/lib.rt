@@ -22,4 +22,6 @@ pub use requested::request;
 pub use served::{is_announced, is_served};
 pub use shape::{ArgumentShape, ResultShape, TargetShape};
 pub use table::{OWN, PROCEDURES, REMOTE, Row, find};
-pub use words::{ERROR_DOMAIN, ERROR_LEVEL, NAMES_BOUND, PACKET_BOUND, VERSION};
+pub use words::{
+    ERROR_DOMAIN, ERROR_LEVEL, EVENT, EVENT_LOST, NAMES_BOUND, PACKET_BOUND, TITLE_BOUND, VERSION,
+};

@@ -5,6 +5,7 @@ use Rattle.virt_types.specs.declared.refusal.Refusal.{Refusal}
 use Rattle.virt_types.specs.declared.request.Request.{Request}
 use Rattle.procedure_spec.specs.Arguments.{argument_items, arguments, target_items}
 use Rattle.procedure_spec.specs.Calls.{call_header}
+use Rattle.procedure_spec.specs.Events.{note_header}
 use Rattle.procedure_spec.specs.Requests.{arguments_of, target_of}
 use Rattle.procedure_spec.specs.declared.table.Row.{Row}
 use Rattle.virt_types.specs.Refusal.{refusal_message, refusal_number}
@@ -31,6 +32,9 @@ reply_kind h status le = record { kind = omega arith; status = omega arith; call
 
 pub call_kind : (row : Row) (serial : ℕ) → HasKind (call_header row serial)
 call_kind row serial = record { kind = omega arith; status = omega arith; call = λ e. refl }
+
+pub note_kind : (number : ℕ) → HasKind (note_header number)
+note_kind number = record { kind = omega arith; status = omega arith; call = λ e. absurd (omega (arith, e)) }
 
 pub request_parts : (old one two : List ℕ) (asked : Request) → one ≡ old ++ target_items (target_of asked) → two ≡ one ++ argument_items (arguments_of asked) → two ≡ old ++ arguments asked
 request_parts old one two asked e f = f ∙ (ap (λ (t : List ℕ). t ++ argument_items (arguments_of asked)) e ∙ append_assoc old (target_items (target_of asked)) (argument_items (arguments_of asked)))
