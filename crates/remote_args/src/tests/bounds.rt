@@ -145,7 +145,7 @@ fn with_bytes(alloc: Global, words: &[u32], count: u32) -> Result<Vec<u8>, Alloc
     for _ in 0..count {
         payload.push(b'a')?;
     }
-    while payload.len() % 4 != 0 {
+    for _ in 0..(4 - payload.len() % 4) % 4 {
         payload.push(0)?;
     }
     Ok(payload)
@@ -183,6 +183,15 @@ fn names(alloc: Global, count: u32) -> Result<Vec<u8>, AllocError> {
     Ok(payload)
 }
 
+// A list of two names that says it has so many.
+fn counted(alloc: Global, count: u8) -> Result<Vec<u8>, AllocError> {
+    let mut payload = names(alloc, 2)?;
+    if let Some(last) = payload.get_mut(3) {
+        *last = count;
+    }
+    Ok(payload)
+}
+
 #[test]
 fn tells_the_wrong_number_of_entries(rt: HostRuntime) -> Result<(), Fail> {
     let alloc = rt.alloc();
@@ -195,11 +204,10 @@ fn tells_the_wrong_number_of_entries(rt: HostRuntime) -> Result<(), Fail> {
     };
     assert_eq!(rt; fault(&names(alloc, 1025)?), Some(ArgFault::Xdr(long)));
     // One short and one more than there are.
-    let mut two = names(alloc, 2)?;
-    two[3] = 1;
+    let two = counted(alloc, 1)?;
     let extra = XdrFault::Extra { at: 12 };
     assert_eq!(rt; fault(&two), Some(ArgFault::Xdr(extra)));
-    two[3] = 3;
+    let two = counted(alloc, 3)?;
     let short = XdrFault::Short { at: 20 };
     assert_eq!(rt; fault(&two), Some(ArgFault::Xdr(short)));
     Ok(())

@@ -51,18 +51,30 @@ fn message(number: u32) -> Header {
     }
 }
 
+fn written_again(alloc: Global, note: &Note) -> Option<Bytes> {
+    match note {
+        Note::Event {
+            name,
+            uuid,
+            transition,
+        } => write_event(alloc, name, uuid, *transition).ok(),
+        Note::Lost { name, uuid } => write_lost(alloc, name, uuid).ok(),
+    }
+}
+
 fn rewritten_note(alloc: Global, number: u32, payload: &[u8]) -> Option<Bytes> {
     match read_event(alloc, &message(number), payload) {
-        Ok(
-            Note::Event {
-                ref name,
-                ref uuid,
-                transition,
-            },
-        ) => write_event(alloc, name, uuid, transition).ok(),
-        Ok(Note::Lost { ref name, ref uuid }) => write_lost(alloc, name, uuid).ok(),
+        Ok(note) => written_again(alloc, &note),
         Err(_) => None,
     }
+}
+
+// What comes after a message's header.
+fn payload_of(message: &[u8]) -> &[u8] {
+    if message.len() < 28 {
+        return message;
+    }
+    message.split_at(28).1
 }
 
 #[test]
@@ -80,9 +92,9 @@ fn messages_are_spelled_so(rt: HostRuntime) -> Result<(), Fail> {
         write_lost(alloc, &demo, &uuid)?.as_slice(),
         lost.as_slice()
     );
-    let again = rewritten_note(alloc, 12, &crashed[28..]).ok_or("no event")?;
+    let again = rewritten_note(alloc, 12, payload_of(&crashed)).ok_or("no event")?;
     assert_eq!(rt; again.as_slice(), crashed.as_slice());
-    let again = rewritten_note(alloc, 13, &lost[28..]).ok_or("no loss")?;
+    let again = rewritten_note(alloc, 13, payload_of(&lost)).ok_or("no loss")?;
     assert_eq!(rt; again.as_slice(), lost.as_slice());
     Ok(())
 }
@@ -102,13 +114,17 @@ fn tells_what_no_message_says(rt: HostRuntime) -> Result<(), Fail> {
         *first = 0;
     }
     let table: [(Header, &[u8], ArgFault); 5] = [
-        (header(REMOTE, 1, 12), &crashed[28..], ArgFault::Program),
-        (header(OWN, 2, 12), &crashed[28..], ArgFault::Version),
-        (message(14), &crashed[28..], ArgFault::Procedure),
-        (message(12), &live[28..], ArgFault::Foreign { at: 24 }),
+        (
+            header(REMOTE, 1, 12),
+            payload_of(&crashed),
+            ArgFault::Program,
+        ),
+        (header(OWN, 2, 12), payload_of(&crashed), ArgFault::Version),
+        (message(14), payload_of(&crashed), ArgFault::Procedure),
+        (message(12), payload_of(&live), ArgFault::Foreign { at: 24 }),
         (
             message(13),
-            &crashed[28..],
+            payload_of(&crashed),
             ArgFault::Xdr(XdrFault::Extra { at: 28 }),
         ),
     ];
