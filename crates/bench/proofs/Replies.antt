@@ -7,4 +7,4 @@ use Rattle.procedure_spec.specs.Results.{HasResult}
 
 pub domain_answers : (kind serial status : ℕ) (d : DomainRef) → HasResult (record { prog = 0x20008086; vers = 1; procedure = 11; kind = kind; serial = serial; status = status }) (value.Domain d)
 unfolding row_of
-domain_answers kind serial status d = record { row = _; line = refl; built = refl; shaped = refl }
+domain_answers kind serial status d = record { row = _; is_line = refl; shaped = refl }

@@ -4,3 +4,9 @@ pub mod Tries
 pub mod Goings
 pub mod Attempts
 pub mod Knowing
+pub mod Opens
+pub mod Takes
+pub mod Orders
+pub mod Tidies
+pub mod OpenedSo
+pub mod Booting

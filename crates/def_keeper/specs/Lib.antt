@@ -8,3 +8,8 @@ pub mod Safe
 pub mod Calls
 pub mod Keeper
 pub mod Turns
+pub mod Opening
+pub mod Finding
+pub mod Tidying
+pub mod Opened
+pub mod Boots

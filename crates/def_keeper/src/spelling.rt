@@ -3,11 +3,13 @@ ghost use Rattle.std.specs.Prelude.{◌≡◌, ◌++◌, IfOk, OnOk, codes, deci
 ghost use Rattle.store_spec.specs.declared.version.Version.TheVariants as version;
 ghost use Rattle.store_spec.specs.DefinitionFile.{definition_bytes, first_line as the_first_line, heading, line, yes_or_no};
 ghost use Rattle.store_spec.specs.FileNames as name;
+ghost use Rattle.store_spec.specs.StatusFile.{status_bytes};
+ghost use Rattle.virt_types.specs.Numbers.{job_number};
 
 use itoa::Buffer;
 use std::alloc::Global;
 use store_spec::{BookKind, Entry};
-use virt_types::{Bytes, Name, NoMemory, Text, Uuid};
+use virt_types::{Bytes, Name, NoMemory, OpKind, Status, Text, Uuid};
 
 // WORD-UUID and an ending.
 #[tactic(auto, unfolding(store_spec::specs::FileNames::file_name))]
@@ -94,5 +96,61 @@ pub(crate) fn definition_bytes(alloc: Global, entry: &Entry) -> Result<Bytes, No
 {
     let mut bytes = heading(alloc, entry)?;
     bytes.extend_from_slice(entry.text.as_bytes())?;
+    Ok(Bytes::of(bytes))
+}
+
+/// The name of a status file.
+pub(crate) fn status_name(alloc: Global, uuid: Uuid) -> Result<Text, NoMemory>
+    ensures { IfOk result (λ t. t ≡ name.status_name uuid) }
+{
+    file_name(alloc, "run", uuid, ".sta")
+}
+
+/// The name of its draft.
+pub(crate) fn status_draft(alloc: Global, uuid: Uuid) -> Result<Text, NoMemory>
+    ensures { IfOk result (λ t. t ≡ name.status_draft uuid) }
+{
+    file_name(alloc, "run", uuid, ".tmp")
+}
+
+// Puts a number behind its label.
+fn put_number(bytes: &mut Vec<u8>, label: &[u8], number: u64) -> Result<(), NoMemory>
+    ensures { OnOk result (bytes.new.items ≡ bytes.old.items ++ label.now ++ decimal number) }
+{
+    let mut digits = Buffer::new();
+    bytes.extend_from_slice(label)?;
+    bytes.extend_from_slice(digits.format(number).as_bytes())?;
+    Ok(())
+}
+
+// The number of an operation, which may be none.
+fn job_number(op: Option<OpKind>) -> u32
+    ensures { result ≡ job_number op }
+{
+    match op {
+        Some(kind) => kind.number(),
+        None => 0,
+    }
+}
+
+/// The bytes of a status file.
+#[tactic(auto, unfolding(store_spec::specs::StatusFile::status_bytes))]
+pub(crate) fn status_bytes(alloc: Global, status: &Status) -> Result<Bytes, NoMemory>
+    ensures { IfOk result (λ b. b ≡ status_bytes status.now) }
+{
+    let mut bytes = Vec::new(alloc);
+    put_number(&mut bytes, b"run 1 boot=".as_slice(), status.boot)?;
+    put_number(
+        &mut bytes,
+        b" state=".as_slice(),
+        status.state.number() as u64,
+    )?;
+    put_number(&mut bytes, b" op=".as_slice(), job_number(status.op) as u64)?;
+    put_number(
+        &mut bytes,
+        b" phase=".as_slice(),
+        status.phase.number() as u64,
+    )?;
+    put_line(&mut bytes, b" name=".as_slice(), status.name.as_bytes())?;
     Ok(Bytes::of(bytes))
 }

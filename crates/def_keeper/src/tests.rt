@@ -1,1 +1,3 @@
+mod opening;
+mod renames;
 mod stops;

@@ -12,6 +12,7 @@ use crate::script::{act_at, slowness, stalls};
 use virt_types::{Answer, AnswerValue, Bytes, Command, EndReason, GuestEvent, NoMemory, ScriptAct};
 
 /// The answer to a command. Where there is no memory for it, nothing changes.
+#[inline]
 pub fn react(guest: &mut SimGuest, command: &Command) -> Result<Answer, NoMemory>
     ensures answer { IfOk result (λ it. it ≡ (reaction guest.old command.now).answer) }
     ensures guest { OnOk result (guest.new ≡ (reaction guest.old command.now).guest) }

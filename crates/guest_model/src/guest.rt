@@ -59,6 +59,7 @@ impl Monitor for SimGuest {
 
     ghost exchanges = { λ _. None };
 
+    #[inline]
     fn ask(&mut self, command: &Command) -> Answer
         ensures machine { Reacts self.old command.now result self.new }
         ensures own { IsOfGuest result }

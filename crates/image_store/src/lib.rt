@@ -4,5 +4,7 @@
 mod reading;
 mod spelling;
 mod store;
+#[cfg(test)]
+mod tests;
 
 pub use store::{read_image, write_image};

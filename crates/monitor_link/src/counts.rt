@@ -21,6 +21,7 @@ impl Counts {
     pub const NONE: Counts = Counts { ends: 0, faults: 0 };
 
     /// Counts an answer, which is none of the store's.
+    #[inline]
     pub fn count_answer(&mut self, answer: &Answer)
         requires { IsOfGuest answer.now }
         ensures counts { self.new ≡ after_answer self.old answer.now }
@@ -36,6 +37,7 @@ impl Counts {
     }
 
     /// Counts what was heard.
+    #[inline]
     pub fn count_heard(&mut self, heard: Heard)
         ensures counts { self.new ≡ after_heard self.old heard }
         ensures cause { IsHeardCaused heard self.new.ends self.old.faults self.new.faults }

@@ -9,7 +9,7 @@ use Rattle.wire_spec.specs.Xdr.{IsString, opaque}
 use Rattle.wire_spec.specs.XdrAnswer.{Takes}
 use Rattle.wire_spec.specs.XdrReading.{IsBytes, Left, first_string}
 use Rattle.procedure_spec.specs.Reading.{item, unless}
-use Rattle.procedure_spec.specs.ResultsReading.{first_name, name_fault}
+use Rattle.procedure_spec.specs.ResultItemsReading.{first_name, name_fault}
 use Rattle.procedure_spec.specs.declared.fault.ArgFault.TheVariants as fault
 use Rattle.procedure_spec.proofs.Parts.{IsPart, IsPart-item, bind_ok, unless_ok}
 use Rattle.procedure_spec.proofs.Targets.{IsItem-name}

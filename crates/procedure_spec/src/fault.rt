@@ -5,14 +5,14 @@ use virt_types::OrNoMemory;
 use wire_spec::XdrFault;
 
 /// Why a payload is none of a procedure's, the first reason in this order. The last two come only
-/// where replies and errors are read; places count from the payload's first byte.
+/// where replies, messages and errors are read; places count from the payload's first byte.
 #[derive(Clone, Copy, Debug, PartialEq, Eq)]
 pub enum ArgFault {
     /// The program is none of the two.
     Program,
     /// The version of the program is not 1.
     Version,
-    /// The program has no procedure of that number, or it is not built.
+    /// The program has no procedure of that number, or it is not served.
     Procedure,
     /// The payload does not spell what the procedure's payloads hold.
     Xdr(XdrFault),
@@ -22,8 +22,9 @@ pub enum ArgFault {
         /// whole is.
         at: u64,
     },
-    /// An item of an error is well spelled and yet not what errors have there: a code of no table,
-    /// another error domain, message or level than the code's, an empty kept text, or what is always absent.
+    /// An item is well spelled and yet not what is there: in an error a code of no table, another
+    /// error domain, message or level than the code's, an empty kept text, or what is always absent;
+    /// in a reply or a message a number or a text that stands for nothing.
     Foreign {
         /// The item's first byte.
         at: u64,
@@ -38,7 +39,7 @@ impl fmt::Display for ArgFault {
             ArgFault::Procedure => write!(f, "unknown procedure"),
             ArgFault::Xdr(fault) => write!(f, "{fault}"),
             ArgFault::Name { at } => write!(f, "no name at {at}"),
-            ArgFault::Foreign { at } => write!(f, "no error of this project at {at}"),
+            ArgFault::Foreign { at } => write!(f, "nothing that is known at {at}"),
         }
     }
 }

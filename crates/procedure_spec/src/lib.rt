@@ -1,12 +1,27 @@
 //! Payloads: what each procedure's call and reply spell, and the payload of an error.
 #![tactic(auto)]
 
+mod arguments;
+mod domain_requested;
 mod fault;
 mod laws;
+mod numbers;
 mod procedure;
+mod requested;
+mod served;
+mod shape;
+mod table;
 mod words;
 
+pub use arguments::{Arguments, Target};
 pub use fault::ArgFault;
-pub use laws::{payload_fits_packet, procedures_have_their_numbers};
-pub use procedure::{ArgumentShape, OWN, PROCEDURES, Procedure, REMOTE, ResultShape, Row, find};
-pub use words::{ERROR_DOMAIN, ERROR_LEVEL, NAMES_BOUND, PACKET_BOUND, VERSION};
+pub use laws::{payload_fits_packet, procedures_have_their_lines};
+pub use numbers::{call_numbers, result_shape};
+pub use procedure::Procedure;
+pub use requested::request;
+pub use served::{is_announced, is_served};
+pub use shape::{ArgumentShape, ResultShape, TargetShape};
+pub use table::{OWN, PROCEDURES, REMOTE, Row, find};
+pub use words::{
+    ERROR_DOMAIN, ERROR_LEVEL, EVENT, EVENT_LOST, NAMES_BOUND, PACKET_BOUND, TITLE_BOUND, VERSION,
+};

@@ -14,3 +14,12 @@ pub const PACKET_BOUND: u32 = 4_194_276;
 
 /// The most names of a list.
 pub const NAMES_BOUND: u32 = 1_024;
+
+/// The most bytes of a domain's title in a reply.
+pub const TITLE_BOUND: u32 = 1_024;
+
+/// The number of the message of this project's own program that something came about in a domain.
+pub const EVENT: u32 = 12;
+
+/// The number of its message that more came about than one registration keeps.
+pub const EVENT_LOST: u32 = 13;

@@ -1,3 +1,3 @@
+pub mod EntryLists
 pub mod Holding
-pub mod NameLists
 pub mod Written

@@ -1,17 +1,17 @@
 -- What was written part by part is the packet or the payload.
-use Rattle.std.proofs.Common.{◌≡◌, ◌≤◌, ℕ, List, ◌++◌, Option, None, Some, Result, Ok, Err, refl, sym, ap, ◌∙◌, append_assoc, arith}
-use Rattle.std.specs.Prelude.{IfOk, IfSome, IsSome, OnOk, option_map}
-use Rattle.virt_types.specs.declared.memory.OrNoMemory.{OrNoMemory}
+use Rattle.std.proofs.Common.{◌≡◌, ◌≤◌, ℕ, List, ◌++◌, Result, Ok, Err, refl, ap, ◌∙◌, append_assoc, arith}
+use Rattle.std.specs.Prelude.{OnOk}
 use Rattle.virt_types.specs.declared.refusal.Refusal.{Refusal}
 use Rattle.virt_types.specs.declared.request.Request.{Request}
-use Rattle.procedure_spec.specs.Arguments.{arguments}
-use Rattle.procedure_spec.specs.Calls.{call_header, packet_of}
+use Rattle.procedure_spec.specs.Arguments.{argument_items, arguments, target_items}
+use Rattle.procedure_spec.specs.Calls.{call_header}
+use Rattle.procedure_spec.specs.Events.{note_header}
+use Rattle.procedure_spec.specs.Requests.{arguments_of, target_of}
+use Rattle.procedure_spec.specs.declared.table.Row.{Row}
 use Rattle.virt_types.specs.Refusal.{refusal_message, refusal_number}
 use Rattle.wire_spec.specs.declared.message.Header.{Header}
-use Rattle.wire_spec.specs.Packets.{HasKind, IsPacket, spelling}
+use Rattle.wire_spec.specs.Packets.{HasKind}
 use Rattle.wire_spec.specs.Xdr.{opaque, optional}
-use Rattle.packet.specs.declared.write.WriteFault.{WriteFault}
-use Rattle.packet.specs.Writing.{packet_with}
 use Rattle.procedure_spec.specs.Errors.{head, kept_string, refusal_payload, tail}
 use Rattle.procedure_spec.specs.Results.{reply_header}
 
@@ -30,18 +30,11 @@ error_parts old r one two three e f g =
 pub reply_kind : (h : Header) (status : ℕ) → status ≤ 1 → HasKind (reply_header h status)
 reply_kind h status le = record { kind = omega arith; status = omega arith; call = λ e. absurd (omega (arith, e)) }
 
-pub call_kind : (numbers : ℕ × ℕ) (serial : ℕ) → HasKind (call_header numbers serial)
-call_kind numbers serial = record { kind = omega arith; status = omega arith; call = λ e. refl }
+pub call_kind : (row : Row) (serial : ℕ) → HasKind (call_header row serial)
+call_kind row serial = record { kind = omega arith; status = omega arith; call = λ e. refl }
 
--- of an answer for the packet that there is
-pub bytes_of : (numbers : Option (ℕ × ℕ)) (n : ℕ × ℕ) (asked : Request) (serial : ℕ) (result : Result (List ℕ) (OrNoMemory WriteFault)) → numbers ≡ Some n → IfOk result (λ bytes. bytes ≡ spelling (packet_with (call_header n serial) (arguments asked))) → IfOk result (λ bytes. option_map spelling (packet_of numbers asked serial) ≡ Some bytes)
-bytes_of numbers n asked serial (Ok bytes) is e = rw is (ap (λ (t : List ℕ). Some t) (sym e))
-bytes_of numbers n asked serial (Err bad) is e = tt
+pub note_kind : (number : ℕ) → HasKind (note_header number)
+note_kind number = record { kind = omega arith; status = omega arith; call = λ e. absurd (omega (arith, e)) }
 
-pub packet_is : (numbers : Option (ℕ × ℕ)) (n : ℕ × ℕ) (asked : Request) (serial : ℕ) (result : Result (List ℕ) (OrNoMemory WriteFault)) → numbers ≡ Some n → OnOk result (IsPacket (packet_with (call_header n serial) (arguments asked))) → OnOk result (IfSome (packet_of numbers asked serial) IsPacket)
-packet_is numbers n asked serial (Ok bytes) is e = rw is e
-packet_is numbers n asked serial (Err bad) is e = tt
-
-pub none_asked : (numbers : Option (ℕ × ℕ)) → IsSome numbers → numbers ≡ None → ⊥
-none_asked None some is = cc
-none_asked (Some n) some is = cc
+pub request_parts : (old one two : List ℕ) (asked : Request) → one ≡ old ++ target_items (target_of asked) → two ≡ one ++ argument_items (arguments_of asked) → two ≡ old ++ arguments asked
+request_parts old one two asked e f = f ∙ (ap (λ (t : List ℕ). t ++ argument_items (arguments_of asked)) e ∙ append_assoc old (target_items (target_of asked)) (argument_items (arguments_of asked)))

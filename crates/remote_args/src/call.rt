@@ -1,12 +1,13 @@
 // Reading calls.
-ghost use Rattle.std.specs.Prelude.{Ok, ◌≡◌, IfOk, IsTrue, ◌↔◌, IsErrOf, IsOk};
+ghost use Rattle.std.specs.Prelude.{Ok, ◌≡◌, IfOk, IsErrOf, IsOk};
 ghost use Rattle.virt_types.specs.declared.memory.OrNoMemory.TheVariants.{NoMemory};
 ghost use Rattle.virt_types.specs.declared.request.Request.{Request as Asked};
-ghost use Rattle.procedure_spec.specs.Calls.{IsCall, IsKnown, call_of, is_program, line_of};
+ghost use Rattle.procedure_spec.specs.Calls.{IsCall, IsServedCall, call_of, in_line as in_line_of, is_known as is_known_row, is_program, line_of, served_line as served_line_of, served_of};
+ghost use Rattle.procedure_spec.specs.Procedures.{row_of};
 ghost use Rattle.virt_types.specs.Memory.{UnlessNoMemory};
 
-use crate::arguments::request;
-use procedure_spec::{ArgFault, OWN, REMOTE, Row, VERSION, find};
+use crate::arguments::requested;
+use procedure_spec::{ArgFault, OWN, REMOTE, Row, VERSION, find, is_announced, is_served};
 use std::alloc::Global;
 use virt_types::{OrNoMemory, Request};
 use wire_spec::Header;
@@ -17,14 +18,18 @@ fn is_known_program(program: u32) -> bool
     program == REMOTE || program == OWN
 }
 
-/// Whether the packet's program has a procedure of its number, built or not.
+/// Whether the packet's program has a procedure of its number that is announced: where it is not
+/// served, a call is told that it is not built, and else that its number is unknown.
 pub fn is_known(header: &Header) -> bool
-    ensures { IsTrue result ↔ IsKnown header.now }
+    ensures { result ≡ is_known_row (row_of header.now.prog header.now.procedure) }
 {
-    find(header.prog, header.procedure).is_some()
+    match find(header.prog, header.procedure) {
+        Some(row) => is_announced(row.procedure),
+        None => false,
+    }
 }
 
-// The line of the procedure that the packet calls, which is built.
+// The line of the procedure that the packet calls.
 #[tactic(auto, unfolding(procedure_spec::specs::Calls::line_of))]
 fn line(header: &Header) -> Result<Row, ArgFault>
     ensures { result ≡ line_of header.now }
@@ -36,13 +41,38 @@ fn line(header: &Header) -> Result<Row, ArgFault>
         return Err(ArgFault::Version);
     }
     match find(header.prog, header.procedure) {
-        Some(row) if row.built => Ok(row),
-        _ => Err(ArgFault::Procedure),
+        Some(row) => Ok(row),
+        None => Err(ArgFault::Procedure),
     }
 }
 
-/// The request that a packet of this header and payload calls for. The payload is looked at last:
-/// a procedure that is known and not built is answered `Procedure` whatever the payload.
+// The same, of a procedure that is served.
+fn served_line(header: &Header) -> Result<Row, ArgFault>
+    ensures { result ≡ served_line_of (line_of header.now) }
+{
+    match line(header) {
+        Ok(row) if is_served(row.procedure) => Ok(row),
+        Ok(_) => Err(ArgFault::Procedure),
+        Err(fault) => Err(fault),
+    }
+}
+
+// The request that the payload of a call of this line spells.
+fn in_line(
+    alloc: Global,
+    line: Result<Row, ArgFault>,
+    payload: &[u8],
+) -> Result<Request, OrNoMemory<ArgFault>>
+    ensures fault { UnlessNoMemory result (in_line_of line payload.now) }
+    ensures memory { IsErrOf result NoMemory → IsOk line }
+{
+    match line {
+        Ok(row) => requested(alloc, &row, payload),
+        Err(fault) => Err(OrNoMemory::Fault(fault)),
+    }
+}
+
+/// The request that a packet of this header and payload calls for. The payload is looked at last.
 pub fn read_call(
     alloc: Global,
     header: &Header,
@@ -54,8 +84,21 @@ pub fn read_call(
     // Memory is asked for only once program, version and procedure are good.
     ensures memory { IsErrOf result NoMemory → IsOk (line_of header.now) }
 {
-    match line(header) {
-        Ok(row) => request(alloc, row.procedure, payload),
-        Err(fault) => Err(OrNoMemory::Fault(fault)),
-    }
+    in_line(alloc, line(header), payload)
+}
+
+/// The same as the daemon reads it: a procedure that it does not serve is answered `Procedure`
+/// whatever the payload.
+pub fn read_served_call(
+    alloc: Global,
+    header: &Header,
+    payload: &[u8],
+) -> Result<Request, OrNoMemory<ArgFault>>
+    ensures found { IfOk result (IsServedCall header.now payload.now) }
+    ensures only { (asked : Asked) → IsServedCall header.now payload.now asked → UnlessNoMemory result (Ok asked) }
+    ensures fault { UnlessNoMemory result (served_of header.now payload.now) }
+    // Memory is asked for only once program, version and procedure are good.
+    ensures memory { IsErrOf result NoMemory → IsOk (served_line_of (line_of header.now)) }
+{
+    in_line(alloc, served_line(header), payload)
 }

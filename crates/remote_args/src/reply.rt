@@ -39,7 +39,7 @@ pub fn write_reply(
     ensures reads_back { OnOk result (ReadsBack call.now value.now) }
 {
     let mut writer = begin_packet(alloc, &reply_words(call, OK))?;
-    put_value(&mut writer, value)?;
+    put_value(alloc, &mut writer, value)?;
     finish_packet(writer)
 }
 

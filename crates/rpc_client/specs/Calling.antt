@@ -37,7 +37,7 @@ last_serial = 2 ^ 32 - 1
 -- the packet that asks the request has the next number
 pub record IsNext (asked : Request) (before now : ℕ) (call : Packet) : Type 0 where
   pub serial : now ≡ before + 1
-  pub call_is : call_packet asked now ≡ Some call
+  pub call_is : call ≡ call_packet asked now
 
 module _ {S K : Type 0} (left : S → Option (List ℕ)) (source_faults : S → ℕ) (held : K → Option (List ℕ)) (sink_faults : K → ℕ) where
   -- the call was put whole

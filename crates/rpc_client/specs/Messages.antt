@@ -2,9 +2,8 @@
 use Rattle.std.specs.Prelude.{◌==◌, ◌&&◌, ◌||◌, Bool}
 use Rattle.wire_spec.specs.declared.message.Header.{Header}
 use Rattle.wire_spec.specs.declared.message.TheConstants.{MESSAGE, REPLY}
-use Rattle.procedure_spec.specs.declared.procedure.TheConstants.{OWN}
-use Rattle.procedure_spec.specs.declared.words.TheConstants.{VERSION}
-use Rattle.rpc_client.specs.declared.kind.TheConstants.{EVENT, EVENT_LOST}
+use Rattle.procedure_spec.specs.declared.table.TheConstants.{OWN}
+use Rattle.procedure_spec.specs.declared.words.TheConstants.{EVENT, EVENT_LOST, VERSION}
 
 abbrev pub is_reply : Header → Bool
 is_reply h = h.kind == REPLY

@@ -3,13 +3,7 @@ ghost use Rattle.std.specs.Prelude.{◌≡◌};
 ghost use Rattle.rpc_client.specs.Messages as spec;
 
 use packet::{Header, MESSAGE, REPLY};
-use procedure_spec::{OWN, VERSION};
-
-/// The number of the message that reports an event, in this project's own program.
-pub const EVENT: u32 = 12;
-
-/// The number of the message that a registration has ended since too many events came.
-pub const EVENT_LOST: u32 = 13;
+use procedure_spec::{EVENT, EVENT_LOST, OWN, VERSION};
 
 /// Whether it answers a call.
 pub(crate) fn is_reply(header: &Header) -> bool

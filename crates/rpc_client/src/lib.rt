@@ -13,5 +13,5 @@ mod tests;
 
 pub use client::Client;
 pub use fault::ClientFault;
-pub use kind::{EVENT, EVENT_LOST};
 pub use packet::{Sink, Source};
+pub use procedure_spec::{EVENT, EVENT_LOST};

@@ -13,7 +13,8 @@ use Rattle.std.specs.List.Sorted.{IsPermutation}
 use Rattle.std.proofs.lemmas.Str.{utf8_valid_len_le}
 use Rattle.std.proofs.lemmas.Slice.Eq.{bytes_eq-Decides}
 use Rattle.procedure_spec.specs.Errors.{error_payload, kept_string, refusal_payload}
-use Rattle.procedure_spec.specs.Results.{domain_reference, names, result_shape}
+use Rattle.procedure_spec.specs.ResultItems.{domain_reference}
+use Rattle.procedure_spec.specs.Results.{names, result_shape}
 use Rattle.procedure_spec.proofs.Answered.{has_result}
 use Rattle.procedure_spec.specs.Calls.{IsCall}
 use Rattle.session.specs.Plans.{IsSayable, IsShort}

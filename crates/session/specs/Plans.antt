@@ -3,7 +3,7 @@ use Rattle.std.specs.Io.KnownBytes.{Appends}
 use Rattle.std.specs.Prelude.{◌≡◌, ◌≤◌, ℕ, List, length, Option, option_map, Result}
 use Rattle.procedure_spec.specs.Results.{HasResult, HasShape, result}
 use Rattle.procedure_spec.specs.declared.fault.ArgFault.{ArgFault}
-use Rattle.procedure_spec.specs.declared.procedure.ResultShape.{ResultShape}
+use Rattle.procedure_spec.specs.declared.shape.ResultShape.{ResultShape}
 use Rattle.session_spec.specs.Definitions.{Definitions, Entry, IsKept, IsOnlyNamed}
 use Rattle.session_spec.specs.Replies.{HasOutcome, asks_to_close}
 use Rattle.session_spec.specs.State.{SessionState, state}

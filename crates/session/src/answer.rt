@@ -1,8 +1,9 @@
 // What is said to a call.
-ghost use Rattle.std.specs.Prelude.{◌≡◌, ℕ, [], IfOk, IfSome, List, OnErr, OnOk, Option, Ok, Err, None, false};
-ghost use Rattle.procedure_spec.specs.Arguments.{HasArguments, HasDomainArguments};
-ghost use Rattle.procedure_spec.specs.Calls.{IsCall, call_of};
+ghost use Rattle.std.specs.Prelude.{◌≡◌, ℕ, [], IfOk, IfSome, List, OnErr, OnOk, Option, Ok, Err, None, false, true};
+ghost use Rattle.procedure_spec.specs.Calls.{IsServed, IsServedCall, served_of};
+ghost use Rattle.procedure_spec.specs.Requests.{asks_of_domain};
 ghost use Rattle.procedure_spec.specs.Results.{domain_result, result_shape};
+ghost use Rattle.procedure_spec.specs.Serving.{is_served};
 ghost use Rattle.session_spec.specs.Course.{IsLost};
 ghost use Rattle.session_spec.specs.Replies.{asks_to_close, reply_packet};
 ghost use Rattle.session_spec.specs.Served.{Serves, ServesDomain};
@@ -19,7 +20,7 @@ use crate::plan::{Plan, keep};
 use crate::refuse::unread;
 use crate::session::Session;
 use packet::{Header, Packet, WriteFault};
-use remote_args::{ArgFault, read_call, write_error, write_reply};
+use remote_args::{ArgFault, read_served_call, write_error, write_reply};
 use std::alloc::Global;
 use virt_types::{
     Bytes, DomainRequest, DomainTarget, NoMemory, OrNoMemory, Random, Refusal, Reply, Request,
@@ -33,7 +34,7 @@ fn serve_domain(
     domain: &DomainTarget,
     asked: &DomainRequest,
 ) -> Result<Reply, NoMemory>
-    requires { HasDomainArguments domain.now asked.now }
+    requires { is_served (asks_of_domain asked.now).0 ≡ true }
     ensures serves { IfOk result (λ said. ServesDomain map.now domain.now.uuid asked.now said) }
     ensures short { IfOk result (λ said. IsShort (domain_result asked.now) said) }
 {
@@ -62,7 +63,7 @@ fn plan_request<R: Random>(
     random: &mut R,
     asked: &Request,
 ) -> Result<Plan, NoMemory>
-    requires { HasArguments asked.now }
+    requires { IsServed asked.now }
     ensures serves { IfOk result (λ plan. Serves (state map.now (R.drawn random.old)) asked.now plan.said
         (planned (state map.now (R.drawn random.old)) plan (R.drawn random.new))) }
     ensures drawn { HasDrawn (R.drawn random.old) (R.drawn random.new) }
@@ -109,10 +110,10 @@ fn plan_asked<R: Random>(
     call: &Packet,
     asked: &Request,
 ) -> Result<Plan, NoMemory>
-    requires found { IsCall call.now.header call.now.payload asked.now }
-    requires read { call_of call.now.header call.now.payload ≡ Ok asked.now }
+    requires found { IsServedCall call.now.header call.now.payload asked.now }
+    requires read { served_of call.now.header call.now.payload ≡ Ok asked.now }
     ensures plan { IfOk result (IsPlan (state map.now (R.drawn random.old)) call.now.header
-        (call_of call.now.header call.now.payload) (R.drawn random.new)) }
+        (served_of call.now.header call.now.payload) (R.drawn random.new)) }
     ensures drawn { HasDrawn (R.drawn random.old) (R.drawn random.new) }
     ensures kept { IfOk result (λ plan. IfSome (put_of plan) (IsPutInto map.now)) }
 {
@@ -128,11 +129,11 @@ fn plan_call<R: Random>(
     call: &Packet,
 ) -> Result<Plan, NoMemory>
     ensures plan { IfOk result (IsPlan (state map.now (R.drawn random.old)) call.now.header
-        (call_of call.now.header call.now.payload) (R.drawn random.new)) }
+        (served_of call.now.header call.now.payload) (R.drawn random.new)) }
     ensures drawn { HasDrawn (R.drawn random.old) (R.drawn random.new) }
     ensures kept { IfOk result (λ plan. IfSome (put_of plan) (IsPutInto map.now)) }
 {
-    match read_call(alloc, &call.header, call.payload.as_slice()) {
+    match read_served_call(alloc, &call.header, call.payload.as_slice()) {
         Ok(asked) => plan_asked(alloc, map, random, call, &asked),
         Err(OrNoMemory::Fault(fault)) => plan_refusal(alloc, map, &call.header, fault),
         Err(OrNoMemory::NoMemory) => Err(NoMemory),

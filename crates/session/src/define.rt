@@ -7,7 +7,7 @@ ghost use Rattle.session_spec.specs.State.{state};
 ghost use Rattle.text_spec.specs.Fill.{IsFilled, IsFilledBy};
 ghost use Rattle.text_spec.specs.Text.{most_bytes};
 ghost use Rattle.session_spec.specs.Refused.{at_place};
-ghost use Rattle.procedure_spec.specs.declared.procedure.ResultShape.TheVariants as shape;
+ghost use Rattle.procedure_spec.specs.declared.shape.ResultShape.TheVariants as shape;
 ghost use Rattle.session.specs.Left.{left};
 ghost use Rattle.virt_types.specs.Drawn.{IsMadeOfDrawn};
 ghost use Rattle.virt_types.specs.Limits.{most_kept_bytes};

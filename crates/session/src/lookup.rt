@@ -1,7 +1,7 @@
 // Requests that leave the map as it is.
 ghost use Rattle.std.specs.Prelude.{◌≡◌, ◌≤◌, ◌++◌, IfOk, IfNone, codes, length, nat_abs};
 ghost use Rattle.std.specs.Fmt.{decimal, signed_decimal};
-ghost use Rattle.procedure_spec.specs.declared.procedure.ResultShape.TheVariants as shape;
+ghost use Rattle.procedure_spec.specs.declared.shape.ResultShape.TheVariants as shape;
 ghost use Rattle.session.specs.Plans.{IsShort};
 ghost use Rattle.uuid.specs.Text.{hyphenated_text, lower};
 ghost use Rattle.session_spec.specs.Defining.{reference as reference_of};

@@ -1,12 +1,12 @@
 // Refusals, with what each keeps.
 ghost use Rattle.std.specs.Prelude.{◌≡◌, ◌≤◌, IfOk, length};
 ghost use Rattle.session_spec.specs.Refused.{at_place, not_served as why_not_served, place, refusal, unread as refusal_of};
+ghost use Rattle.procedure_spec.specs.Calls.{is_known as is_known_row};
 ghost use Rattle.procedure_spec.specs.Procedures.{row_of};
 ghost use Rattle.virt_types.specs.Limits.{most_kept_bytes};
 
 use packet::Header;
-use procedure_spec::find;
-use remote_args::ArgFault;
+use remote_args::{ArgFault, is_known};
 use std::alloc::Global;
 use virt_types::{NoMemory, Refusal, RefusalCode};
 use wire_spec::XdrFault;
@@ -45,11 +45,12 @@ pub(crate) fn refuse_at(alloc: Global, code: RefusalCode, at: u64) -> Result<Ref
 
 /// Why a procedure is not served.
 fn not_served(call: &Header) -> RefusalCode
-    ensures { result ≡ why_not_served (row_of call.now.prog call.now.procedure) }
+    ensures { result ≡ why_not_served (is_known_row (row_of call.now.prog call.now.procedure)) }
 {
-    match find(call.prog, call.procedure) {
-        Some(_) => RefusalCode::NotBuilt,
-        None => RefusalCode::UnknownProcedure,
+    if is_known(call) {
+        RefusalCode::NotBuilt
+    } else {
+        RefusalCode::UnknownProcedure
     }
 }
 

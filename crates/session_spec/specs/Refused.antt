@@ -1,10 +1,10 @@
 -- Refusals: what each keeps.
-use Rattle.std.specs.Prelude.{ℕ, List, ◌++◌, codes, Option, Some, None}
+use Rattle.std.specs.Prelude.{ℕ, List, ◌++◌, codes, Bool, if◌then◌else◌}
 use Rattle.std.specs.Fmt.{decimal}
+use Rattle.procedure_spec.specs.Calls.{is_known}
 use Rattle.procedure_spec.specs.Procedures.{row_of}
 use Rattle.procedure_spec.specs.declared.fault.ArgFault.{ArgFault}
 use Rattle.procedure_spec.specs.declared.fault.ArgFault.TheVariants as fault
-use Rattle.procedure_spec.specs.declared.procedure.Row.{Row}
 use Rattle.virt_types.specs.Refusal.{kept_cut}
 use Rattle.virt_types.specs.declared.refusal.Refusal.{Refusal}
 use Rattle.virt_types.specs.declared.refusal.RefusalCode.{RefusalCode}
@@ -30,16 +30,15 @@ place (xdr.Text at) = at
 abbrev pub at_place : ℕ → List ℕ
 at_place at = codes "at " ++ decimal at
 
--- why a procedure is not served: the tables do not have it, or it is not built
-abbrev pub not_served : Option Row → RefusalCode
-not_served None = code.UnknownProcedure
-not_served (Some row) = code.NotBuilt
+-- why a procedure is not served: it is known and not built, or it is not known
+abbrev pub not_served : Bool → RefusalCode
+not_served known = if known then code.NotBuilt else code.UnknownProcedure
 
 -- the refusal of a call that no request could be read from
 abbrev pub unread : Header → ArgFault → Refusal
 unread h fault.Program = refusal code.MalformedCall (codes "program")
 unread h fault.Version = refusal code.MalformedCall (codes "version")
-unread h fault.Procedure = refusal (not_served (row_of h.prog h.procedure)) (decimal h.procedure)
+unread h fault.Procedure = refusal (not_served (is_known (row_of h.prog h.procedure))) (decimal h.procedure)
 unread h (fault.Xdr bad) = refusal code.MalformedCall (at_place (place bad))
 unread h (fault.Name at) = refusal code.MalformedCall (at_place at)
 unread h (fault.Foreign at) = refusal code.MalformedCall (at_place at)

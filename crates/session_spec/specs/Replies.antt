@@ -1,7 +1,7 @@
 -- What is said to each packet: one reply to a call, and nothing to any other (libvirt, src/rpc/virnetprotocol.x).
 use Rattle.std.specs.Prelude.{◌≡◌, ◌≢◌, ◌==◌, ◌&&◌, ℕ, Bool, true, false, List, [], ◌∷◌, ◌++◌, Option, None, Some, option_to_list, Result, Ok, Err}
 use Rattle.std.specs.List.{flat_map}
-use Rattle.procedure_spec.specs.Calls.{call_of}
+use Rattle.procedure_spec.specs.Calls.{served_of}
 use Rattle.procedure_spec.specs.Errors.{refusal_payload}
 use Rattle.procedure_spec.specs.Results.{reply_header, result}
 use Rattle.procedure_spec.specs.declared.fault.ArgFault.{ArgFault}
@@ -32,7 +32,7 @@ reply_packet call (reply.No why) = record { header = reply_header call ERROR; pa
 -- the map after it is the one that the call leaves
 pub record Turn (s : SessionState) (call answer : Packet) (after : SessionState) : Type 0 where
   pub said : Reply
-  pub outcome : HasOutcome s call.header (call_of call.header call.payload) said after
+  pub outcome : HasOutcome s call.header (served_of call.header call.payload) said after
   pub answer_is : answer ≡ reply_packet call.header said
   pub whole : IsPacket answer
 
@@ -57,4 +57,4 @@ asks_to_close (Ok request.ConnectClose) = true
 asks_to_close _ = false
 
 abbrev pub closes : Packet → Bool
-closes packet = (packet.header.kind == CALL) && asks_to_close (call_of packet.header packet.payload)
+closes packet = (packet.header.kind == CALL) && asks_to_close (served_of packet.header packet.payload)

@@ -7,7 +7,7 @@ mod Grown
 mod Whole
 mod Lookups
 mod Disks
-mod Macs
+pub mod Macs
 mod Rows
 mod Interfaces
 mod Devices
@@ -16,9 +16,9 @@ mod Segments
 mod DomainElements
 mod DomainValues
 mod DomainFaults
-mod Plain
+pub mod Plain
 pub mod Lengths
-mod Bare
+pub mod Bare
 mod Names
 mod Tagged
 mod Printed
@@ -27,7 +27,7 @@ mod Filled
 mod Found
 mod ReadTexts
 mod Ranges
-mod ReadMacs
+pub mod ReadMacs
 mod ReadRows
 mod ReadDevices
 mod ReadValues

@@ -1,7 +1,7 @@
 // Payloads of the two calls, of a domain and of an error.
 ghost use Rattle.std.specs.Prelude.{◌≡◌, ◌++◌, ◌^◌, ◌<◌, Some, None, length, IfOk};
 ghost use Rattle.procedure_spec.specs.Errors.{error_payload};
-ghost use Rattle.procedure_spec.specs.Results.{domain_reference};
+ghost use Rattle.procedure_spec.specs.ResultItems.{domain_reference};
 ghost use Rattle.wire_spec.specs.Xdr.{opaque, optional, word};
 
 use crate::items::{add_fixed, add_integer, add_kept, add_present, add_string, add_word};

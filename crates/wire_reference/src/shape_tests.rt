@@ -1,5 +1,5 @@
 // Each line of the tables against the items of its call and its reply, which spell known bytes.
-use crate::shapes::{Item, Kind, argument_kinds, result_kinds, spell_item};
+use crate::shapes::{Item, Kind, argument_kinds, result_kinds, spell_item, target_kinds};
 use procedure_spec::{OWN, REMOTE, find};
 use std::alloc::Global;
 use std::process::Abort;
@@ -14,15 +14,19 @@ const XML: u32 = 0x3c61_2f3e;
 
 const HIGH: u32 = 0x8000_0000;
 
-// The items spell these words, and are of these kinds.
+// The items spell these words, and are of these kinds, one after the other.
 fn assert_items(
     rt: &impl Abort,
     alloc: Global,
     items: &[Item<'_>],
     words: &[u32],
-    kinds: &[Kind],
+    first: &[Kind],
+    then: &[Kind],
 ) -> Result<(), Fail> {
     let (mut bytes, mut found, mut wanted) = (Vec::new(alloc), Vec::new(alloc), Vec::new(alloc));
+    let mut kinds = Vec::new(alloc);
+    kinds.extend_from_slice(first)?;
+    kinds.extend_from_slice(then)?;
     for item in items {
         assert!(rt; item.is_short());
         spell_item(&mut bytes, *item)?;
@@ -32,7 +36,7 @@ fn assert_items(
         wanted.extend_from_slice(&word.to_be_bytes())?;
     }
     assert_eq!(rt; bytes.as_slice(), wanted.as_slice());
-    assert_eq!(rt; found.as_slice(), kinds);
+    assert_eq!(rt; found.as_slice(), kinds.as_slice());
     Ok(())
 }
 
@@ -47,7 +51,8 @@ fn assert_calls(
 ) -> Result<(), Fail> {
     for number in numbers {
         let row = find(program, *number).ok_or("no such line")?;
-        assert_items(rt, alloc, items, words, argument_kinds(row.arguments))?;
+        let (first, then) = (target_kinds(row.target), argument_kinds(row.arguments));
+        assert_items(rt, alloc, items, words, first, then)?;
     }
     Ok(())
 }
@@ -63,7 +68,7 @@ fn assert_replies(
 ) -> Result<(), Fail> {
     for number in numbers {
         let row = find(program, *number).ok_or("no such line")?;
-        assert_items(rt, alloc, items, words, result_kinds(row.result))?;
+        assert_items(rt, alloc, items, words, result_kinds(row.result), &[])?;
     }
     Ok(())
 }
@@ -80,9 +85,10 @@ fn calls_hold_their_items(rt: HostRuntime) -> Result<(), Fail> {
         Item::LongWord(0x1_0000_0002),
         Item::Integer(-1),
     );
-    let table: [(u32, &[u32], &[Item<'_>], &[u32]); 24] = [
+    let state = Item::Opaque(&[1, 2, 3]);
+    let table: [(u32, &[u32], &[Item<'_>], &[u32]); 26] = [
         (REMOTE, &[2], &[], &[]),
-        (OWN, &[1, 26], &[], &[]),
+        (OWN, &[1, 16, 26], &[], &[]),
         (
             REMOTE,
             &[1],
@@ -97,7 +103,7 @@ fn calls_hold_their_items(rt: HostRuntime) -> Result<(), Fail> {
         ),
         (
             OWN,
-            &[2, 3, 5, 10, 11, 14],
+            &[2, 3, 5, 10, 11, 14, 50],
             &[name, id, live],
             &[4, DEMO, 0, 0x4000, HIGH, 1, u32::MAX],
         ),
@@ -130,7 +136,7 @@ fn calls_hold_their_items(rt: HostRuntime) -> Result<(), Fail> {
         ),
         (
             OWN,
-            &[15],
+            &[15, 51, 53],
             &[name, id, live, live],
             &[4, DEMO, 0, 0x4000, HIGH, 1, u32::MAX, u32::MAX],
         ),
@@ -139,6 +145,18 @@ fn calls_hold_their_items(rt: HostRuntime) -> Result<(), Fail> {
             &[31],
             &[name, id, live, long],
             &[4, DEMO, 0, 0x4000, HIGH, 1, u32::MAX, 1, 2],
+        ),
+        (
+            OWN,
+            &[54],
+            &[name, id, live, long],
+            &[4, DEMO, 0, 0x4000, HIGH, 1, u32::MAX, 1, 2],
+        ),
+        (
+            OWN,
+            &[52],
+            &[text, live, state],
+            &[4, XML, u32::MAX, 3, 0x0102_0300],
         ),
         (REMOTE, &[21, 36, 38], &[live], &[u32::MAX]),
         (REMOTE, &[24], &[id], &[0, 0x4000, HIGH, 1]),
@@ -210,7 +228,8 @@ fn replies_hold_their_items(rt: HostRuntime) -> Result<(), Fail> {
         Item::Integer(-1),
     );
     let one = Item::Count(1);
-    let table: [(u32, &[u32], &[Item<'_>], &[u32]); 17] = [
+    let state = Item::Opaque(&[1, 2, 3]);
+    let table: [(u32, &[u32], &[Item<'_>], &[u32]); 19] = [
         (
             REMOTE,
             &[
@@ -219,7 +238,12 @@ fn replies_hold_their_items(rt: HostRuntime) -> Result<(), Fail> {
             &[],
             &[],
         ),
-        (OWN, &[3, 7, 8, 10, 11, 15, 21, 22, 23, 27, 31], &[], &[]),
+        (
+            OWN,
+            &[3, 7, 8, 10, 11, 15, 21, 22, 23, 27, 31, 51, 53, 54],
+            &[],
+            &[],
+        ),
         (
             REMOTE,
             &[10, 11, 23, 24],
@@ -259,7 +283,19 @@ fn replies_hold_their_items(rt: HostRuntime) -> Result<(), Fail> {
             &[one, name, id, word],
             &[1, 4, DEMO, 0, 0x4000, HIGH, 1, 7],
         ),
-        (OWN, &[40], &[one, name, text], &[1, 4, DEMO, 4, XML]),
+        (OWN, &[16, 40], &[one, name, text], &[1, 4, DEMO, 4, XML]),
+        (
+            OWN,
+            &[50],
+            &[text, live, state],
+            &[4, XML, u32::MAX, 3, 0x0102_0300],
+        ),
+        (
+            OWN,
+            &[52],
+            &[name, id, live],
+            &[4, DEMO, 0, 0x4000, HIGH, 1, u32::MAX],
+        ),
     ];
     for (program, numbers, items, words) in table {
         assert_replies(&rt, rt.alloc(), program, numbers, items, words)?;

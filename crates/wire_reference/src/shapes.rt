@@ -1,10 +1,10 @@
 // What the columns of the tables of procedures say: the items of calls and of replies.
 ghost use Rattle.std.specs.Prelude.{◌≡◌, ◌++◌, IsTrue, OnOk, ◌↔◌};
 ghost use Rattle.wire_spec.specs.Xdr.{double_word};
-ghost use Rattle.wire_reference.specs.Shapes.{IsShort, argument_kinds as kinds_of_call, kind_of, result_kinds as kinds_of_reply, spelled};
+ghost use Rattle.wire_reference.specs.Shapes.{IsShort, argument_kinds as kinds_of_call, kind_of, result_kinds as kinds_of_reply, spelled, target_kinds as kinds_of_target};
 
 use crate::items::{add_fixed, add_integer, add_present, add_string, add_word};
-use procedure_spec::{ArgumentShape, ResultShape};
+use procedure_spec::{ArgumentShape, ResultShape, TargetShape};
 use virt_types::NoMemory;
 
 /// What an item of a payload is.
@@ -22,6 +22,8 @@ pub enum Kind {
     OptionalText,
     /// Fixed opaque data of 16 bytes.
     Identifier,
+    /// Variable opaque data.
+    Opaque,
     /// How many entries follow, of which the kinds after it are one.
     Count,
 }
@@ -41,6 +43,8 @@ pub enum Item<'a> {
     PresentText(&'a [u8]),
     /// Fixed opaque data of 16 bytes.
     Identifier(&'a [u8; 16]),
+    /// Variable opaque data.
+    Opaque(&'a [u8]),
     /// How many entries follow.
     Count(u32),
 }
@@ -57,6 +61,7 @@ impl<'a> Item<'a> {
             Item::Text(_) => Kind::Text,
             Item::PresentText(_) => Kind::OptionalText,
             Item::Identifier(_) => Kind::Identifier,
+            Item::Opaque(_) => Kind::Opaque,
             Item::Count(_) => Kind::Count,
         }
     }
@@ -68,65 +73,39 @@ impl<'a> Item<'a> {
         match self {
             Item::Text(text) => text.len() <= u32::MAX as usize,
             Item::PresentText(text) => text.len() <= u32::MAX as usize,
+            Item::Opaque(bytes) => bytes.len() <= u32::MAX as usize,
             _ => true,
         }
     }
 }
 
-/// What a call of this shape holds, one after the other.
+/// What the first argument of a call holds, one after the other.
+pub fn target_kinds(shape: TargetShape) -> &'static [Kind]
+    ensures { result.now ≡ kinds_of_target shape }
+{
+    match shape {
+        TargetShape::Nothing => &[],
+        TargetShape::Domain => &[Kind::Text, Kind::Identifier, Kind::Integer],
+        TargetShape::Network | TargetShape::Pool => &[Kind::Text, Kind::Identifier],
+    }
+}
+
+/// What a call of this shape holds after that, one after the other.
 pub fn argument_kinds(shape: ArgumentShape) -> &'static [Kind]
     ensures { result.now ≡ kinds_of_call shape }
 {
     match shape {
         ArgumentShape::Nothing => &[],
-        ArgumentShape::OptionalNameWord => &[Kind::OptionalText, Kind::Word],
-        ArgumentShape::Domain => &[Kind::Text, Kind::Identifier, Kind::Integer],
-        ArgumentShape::DomainDefinition => &[
-            Kind::Text,
-            Kind::Identifier,
-            Kind::Integer,
-            Kind::Text,
-        ],
-        ArgumentShape::DefinitionInteger => &[Kind::Text, Kind::Integer],
-        ArgumentShape::Definition => &[Kind::Text],
-        ArgumentShape::DomainWord => &[Kind::Text, Kind::Identifier, Kind::Integer, Kind::Word],
-        ArgumentShape::DomainDoubleWord => &[
-            Kind::Text,
-            Kind::Identifier,
-            Kind::Integer,
-            Kind::LongWord,
-        ],
-        ArgumentShape::DomainInteger => &[
-            Kind::Text,
-            Kind::Identifier,
-            Kind::Integer,
-            Kind::Integer,
-        ],
+        ArgumentShape::Word => &[Kind::Word],
         ArgumentShape::Integer => &[Kind::Integer],
-        ArgumentShape::Name => &[Kind::Text],
+        ArgumentShape::DoubleWord => &[Kind::LongWord],
         ArgumentShape::Uuid => &[Kind::Identifier],
-        ArgumentShape::DomainName => &[Kind::Text, Kind::Identifier, Kind::Integer, Kind::Text],
-        ArgumentShape::DomainNameWord => &[
-            Kind::Text,
-            Kind::Identifier,
-            Kind::Integer,
-            Kind::Text,
-            Kind::Word,
-        ],
-        ArgumentShape::DomainNameInteger => &[
-            Kind::Text,
-            Kind::Identifier,
-            Kind::Integer,
-            Kind::Text,
-            Kind::Integer,
-        ],
-        ArgumentShape::Network => &[Kind::Text, Kind::Identifier],
-        ArgumentShape::NetworkWord => &[Kind::Text, Kind::Identifier, Kind::Word],
-        ArgumentShape::NetworkInteger => &[Kind::Text, Kind::Identifier, Kind::Integer],
-        ArgumentShape::Pool => &[Kind::Text, Kind::Identifier],
-        ArgumentShape::PoolInteger => &[Kind::Text, Kind::Identifier, Kind::Integer],
-        ArgumentShape::PoolDefinition => &[Kind::Text, Kind::Identifier, Kind::Text],
-        ArgumentShape::PoolName => &[Kind::Text, Kind::Identifier, Kind::Text],
+        ArgumentShape::Definition | ArgumentShape::Name => &[Kind::Text],
+        ArgumentShape::NameWord => &[Kind::Text, Kind::Word],
+        ArgumentShape::NameInteger => &[Kind::Text, Kind::Integer],
+        ArgumentShape::OptionalNameWord => &[Kind::OptionalText, Kind::Word],
+        ArgumentShape::DefinitionInteger => &[Kind::Text, Kind::Integer],
+        ArgumentShape::DefinitionIntegerState => &[Kind::Text, Kind::Integer, Kind::Opaque],
     }
 }
 
@@ -140,7 +119,7 @@ pub fn result_kinds(shape: ResultShape) -> &'static [Kind]
         ResultShape::Network | ResultShape::Pool => &[Kind::Text, Kind::Identifier],
         ResultShape::Text | ResultShape::Name => &[Kind::Text],
         ResultShape::OptionalName => &[Kind::OptionalText],
-        ResultShape::Integer => &[Kind::Integer],
+        ResultShape::Autostart => &[Kind::Integer],
         ResultShape::DoubleWord => &[Kind::LongWord],
         ResultShape::Names => &[Kind::Count, Kind::Text],
         ResultShape::Info => &[
@@ -159,7 +138,8 @@ pub fn result_kinds(shape: ResultShape) -> &'static [Kind]
             Kind::Word,
         ],
         ResultShape::Pools => &[Kind::Count, Kind::Text, Kind::Identifier, Kind::Word],
-        ResultShape::Leases => &[Kind::Count, Kind::Text, Kind::Text],
+        ResultShape::Leases | ResultShape::Titles => &[Kind::Count, Kind::Text, Kind::Text],
+        ResultShape::Migrated => &[Kind::Text, Kind::Integer, Kind::Opaque],
     }
 }
 
@@ -183,6 +163,7 @@ pub fn spell_item(out: &mut Vec<u8>, item: Item<'_>) -> Result<(), NoMemory>
         Item::Text(text) => add_string(out, text),
         Item::PresentText(text) => add_present(out, text),
         Item::Identifier(bytes) => add_fixed(out, bytes),
+        Item::Opaque(bytes) => add_string(out, bytes),
         Item::Count(number) => add_word(out, number),
     }
 }

@@ -133,7 +133,19 @@ impl<'a> Reader<'a> {
         ensures value { AnswersOrNoMemory (λ v. length v ≤ u32.MAX) opaque self.old result self.new }
         ensures fault { ReadsOrNoMemory (first_opaque u32.MAX) self.old result self.new }
     {
-        let found = bytes::opaque(u32::MAX, self.rest);
+        self.take_opaque_within(alloc, u32::MAX)
+    }
+
+    /// Takes opaque data of at most `most` bytes after a length word (4.10).
+    pub fn take_opaque_within(
+        &mut self,
+        alloc: Global,
+        most: u32,
+    ) -> Result<Bytes, OrNoMemory<XdrFault>>
+        ensures value { AnswersOrNoMemory (λ v. length v ≤ most) opaque self.old result self.new }
+        ensures fault { ReadsOrNoMemory (first_opaque most) self.old result self.new }
+    {
+        let found = bytes::opaque(most, self.rest);
         let step = copied(alloc, found);
         keep(&mut self.rest, step)
     }

@@ -56,6 +56,20 @@ fn reads_the_file_of_the_rfc(rt: HostRuntime) -> Result<(), Fail> {
     Ok(())
 }
 
+// A bound on opaque data is tested at the length word, before it is seen whether the bytes are there.
+#[test]
+fn bounds_opaque_data(rt: HostRuntime) -> Result<(), Fail> {
+    let mut reader = Reader::new(&FILE[36..]);
+    let found = reader.take_opaque_within(rt.alloc(), 5);
+    let too_long = XdrFault::TooLong { at: 0, length: 6 };
+    assert!(rt; matches!(found, Err(OrNoMemory::Fault(fault)) if fault == too_long));
+    assert_eq!(rt;
+        reader.take_opaque_within(rt.alloc(), 6)?.as_slice(),
+        b"(quit)".as_slice()
+    );
+    Ok(())
+}
+
 // Two's complement and the highest byte first: RFC 4506, 4.1 and 4.5.
 const NUMBERS: [u8; 32] = [
     0xff, 0xff, 0xff, 0xff, 0x80, 0, 0, 0, //

@@ -5,8 +5,7 @@ ghost use Rattle.def_keeper.specs.Calls.{CanBePut};
 use crate::keeper::Keeper;
 use crate::map::DefMap;
 use crate::mark::StoreFault;
-use crate::spelling::{definition_bytes, definition_name};
-use files_disk::{Effect, FailingCall, Files, MemFiles};
+use files_disk::{Effect, FailingCall, MemFiles};
 use std::alloc::Global;
 use std::marker::Brand;
 use std::test::Fail;
@@ -109,28 +108,15 @@ fn keeper(alloc: Global, files: MemFiles) -> TestKeeper {
     Keeper::adopt(alloc, files, DefMap::new(alloc))
 }
 
-// Whether the file of a definition is there, whole; none where it is torn.
-fn stands(alloc: Global, files: &mut MemFiles, number: u8) -> Result<Option<bool>, NoMemory> {
-    let name = definition_name(alloc, BookKind::Domain, uuid(number))?;
-    let names = ["a", "b", "c"];
-    let wanted = match names.get(number as usize) {
-        Some(name) => definition_bytes(alloc, &entry(alloc, name)?)?,
-        None => return Ok(None),
+// Which definitions a keeper finds that opens these files; none where it doesn't open.
+fn standing(alloc: Global, files: MemFiles) -> Result<Option<u32>, NoMemory> {
+    let Ok((keeper, _found)) = TestKeeper::open(alloc, files) else {
+        return Ok(None);
     };
-    Ok(match files.read(&name) {
-        Ok(Some(content)) if content.as_slice() == wanted.as_slice() => Some(true),
-        Ok(None) => Some(false),
-        _ => None,
-    })
-}
-
-fn standing(alloc: Global, files: &mut MemFiles) -> Result<Option<u32>, NoMemory> {
     let mut found = 0u32;
     for number in 0..3u8 {
-        match stands(alloc, files, number)? {
-            Some(true) => found |= 1 << number,
-            Some(false) => {}
-            None => return Ok(None),
+        if keeper.map().get(BookKind::Domain, uuid(number)).is_some() {
+            found |= 1 << number;
         }
     }
     Ok(Some(found))
@@ -152,7 +138,7 @@ fn leaves(alloc: Global, files: &MemFiles, moment: usize, sets: &[u32]) -> Resul
     let mut seen = 0u32;
     for lost in 0..4usize {
         for torn in [false, true] {
-            let found = standing(alloc, &mut files.image(moment, lost, torn)?)?;
+            let found = standing(alloc, files.image(moment, lost, torn)?)?;
             if !is_one_of(found, sets, &mut seen) {
                 return Ok(false);
             }
@@ -210,8 +196,8 @@ fn a_fault_in_each_call_is_told_in_that_call_alone(rt: HostRuntime) -> Result<()
             let mut keeper = keeper(alloc, failing(alloc, number, effect)?);
             assert_eq!(rt; define(alloc, &mut keeper, 0, "a")?, Answer::Device);
             assert_eq!(rt; define(alloc, &mut keeper, 0, "a")?, Answer::Done);
-            let (mut files, _) = keeper.close();
-            assert_eq!(rt; standing(alloc, &mut files)?, Some(1));
+            let (files, _) = keeper.close();
+            assert_eq!(rt; standing(alloc, files)?, Some(1));
         }
     }
     Ok(())

@@ -1,0 +1,4 @@
+pub mod Histories
+pub mod Entering
+pub mod Ledgers
+pub mod Rotating

@@ -1,0 +1,73 @@
+-- What the turn of an open call comes to, over the chapter.
+use Rattle.std.specs.Prelude.{◌≡◌, ℕ, List, [], ◌++◌, Bool, false, Option, None, Some}
+use Rattle.history_spec.specs.declared.stamp.Stamp.{Stamp}
+use Rattle.domain_spec.specs.Types.{Answer, Call, State, Who}
+use Rattle.domain_spec.specs.declared.open.OpenJob.{OpenJob}
+use Rattle.domain_spec.specs.declared.standing.Standing.{Standing}
+use Rattle.domain_spec.specs.Sequential.{meets_ended}
+use Rattle.core_rules.specs.declared.next.Next.TheVariants as next
+use Rattle.ask_course.specs.Along.{Asked, answered}
+use Rattle.ask_course.specs.Starving.{AreAsks, next_in, starved}
+use Rattle.call_away.specs.AwayLaws.{made}
+use Rattle.call_away.specs.Going.{first_course}
+use Rattle.domain_driver.specs.Fits.{FitsCall}
+use Rattle.domain_driver.specs.declared.calls.CallParts.{CallParts}
+use Rattle.domain_history.specs.Closing.{CanDo, done_in, told_in}
+use Rattle.domain_history.specs.Numbered.{all_numbered}
+use Rattle.domain_history.specs.Standing.{HistoryWithRoom, in_force}
+use Rattle.domain_ledger.specs.Away.{HasRooms, IsOut}
+use Rattle.domain_ledger.specs.Ledger.{Chaptered, IsClosed, admitted}
+use Rattle.domain_ledger.specs.declared.away.Away.{Away}
+use Rattle.domain_ledger.specs.declared.away.Ready.{Ready}
+use Rattle.domain_ledger.specs.declared.turns.Turn.{Turn}
+use Rattle.domain_ledger.specs.declared.turns.Turn.TheVariants as turn
+
+-- what is in force in this chapter
+abbrev pub force_in : HistoryWithRoom → Standing
+force_in c = in_force c.history.base c.history.marks
+
+-- the history of a chapter, with the numbers of passes
+abbrev pub shown : HistoryWithRoom → Chaptered
+shown c = record { chapter = c.history.chapter; base = c.history.base; marks = all_numbered c.history.marks }
+
+-- all that a call needs that is let in here, carrying this boot
+pub record IsReady (s : State) (c : Call) (boot : Option ℕ) (r : Ready) : Type 0 where
+  pub course : r.away.course ≡ first_course s c boot
+  pub parts : FitsCall r.away.parts s c boot
+  pub rooms : HasRooms r.away
+  pub own : r.own ≡ c
+  pub in_mark : r.in_mark ≡ c
+
+-- whichever asks find no memory, the open call can be done once nothing is left to be asked
+abbrev pub CanGoOn : Standing → CallParts → Stamp → Asked → Type 0
+CanGoOn s parts by a =
+    (count : ℕ) → AreAsks count a → next_in (starved count a) ≡ next.Finish
+    → CanDo s s.job parts by (made (starved count a)) (starved count a).answers
+
+-- the open call asks somebody, or is done
+abbrev pub TurnsTo : Stamp → Away → HistoryWithRoom → HistoryWithRoom → Turn → Type 0
+TurnsTo by w old new (turn.Away v x) =
+    (count : ℕ) × AreAsks count w.course × (v ≡ record w { course = starved count w.course }) × (next_in (starved count w.course) ≡ next.Ask x) × (new ≡ old)
+TurnsTo by w old new (turn.Done r) =
+    (count : ℕ) × AreAsks count w.course × (next_in (starved count w.course) ≡ next.Finish)
+    × (new.history ≡ record old.history { marks = old.history.marks ++ done_in (force_in old) by (made (starved count w.course)) (starved count w.course).answers })
+    × (r ≡ told_in (force_in old) (starved count w.course).answers)
+
+-- after this history the call is away with this course, or done with it
+abbrev pub LeadsTo : Chaptered → ℕ → Asked → HistoryWithRoom → Turn → Type 0
+LeadsTo h n a new (turn.Away v x) = (v.course ≡ a) × (next_in a ≡ next.Ask x) × (shown new ≡ h) × IsOut (force_in new) (force_in new).job (Some v)
+LeadsTo h n a new (turn.Done r) = IsClosed h n a (shown new) r × ((force_in new).job ≡ None)
+
+-- a call that is let in
+abbrev pub Enters : ℕ → Who → Call → Option ℕ → HistoryWithRoom → HistoryWithRoom → Turn → Type 0
+Enters n who c boot old new t =
+    (count : ℕ) × LeadsTo (admitted (shown old) n who c boot) n (starved count (first_course (force_in old).state c boot)) new t
+
+-- a call that is answered
+abbrev pub Resumes : ℕ → Asked → Answer → HistoryWithRoom → HistoryWithRoom → Turn → Type 0
+Resumes n a x old new t = (count : ℕ) × LeadsTo (shown old) n (starved count (answered a x)) new t
+
+-- the boot of the open call has ended
+abbrev pub is_over : Standing → Option OpenJob → Bool
+is_over s None = false
+is_over s (Some j) = meets_ended s.state j.call j.boot

@@ -1,0 +1,4 @@
+use Rattle.domain_queue.proofs.passes.after.Given as goal
+
+abbrev pub ghost-named : goal.ghost-named
+ghost-named g a = g.list

@@ -1,0 +1,12 @@
+//! Who waits until a domain's job is free: the callers with the count of their looks, which a program
+//! keeps, and the passes by which they wait, which contracts alone see.
+#![tactic(auto)]
+
+mod passes;
+mod queue;
+#[cfg(test)]
+mod tests;
+mod waiting;
+
+pub use queue::Queue;
+pub use waiting::Waiter;

@@ -1,0 +1,20 @@
+use Rattle.std.proofs.Common.{arith, subst}
+use Rattle.std.specs.Prelude.{IsErrOf, IsOk}
+use Rattle.virt_types.specs.Memory.{UnlessNoMemory}
+use Rattle.virt_types.specs.declared.memory.OrNoMemory.TheVariants.{NoMemory}
+use Rattle.procedure_spec.specs.Calls.{IsServedCall, served_of, in_line, served_line}
+use Rattle.procedure_spec.proofs.Called.{served_again, served_found, served_in}
+use Rattle.procedure_spec.proofs.Found.{found_by, only_by}
+use Rattle.remote_args.proofs.call.read_served_call.Goals as goal
+
+pub returns : goal.returns
+returns c =
+    let h = c.args.header.now in
+    let payload = c.args.payload.now in
+    let read = subst (λ r. UnlessNoMemory c.in_line.result r) (served_in h payload) (subst (λ l. UnlessNoMemory c.in_line.result (in_line l payload)) c.served_line.ensures c.in_line.ensures.fault) in
+    record {
+      found = found_by (IsServedCall h payload) (served_of h payload) c.in_line.result (λ r e. served_found h payload r (λ i. omega (arith, c.type_inv.payload i)) e) read;
+      only = only_by (IsServedCall h payload) (served_of h payload) c.in_line.result (served_again h payload) read;
+      fault = read;
+      memory = subst (λ l. IsErrOf c.in_line.result NoMemory → IsOk l) c.served_line.ensures c.in_line.ensures.memory;
+    }

@@ -1,0 +1,23 @@
+use Rattle.std.proofs.Common.{◌≡◌, ◌+◌, ◌-◌, ℕ, suc, List, sym, ap, arith, rules, ◌∙◌}
+use Rattle.virt_types.specs.declared.value.PoolRow.{PoolRow}
+use Rattle.procedure_spec.specs.ListsReading.{first_entries}
+use Rattle.procedure_spec.specs.ResultItemsReading.{first_pool_row}
+use Rattle.remote_args.proofs.EntryLists.{behind_entries, entries_end, entries_err, entries_step}
+use Rattle.remote_args.proofs.result_list_reader.each_pool.Goals as goal
+
+pub returns-in_err-pool : goal.returns-in_err-pool
+returns-in_err-pool c =
+    let left : c.args.count - c.loop.counter ≡ suc (c.args.count - (c.loop.counter + 1)) = omega arith in
+    let told = entries_err first_pool_row c.loop.list c.args.count _ _ c.args.reader.now c.loop.reader c.pool.new.reader c.pool.new.reader c.in_err-pool.field-0.0 c.loop.invariant left c.in_err-pool.ensures in
+    search (rules, told)
+
+pub loop-preserved : goal.loop-preserved
+loop-preserved c =
+    let left : c.args.count - c.loop.counter ≡ suc (c.args.count - (c.loop.counter + 1)) = omega arith in
+    let step = entries_step first_pool_row c.loop.list c.in_ok-pool.field-0 _ _ c.loop.reader c.pool.new.reader left c.in_ok-pool.ensures in
+    c.loop.invariant ∙ step ∙ ap (λ (t : List (PoolRow)). behind_entries t (first_entries first_pool_row (c.args.count - (c.loop.counter + 1)) c.pool.new.reader)) (sym c.in_ok-push.ensures.ok)
+
+pub returns : goal.returns
+returns c =
+    let none : c.args.count - c.loop.counter ≡ 0 = omega arith in
+    c.loop.invariant ∙ entries_end first_pool_row c.loop.list _ c.loop.reader none
