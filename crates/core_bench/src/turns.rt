@@ -27,12 +27,7 @@ fn is_done(reply: &Reply) -> bool {
 }
 
 // Whether the call is done with these answers.
-fn ends(
-    alloc: Global,
-    state: &mut State,
-    call: &Call,
-    answers: &[Answer],
-) -> Result<bool, NoMemory>
+fn ends(alloc: Global, state: &mut State, call: &Call, answers: &[Answer]) -> Result<bool, NoMemory>
     requires { core_of_call call.now ≡ core.Lifecycle }
 {
     let (parts, mut told) = both(
@@ -44,12 +39,7 @@ fn ends(
 }
 
 // Serves the call, whose one ask is answered Ok: 1 where it was done.
-fn serve(
-    alloc: Global,
-    state: &mut State,
-    call: &Call,
-    answers: &[Answer],
-) -> Result<u32, NoMemory>
+fn serve(alloc: Global, state: &mut State, call: &Call, answers: &[Answer]) -> Result<u32, NoMemory>
     requires { core_of_call call.now ≡ core.Lifecycle }
 {
     let is_asked = asks(state, call, &[])? && !asks(state, call, answers)?;
