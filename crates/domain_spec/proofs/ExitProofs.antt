@@ -47,7 +47,7 @@ placed_boot l None = refl
 placed_boot l (Some place) = refl
 
 slot_boot : (l : Live) (slot : ℕ) → (without_slot l slot).boot ≡ l.boot
-slot_boot l slot = placed_boot l (position (λ taken. nat_eq taken slot) l.slots)
+slot_boot l slot = placed_boot l (position (λ used. nat_eq used slot) l.slots)
 
 detached_boot : (l : Live) (placed : Option (ℕ × DeviceDef)) → (detached l placed).boot ≡ l.boot
 detached_boot l None = refl

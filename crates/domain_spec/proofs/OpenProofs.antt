@@ -74,7 +74,7 @@ phase_closes s (Some j) None n who p asks answers next events h = absurd h
 phase_closes s (Some j) (Some o) n who p asks answers next events h = refl
 
 job_step : (s : Standing) (m : Mark ℕ) → IsLawful s m → one_if_open s.job + one_if (lets_in m) ≡ one_if (closes m) + one_if_open (after s m).job
-job_step s (mark.Admit n who taken c boot) h = ap (λ (k : ℕ). k + 1) (none_held s.job _ (takes_up c) taken who h.in_order.may)
+job_step s (mark.Admit n who wanted c boot) h = ap (λ (k : ℕ). k + 1) (none_held s.job _ (takes_up c) wanted who h.in_order.may)
 job_step s (mark.Done n who c boot asks answers r events) h = ap (λ (k : ℕ). k + 0) (one_done s s.job n who c boot asks answers r events h.in_order)
 job_step s (mark.Refused n who c why looked) h = omega arith
 job_step s (mark.Start n who c boot) h = ap (λ (k : ℕ). k + 0) (one_started s s.job n who c boot h.in_order)
@@ -116,7 +116,7 @@ none_open s None n who c boot h = absurd h
 none_open s (Some j) n who c boot h = ap one_if_open h.alone
 
 operation_step : (s : Standing) (m : Mark ℕ) → IsLawful s m → one_if_open s.operation + one_if (begins_operation m) ≡ one_if (ends_operation m) + one_if_open (after s m).operation
-operation_step s (mark.Admit n who taken c boot) h = omega arith
+operation_step s (mark.Admit n who wanted c boot) h = omega arith
 operation_step s (mark.Done n who c boot asks answers r events) h = omega arith
 operation_step s (mark.Refused n who c why looked) h = omega arith
 operation_step s (mark.Start n who c boot) h = ap (λ (k : ℕ). k + 1) (none_open s s.job n who c boot h.in_order)

@@ -6,6 +6,7 @@ use Rattle.domain_spec.specs.declared.core_step.CoreStep.{CoreStep}
 use Rattle.domain_spec.specs.declared.core_step.CoreStep.TheVariants as step
 use Rattle.domain_spec.specs.declared.mark.Mark.{Mark}
 use Rattle.domain_spec.specs.declared.mark.Mark.TheVariants as mark
+use Rattle.domain_spec.specs.declared.open.OpenJob.{OpenJob}
 use Rattle.domain_spec.specs.declared.standing.Base.{Base}
 use Rattle.domain_spec.specs.declared.standing.Registration.{Registration}
 use Rattle.domain_spec.specs.declared.standing.Standing.{Standing}
@@ -98,18 +99,19 @@ abbrev pub kept_after : Cell → CoreStep ℕ → List (Mark ℕ) → List Regis
 kept_after c (step.Take n client) marks = registrations_taken c.registrations client
 kept_after c other marks = registrations_at c.registrations marks
 
--- the answers so far: those of a call that was let in now, or one more, or as they were
-abbrev pub AnswersAfter : Cell → CoreStep ℕ → List (Mark ℕ) → List Answer → Type 0
-AnswersAfter c (step.Back n a) left answers = AnswersBy c (step.Back n a) answers
-AnswersAfter c t (mark.Admit number who wanted d boot ∷ left) answers = AnswersBy c t answers
-AnswersAfter c t left answers = answers ≡ c.answers
+-- the answers so far: none where no call is open; else one more, or those of a call that was let in now, or as they were
+abbrev pub AnswersAfter : Cell → CoreStep ℕ → List (Mark ℕ) → Option OpenJob → List Answer → Type 0
+AnswersAfter c t left None answers = answers ≡ []
+AnswersAfter c (step.Back n a) left (Some j) answers = AnswersBy c (step.Back n a) answers
+AnswersAfter c t (mark.Admit number who wanted d boot ∷ left) (Some j) answers = AnswersBy c t answers
+AnswersAfter c t left (Some j) answers = answers ≡ c.answers
 
 -- the cell after a turn: a call that is open still waits for an answer; ears are lent and given back by calls that are no steps
 pub record Leads (c : Cell) (t : CoreStep ℕ) (left : List (Mark ℕ)) (d : Cell) : Type 0 where
   pub base : d.base ≡ base_after c t
   pub marks : d.marks ≡ marks_after c t left
   pub registrations : d.registrations ≡ kept_after c t left
-  pub answers : AnswersAfter c t left d.answers
+  pub answers : AnswersAfter c t left (standing_of d).job d.answers
   pub away : WaitsForAnswer d (standing_of d).job
   pub held : d.held ≡ held_by c t (standing_of d) (standing_of d).job
   pub queue : WaitAfter c t left d.queue

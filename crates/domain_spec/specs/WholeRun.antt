@@ -67,4 +67,4 @@ abbrev pub LifeIsRun : Type 0
 LifeIsRun =
     (def : DomainDef) (n : ℕ) (who : Who)
     → Runs (cell_of (unconnected def) [] []) (making (unconnected def) n who ++ running n who ++ ending n who)
-    (cell_of (unconnected def) (whole_life (unconnected def) n who) (ok ∷ []))
+    (cell_of (unconnected def) (whole_life (unconnected def) n who) [])
