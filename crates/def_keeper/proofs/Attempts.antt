@@ -18,7 +18,7 @@ use Rattle.store_spec.specs.Steps.{IsChange, steps_of}
 use Rattle.store_spec.proofs.Settling.{IsAside}
 use Rattle.store_spec.proofs.Whole.{aside_sync, aside_write, makes_drop, makes_put, synced_draft}
 use Rattle.def_keeper.specs.Keeping.{Goes, StandsBut, after_all}
-use Rattle.def_keeper.specs.Trying.{all_more}
+use Rattle.files_disk.specs.Putting.{all_more}
 use Rattle.def_keeper.proofs.Goings.{but_aside, but_changed, but_of, goes_aside, goes_made, goes_tried, name_of, settled_now, sync_aside}
 use Rattle.def_keeper.proofs.Tries.{after_try, tried}
 

@@ -19,7 +19,7 @@ use Rattle.def_keeper.specs.Boots.{DropsStatus, PutsStatus}
 use Rattle.def_keeper.specs.Map.{found}
 use Rattle.def_keeper.specs.Marks.{StoreHistory, tries_in}
 use Rattle.def_keeper.specs.Safe.{IsKeptAt}
-use Rattle.def_keeper.specs.Trying.{all_more}
+use Rattle.files_disk.specs.Putting.{all_more}
 use Rattle.def_keeper.proofs.Knowing.{kept_aside}
 
 -- a name with another ending is no definition's

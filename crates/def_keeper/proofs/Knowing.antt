@@ -38,7 +38,8 @@ use Rattle.def_keeper.specs.Keeping.{IsInDoubt, IsKept, StandsBut, after_all}
 use Rattle.def_keeper.specs.Map.{MapRows, found}
 use Rattle.def_keeper.specs.Marks.{StoreHistory, acknowledged_in, tries_in}
 use Rattle.def_keeper.specs.Safe.{IsKeptAt, IsMapOf, IsSettledAt, KeepsAll}
-use Rattle.def_keeper.specs.Trying.{HasStopped, Tries, all_more, drafting}
+use Rattle.files_disk.specs.Putting.{all_more}
+use Rattle.def_keeper.specs.Trying.{HasStopped, Tries, drafting}
 use Rattle.def_keeper.proofs.MapFinds.{found_none}
 use Rattle.def_keeper.proofs.Goings.{among_all, but_aside, but_of, goes_aside, name_of}
 use Rattle.def_keeper.proofs.Tries.{acknowledged_more, after_more, after_try, done, none_left, none_other, not_yet, same_changes, tried, tries_more}

@@ -8,7 +8,7 @@ use Rattle.store_spec.specs.declared.operation.Operation.{Operation}
 use Rattle.store_spec.specs.declared.operation.Operation.TheVariants as op
 use Rattle.store_spec.specs.FileNames.{status_draft, status_name}
 use Rattle.store_spec.specs.StatusFile.{status_bytes}
-use Rattle.def_keeper.specs.Trying.{HasBegun, all_more}
+use Rattle.files_disk.specs.Putting.{HasBegun, all_more}
 
 -- a draft is written and gets its name
 abbrev pub drafting_of : List ℕ → List ℕ → List ℕ → List Operation

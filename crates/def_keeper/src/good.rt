@@ -1,30 +1,11 @@
 // What is known of entries and changes by their types.
-ghost use Rattle.std.specs.Prelude.{◌≡◌, ◌<◌, All, length};
 ghost use Rattle.store_spec.specs.declared.version.Version.TheVariants as version;
 ghost use Rattle.store_spec.specs.DefinitionFile.{IsEntryOf};
-ghost use Rattle.store_spec.specs.FileNames.{IsUuid};
 ghost use Rattle.store_spec.specs.Steps.{IsChange};
 ghost use Rattle.def_keeper.specs.Calls.{CanBeMade, CanBePut};
 
+use store_reading::known_uuid;
 use store_spec::{Change, Entry};
-use virt_types::Uuid;
-
-// Each byte fits, which a clause cannot say of an array: this walk reads them, and is compiled away.
-#[inline]
-fn sixteen_bytes(bytes: &[u8; 16])
-    ensures { (length bytes.now ≡ 16) × All (λ b. b < 256) bytes.now }
-{
-    'bytes: for i in 0..16 {
-        let _ = bytes[i];
-    }
-}
-
-/// An identifier has sixteen bytes.
-pub(crate) fn known_uuid(uuid: &Uuid)
-    ensures { IsUuid uuid.now }
-{
-    sixteen_bytes(uuid.as_bytes());
-}
 
 /// An entry with a title in one line and a text within the limit can stand in a file.
 pub(crate) fn known_entry(entry: &Entry)

@@ -15,12 +15,12 @@ ghost use Rattle.def_keeper.specs.Map.{IsFree, found};
 ghost use Rattle.def_keeper.specs.Safe.{IsKeptAt};
 
 use crate::chronicle::Chronicle;
-use crate::good::known_uuid;
 use crate::map::DefMap;
 use crate::mark::{DefKey, StoreFault};
 use crate::trying::{drop_of, put, try_change};
 use files_disk::Files;
 use std::alloc::Global;
+use store_reading::known_uuid;
 use store_spec::{BookKind, Change, Entry};
 use virt_types::{Fault, NoMemory, OrNoMemory, TryCopy, Uuid};
 

@@ -1,15 +1,15 @@
 // A change is tried in the directory.
 ghost use Rattle.std.specs.Prelude.{◌≡◌, ◌≤◌, IsErrOf, IfOk};
-ghost use Rattle.outside_spec.specs.Faults.{HasCause, Rose};
+ghost use Rattle.outside_spec.specs.Faults.{Rose};
 ghost use Rattle.store_spec.specs.declared.change.Change.TheVariants as change;
 ghost use Rattle.store_spec.specs.declared.version.Version.TheVariants as version;
 ghost use Rattle.store_spec.specs.DefinitionFile.{definition_bytes as the_bytes};
 ghost use Rattle.store_spec.specs.FileNames as name;
 ghost use Rattle.virt_types.specs.declared.memory.Fault.TheVariants as fault;
-ghost use Rattle.def_keeper.specs.Trying.{PutsFile, RemovesFile, Tries};
+ghost use Rattle.def_keeper.specs.Trying.{Tries};
 
 use crate::spelling::{definition_bytes, definition_draft, definition_name};
-use files_disk::Files;
+use files_disk::{Files, put_file, remove_file};
 use std::alloc::Global;
 use store_spec::{BookKind, Change, Entry};
 use virt_types::{Bytes, Failed, Fault, NoMemory, Text, Uuid};
@@ -35,47 +35,6 @@ fn draft_of(alloc: Global, kind: BookKind, uuid: Uuid, entry: &Entry) -> Result<
         name,
         content,
     })
-}
-
-// Writes the draft and syncs it, gives it its name, and syncs the directory.
-fn put_file<F: Files>(files: &mut F, draft: &Text, name: &Text, content: &[u8]) -> Result<(), Fault>
-    ensures told { PutsFile draft.now name.now content.now (F.told files.old) (F.told files.new) result }
-    ensures cause { IsErrOf result fault.Failed → Rose (F.faults files.old) (F.faults files.new) }
-    ensures faults { F.faults files.old ≤ F.faults files.new }
-{
-    match files.write(draft, content) {
-        Ok(()) => {}
-        Err(Fault::Failed) => return Err(Fault::Failed),
-        Err(Fault::NoMemory) => return Err(Fault::NoMemory),
-    }
-    match files.sync(draft) {
-        Ok(()) => {}
-        Err(Failed) => return Err(Fault::Failed),
-    }
-    match files.rename(draft, name) {
-        Ok(()) => {}
-        Err(Fault::Failed) => return Err(Fault::Failed),
-        Err(Fault::NoMemory) => return Err(Fault::NoMemory),
-    }
-    match files.sync_dir() {
-        Ok(()) => Ok(()),
-        Err(Failed) => Err(Fault::Failed),
-    }
-}
-
-// Removes the file, and syncs the directory.
-fn remove_file<F: Files>(files: &mut F, name: &Text) -> Result<(), Failed>
-    ensures told { RemovesFile name.now (F.told files.old) (F.told files.new) result }
-    ensures cause { HasCause (F.faults files.old) (F.faults files.new) result }
-{
-    match files.remove(name) {
-        Ok(()) => {}
-        Err(Failed) => return Err(Failed),
-    }
-    match files.sync_dir() {
-        Ok(()) => Ok(()),
-        Err(Failed) => Err(Failed),
-    }
 }
 
 pub(crate) fn put<F: Files>(
