@@ -35,12 +35,12 @@ use Rattle.store_spec.specs.DefinitionFile.{IsEntryOf}
 use Rattle.def_keeper.specs.Calls.{AllGood, HasLeft, HasMade, IsSettling, as_answer}
 use Rattle.def_keeper.specs.Chapters.{Settles, by, moment_of, most_marks, next_chapter, open_chapter, first_chapter, with_marks}
 use Rattle.def_keeper.specs.Keeping.{IsInDoubt, IsKept, StandsBut, after_all}
-use Rattle.def_keeper.specs.Map.{MapRows, found}
+use Rattle.def_map.specs.Map.{MapRows, found}
 use Rattle.def_keeper.specs.Marks.{StoreHistory, acknowledged_in, tries_in}
 use Rattle.def_keeper.specs.Safe.{IsKeptAt, IsMapOf, IsSettledAt, KeepsAll}
 use Rattle.files_disk.specs.Putting.{all_more}
 use Rattle.def_keeper.specs.Trying.{HasStopped, Tries, drafting}
-use Rattle.def_keeper.proofs.MapFinds.{found_none}
+use Rattle.def_map.proofs.MapFinds.{found_none}
 use Rattle.def_keeper.proofs.Goings.{among_all, but_aside, but_of, goes_aside, name_of}
 use Rattle.def_keeper.proofs.Tries.{acknowledged_more, after_more, after_try, done, none_left, none_other, not_yet, same_changes, tried, tries_more}
 use Rattle.def_keeper.proofs.Attempts.{OnDisk, Trying, all_done, on, some_done, told_on, torn}

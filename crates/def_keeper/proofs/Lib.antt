@@ -1,12 +1,15 @@
-pub mod Rows
-pub mod MapFinds
 pub mod Tries
 pub mod Goings
 pub mod Attempts
 pub mod Knowing
+pub mod Rising
 pub mod Opens
 pub mod Takes
 pub mod Orders
 pub mod Tidies
 pub mod OpenedSo
+pub mod Asides
 pub mod Booting
+pub mod Imagings
+pub mod Examines
+pub mod OpeningCrashes

@@ -19,12 +19,12 @@ use Rattle.def_keeper.specs.declared.outcome.FoundDefinition.{FoundDefinition}
 use Rattle.def_keeper.specs.declared.outcome.OpenFault.{OpenFault}
 use Rattle.def_keeper.specs.declared.outcome.OpenFault.TheVariants as fault
 use Rattle.def_keeper.specs.Finding.{HasFoundAt, HasOther, IsFirstIn, IsSecond, IsWrong, IsWrongAt}
-use Rattle.def_keeper.specs.Map.{found, no_rows, MapRows}
+use Rattle.def_map.specs.Map.{found, no_rows, MapRows}
 use Rattle.def_keeper.specs.Opened.{AreSure, HasOpened, HasTidied, IsOpened, IsRefused, IsSureAt}
 use Rattle.def_keeper.specs.Opening.{ComesNext, HasFound, IsFaultAt, IsFirstBad, IsFirstTwice, IsInOrder, IsWhole, is_listed}
 use Rattle.def_keeper.specs.Safe.{IsSettledAt}
 use Rattle.def_keeper.specs.Tidying.{HasRemoved, HasRemovedAt, HasReported, HasReportedAt, IsReports, IsTidying, Tidies}
-use Rattle.def_keeper.proofs.MapFinds.{found_none}
+use Rattle.def_map.proofs.MapFinds.{found_none}
 use Rattle.def_keeper.proofs.Goings.{settled_sure}
 use Rattle.def_keeper.proofs.Opens.{found_first, found_whole, unlisted_none}
 use Rattle.def_keeper.proofs.Tidies.{tidying_aside}
@@ -57,8 +57,10 @@ opened_so : (os mid : List Operation) (names : List (List ℕ)) (map : Definitio
 opened_so os mid names map f lists definitions statuses r = record {
   definitions = whole;
   statuses = record {
-    each = statuses.each;
+    files = statuses.files;
+    rising = statuses.rising;
     all = λ n bytes says content. statuses.all n bytes (has_name (directory os) names n bytes lists content) says content;
+    told = statuses.told;
   };
   removed = λ n says. same_synced mid n ∙ ⊎_elim
       (λ there. r.gone n there says)

@@ -1,12 +1,14 @@
 -- What is found of a directory, one file after another.
-use Rattle.std.proofs.Common.{◌≡◌, ◌⊎◌, inl, inr, ⊎_elim, ◌<◌, ◌≤◌, ◌+◌, ◌++◌, ◌||◌, ◌&&◌, Bool, true, false, cond, List, [], ◌∷◌, ℕ, zero, suc, Option, None, Some, All, bytes_eq, count_by, get_or, length, take, refl, sym, ◌∙◌, ap, subst, arith}
+use Rattle.std.proofs.Common.{◌≡◌, ◌⊎◌, inl, inr, ⊎_elim, ◌<◌, ◌≤◌, ◌+◌, ◌++◌, ◌||◌, ◌&&◌, Bool, true, false, cond, List, [], ◌∷◌, ℕ, zero, suc, Option, None, Some, All, bytes_eq, count_by, get_or, length, map, take, refl, sym, ◌∙◌, ap, subst, arith}
 use Rattle.std.specs.Prelude.{Contains}
 use Rattle.std.specs.List.{list_any}
+use Rattle.std.specs.List.Sorted.{IsStrictlySortedBy}
 use Rattle.std.proofs.lemmas.Bool.{cases_Bool}
+use Rattle.std.proofs.lemmas.List.{map_push}
 use Rattle.std.proofs.lemmas.List.Elements.{All-push, Contains-append_left, Contains-append_right}
 use Rattle.std.proofs.lemmas.List.Folds.{list_any-append}
 use Rattle.std.proofs.lemmas.List.Sums.{sum_by-cons}
-use Rattle.files_disk.specs.Telling.{Lists, Told, times}
+use Rattle.files_disk.specs.Telling.{IsListed, Lists, Told, times}
 use Rattle.store_spec.specs.declared.change.Change.{Change}
 use Rattle.store_spec.specs.declared.change.Change.TheVariants as change
 use Rattle.store_spec.specs.declared.entry.Entry.{Entry}
@@ -24,7 +26,8 @@ use Rattle.store_spec.proofs.Stands.{changed_else, changed_here, eq_of, kind_by_
 use Rattle.def_keeper.specs.declared.outcome.FoundDefinition.{FoundDefinition}
 use Rattle.def_keeper.specs.Calls.{AllGood}
 use Rattle.def_keeper.specs.Finding.{Finds, FindsIn, HasFoundAt, Passes, Takes}
-use Rattle.def_keeper.specs.Opening.{HasFound, IsFound, IsWhole, IsWholeAt, is_listed}
+use Rattle.def_keeper.specs.Opening.{AreRising, ComesBefore, HasFound, IsFound, IsInOrder, IsWhole, IsWholeAt, files_in, is_listed}
+use Rattle.def_keeper.proofs.Rising.{before_this, rising_more}
 
 true_false : true ≡ false → ⊥
 true_false e = cc
@@ -46,6 +49,20 @@ listed_more x n names = list_any-append (bytes_eq x) names (n ∷ [])
 pub listed_cases : (x n : List ℕ) (names : List (List ℕ)) → is_listed x (names ++ n ∷ []) ≡ true → (is_listed x names ≡ true) ⊎ (x ≡ n)
 listed_cases x n names is = ⊎_elim (λ before. inl before) (λ same. inr (eq_of x n same)) (or_cases (is_listed x names) (bytes_eq x n) (sym (listed_more x n names) ∙ is))
 
+-- a listed name stays one, and the last one is
+pub listed_still : (x n : List ℕ) (names : List (List ℕ)) → is_listed x names ≡ true → is_listed x (names ++ n ∷ []) ≡ true
+listed_still x n names is = listed_more x n names ∙ ap (λ (b : Bool). b || (bytes_eq x n || false)) is
+
+pub listed_here : (n : List ℕ) (names : List (List ℕ)) → is_listed n (names ++ n ∷ []) ≡ true
+listed_here n names = listed_more n n names ∙ ap (λ (b : Bool). is_listed n names || (b || false)) (bytes_eq_same n n refl) ∙ or_true (is_listed n names)
+  where
+    or_true : (b : Bool) → (b || true) ≡ true
+    or_true true = refl
+    or_true false = refl
+
+pub all_still : (names : List (List ℕ)) (n : List ℕ) (files : List (List ℕ)) → All (λ x. is_listed x names ≡ true) files → All (λ x. is_listed x (names ++ n ∷ []) ≡ true) files
+all_still names n files all k x lt = listed_still (get_or files k x) n names (all k x lt)
+
 unlisted : (x n : List ℕ) (names : List (List ℕ)) → is_listed x (names ++ n ∷ []) ≡ false → (is_listed x names ≡ false) × (x ≡ n → ⊥)
 unlisted x n names is =
     let both = or_neither (is_listed x names) (bytes_eq x n) (sym (listed_more x n names) ∙ is) in
@@ -63,11 +80,14 @@ held names d map rows k uuid f u how = ⊎_elim
     how
 
 pub found_first : (d : Directory) (map : Definitions) (rows : List FoundDefinition) → ((k : BookKind) (uuid : List ℕ) → map k uuid ≡ None) → rows ≡ [] → HasFound [] d map rows
+unfolding IsStrictlySortedBy
 found_first d map rows none no_rows = record {
   files = λ k uuid u is. absurd (true_false (sym is));
   none = λ k uuid is. none k uuid;
   no_other = λ n is. absurd (true_false (sym is));
   versions = subst (λ (l : List FoundDefinition). All (IsFound d) l) (sym no_rows) (λ k f lt. absurd (omega (arith, lt)));
+  rising = subst (λ (l : List FoundDefinition). AreRising (files_in l)) (sym no_rows) tt;
+  from = subst (λ (l : List FoundDefinition). All (λ n. is_listed n [] ≡ true) (files_in l)) (sym no_rows) (λ k f lt. absurd (omega (arith, lt)));
   all = λ k uuid e is. absurd (never e (sym (none k uuid) ∙ is));
 }
   where
@@ -86,6 +106,8 @@ found_pass d names n old new rows rows' why (same, same_rows) f = record {
       (λ (this : x ≡ n). ⊎_elim (λ says_none. absurd (says_none (subst IsDefinitionName this says))) (λ absent. ap d this ∙ absent) why)
       (listed_cases x n names is);
   versions = subst (λ (l : List FoundDefinition). All (IsFound d) l) (sym same_rows) f.versions;
+  rising = subst (λ (l : List FoundDefinition). AreRising (files_in l)) (sym same_rows) f.rising;
+  from = subst (λ (l : List FoundDefinition). All (λ x. is_listed x (names ++ n ∷ []) ≡ true) (files_in l)) (sym same_rows) (all_still names n (files_in rows) f.from);
   all = λ k uuid e is. let v = f.all k uuid e (sym (same k uuid) ∙ is) in
       (v.0, subst (λ (l : List FoundDefinition). Contains l (record { kind = k; uuid = uuid; version = v.0 })) (sym same_rows) v.1);
 }
@@ -95,8 +117,8 @@ one_row f = (0, omega arith, refl)
 
 -- a file that was taken in
 found_taken : (d : Directory) (names : List (List ℕ)) (n bytes : List ℕ) (old new : Definitions) (rows rows' : List FoundDefinition)
-    → d n ≡ Some bytes → Takes n bytes old new rows rows' → HasFound names d old rows → HasFound (names ++ n ∷ []) d new rows'
-found_taken d names n bytes old new rows rows' content t f = record {
+    → ((m : List ℕ) → is_listed m names ≡ true → ComesBefore m n) → d n ≡ Some bytes → Takes n bytes old new rows rows' → HasFound names d old rows → HasFound (names ++ n ∷ []) d new rows'
+found_taken d names n bytes old new rows rows' earlier content t f = record {
   files = λ k uuid u is. ⊎_elim
       (λ (this : (is_of c k uuid ≡ true) × (definition_name k uuid ≡ definition_name t.kind t.uuid)).
       subst (λ (o : Option (List ℕ)). Holds o (new k uuid)) (sym (ap d (this.1 ∙ sym t.named) ∙ content))
@@ -111,6 +133,8 @@ found_taken d names n bytes old new rows rows' content t f = record {
       (λ (this : x ≡ n). absurd (other (subst IsNamed (sym (this ∙ t.named)) (is_named t.kind t.uuid t.is_uuid))))
       (listed_cases x n names is);
   versions = subst (λ (l : List FoundDefinition). All (IsFound d) l) (sym t.row) (All-push (IsFound d) rows row f.versions (bytes, t.entry, ap d (sym t.named) ∙ content, t.file));
+  rising = subst AreRising (sym files) (rising_more (files_in rows) n f.rising (λ k x lt. earlier (get_or (files_in rows) k x) (f.from k x lt)));
+  from = subst (λ (l : List (List ℕ)). All (λ x. is_listed x (names ++ n ∷ []) ≡ true) l) (sym files) (All-push (λ x. is_listed x (names ++ n ∷ []) ≡ true) (files_in rows) n (all_still names n (files_in rows) f.from) (listed_here n names));
   all = λ k uuid e is. ⊎_elim
       (λ (this : is_of c k uuid ≡ true). let both = both_true (same_kind k t.kind) (bytes_eq uuid t.uuid) this in (
         t.version,
@@ -131,6 +155,9 @@ found_taken d names n bytes old new rows rows' content t f = record {
     row : FoundDefinition
     row = record { kind = t.kind; uuid = t.uuid; version = t.version }
 
+    files : files_in rows' ≡ files_in rows ++ n ∷ []
+    files = ap files_in t.row ∙ map_push (λ (r : FoundDefinition). definition_name r.kind r.uuid) rows row ∙ ap (λ (m : List ℕ). files_in rows ++ m ∷ []) (sym t.named)
+
     both_true : (a b : Bool) → (a && b) ≡ true → (a ≡ true) × (b ≡ true)
     both_true true b is = (refl, is)
     both_true false b is = cc
@@ -145,13 +172,13 @@ found_taken d names n bytes old new rows rows' content t f = record {
         (λ apart. apart)
         (cases_Bool (is_of c k uuid))
 
-pub find_step : (told : Told) (names : List (List ℕ)) (n : List ℕ) (old new : Definitions) (rows rows' : List FoundDefinition)
-    → HasFoundAt told names old rows → Finds told n old new rows rows' → HasFoundAt told (names ++ n ∷ []) new rows'
-find_step None names n old new rows rows' f finds = tt
-find_step (Some os) names n old new rows rows' f finds = ⊎_elim
-    (λ pass. found_pass (directory os) names n old new rows rows' pass.0 pass.1 f)
-    (λ taken. found_taken (directory os) names n taken.0 old new rows rows' taken.1 taken.2 f)
-    finds
+pub find_step : (told : Told) (all : List (List ℕ)) (i : ℕ) (n : List ℕ) (old new : Definitions) (rows rows' : List FoundDefinition) → IsListed told all → IsInOrder all → i < length all → n ≡ get_or all i n
+    → take (i + 1) all ≡ take i all ++ n ∷ [] → HasFoundAt told (take i all) old rows → Finds told n old new rows rows' → HasFoundAt told (take (i + 1) all) new rows'
+find_step None all i n old new rows rows' lists sorted within here cut f finds = tt
+find_step (Some os) all i n old new rows rows' lists sorted within here cut f finds = subst (λ (l : List (List ℕ)). HasFound l (directory os) new rows') (sym cut) (⊎_elim
+    (λ pass. found_pass (directory os) (take i all) n old new rows rows' pass.0 pass.1 f)
+    (λ taken. found_taken (directory os) (take i all) n taken.0 old new rows rows' (λ m is. before_this (directory os) all i n m lists sorted within here cut is) taken.1 taken.2 f)
+    finds)
 
 -- a name that is not listed has no file
 none_counted : (x : List ℕ) (names : List (List ℕ)) → is_listed x names ≡ false → count_by (bytes_eq x) names ≡ 0
@@ -176,6 +203,7 @@ found_whole d names map rows lists f = record {
     no_other = λ n says other. ⊎_elim (λ there. f.no_other n there says other) (λ gone. unlisted_none d names n lists gone) (cases_Bool (is_listed n names));
   };
   versions = f.versions;
+  rising = f.rising;
   all = f.all;
 }
 

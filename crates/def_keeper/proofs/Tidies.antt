@@ -1,11 +1,12 @@
 -- Status files are reported and removed.
 use Rattle.std.proofs.Common.{◌≡◌, ◌⊎◌, inl, inr, ⊎_elim, ◌<◌, ◌≤◌, ◌+◌, ◌++◌, Bool, true, false, List, [], ◌∷◌, ℕ, Option, None, Some, Result, Ok, Err, All, bytes_eq, codes, get_or, length, option_map, take, refl, sym, ◌∙◌, ap, subst, arith, append_assoc, append-nil, length-append}
 use Rattle.std.specs.Prelude.{Contains}
+use Rattle.std.specs.List.Sorted.{IsStrictlySortedBy}
 use Rattle.std.proofs.lemmas.Bool.{cases_Bool}
 use Rattle.std.proofs.lemmas.List.{get_or-append-add}
 use Rattle.std.proofs.lemmas.List.Elements.{All-push, Contains-append_left, Contains-append_right}
 use Rattle.virt_types.specs.declared.status.Status.{Status}
-use Rattle.files_disk.specs.Telling.{Told, more}
+use Rattle.files_disk.specs.Telling.{IsListed, Told, more}
 use Rattle.store_spec.specs.declared.operation.Operation.{Operation}
 use Rattle.store_spec.specs.declared.operation.Operation.TheVariants as op
 use Rattle.store_spec.specs.Directory.{Directory, File, Files, directory, files_after, put}
@@ -13,9 +14,10 @@ use Rattle.store_spec.specs.FileNames.{IsDefinitionName, IsStatusName}
 use Rattle.store_spec.proofs.Operating.{bytes_eq_not, files_more, put_else, put_here, same_or_not}
 use Rattle.store_spec.proofs.Settling.{IsAside}
 use Rattle.store_reading.specs.Status.{TellsStatus}
-use Rattle.def_keeper.specs.Opening.{is_listed}
-use Rattle.def_keeper.specs.Tidying.{HasRemoved, HasRemovedAt, HasReported, HasReportedAt, IsReported, IsTidying, Removes, Reports, ReportsAt, Tidies}
-use Rattle.def_keeper.proofs.Opens.{listed_cases}
+use Rattle.def_keeper.specs.Opening.{ComesBefore, IsInOrder, is_listed}
+use Rattle.def_keeper.specs.Tidying.{HasRemoved, HasRemovedAt, HasReported, HasReportedAt, AreReported, IsReported, IsTidying, Removes, Reports, ReportsAt, Tidies}
+use Rattle.def_keeper.proofs.Opens.{all_still, listed_cases, listed_here}
+use Rattle.def_keeper.proofs.Rising.{before_this, rising_more}
 
 true_false : true ≡ false → ⊥
 true_false e = cc
@@ -27,44 +29,55 @@ some_none : (b : List ℕ) → Some b ≡ None → ⊥
 some_none b is = cc
 
 -- a report more
+told_more : (d : Directory) (files : List (List ℕ)) (statuses : List (Option Status)) (n : List ℕ) (s : Option Status) → AreReported d files statuses → IsReported d n s → AreReported d (files ++ n ∷ []) (statuses ++ s ∷ [])
+told_more d [] [] n s told here = (here, tt)
+told_more d [] (x ∷ statuses) n s told here = absurd told
+told_more d (m ∷ files) [] n s told here = absurd told
+told_more d (m ∷ files) (x ∷ statuses) n s told here = (told.0, told_more d files statuses n s told.1 here)
+
 reported_none : (d : Directory) (names : List (List ℕ)) (n : List ℕ) (old new : List (Option Status)) → (IsStatusName n → ⊥) ⊎ (d n ≡ None) → new ≡ old → HasReported names d old → HasReported (names ++ n ∷ []) d new
 reported_none d names n old new why same r = record {
-  each = subst (λ (l : List (Option Status)). All (IsReported d) l) (sym same) r.each;
+  files = r.files;
+  rising = r.rising;
+  from = all_still names n r.files r.from;
   all = λ name bytes is says content. ⊎_elim
-      (λ before. let s = r.all name bytes before says content in (s.0, s.1, subst (λ (l : List (Option Status)). Contains l s.0) (sym same) s.2))
+      (λ before. r.all name bytes before says content)
       (λ (this : name ≡ n). ⊎_elim (λ not. absurd (not (subst IsStatusName this says))) (λ absent. absurd (some_none bytes (sym content ∙ ap d this ∙ absent))) why)
       (listed_cases name n names is);
+  told = subst (AreReported d r.files) (sym same) r.told;
 }
 
-some_same : (a b : List ℕ) → Some a ≡ Some b → a ≡ b
-some_same a b is = cc
-
-reported_one : (d : Directory) (names : List (List ℕ)) (n bytes : List ℕ) (s : Option Status) (old new : List (Option Status)) → IsStatusName n → d n ≡ Some bytes → TellsStatus n bytes s → new ≡ old ++ s ∷ [] → HasReported names d old → HasReported (names ++ n ∷ []) d new
-reported_one d names n bytes s old new says content tells same r = record {
-  each = subst (λ (l : List (Option Status)). All (IsReported d) l) (sym same) (All-push (IsReported d) old s r.each (n, bytes, says, content, tells));
+reported_one : (d : Directory) (names : List (List ℕ)) (n bytes : List ℕ) (s : Option Status) (old new : List (Option Status)) → ((m : List ℕ) → is_listed m names ≡ true → ComesBefore m n)
+    → IsStatusName n → d n ≡ Some bytes → TellsStatus n bytes s → new ≡ old ++ s ∷ [] → HasReported names d old → HasReported (names ++ n ∷ []) d new
+reported_one d names n bytes s old new earlier says content tells same r = record {
+  files = r.files ++ n ∷ [];
+  rising = rising_more r.files n r.rising (λ k x lt. earlier (get_or r.files k x) (r.from k x lt));
+  from = All-push (λ x. is_listed x (names ++ n ∷ []) ≡ true) r.files n (all_still names n r.files r.from) (listed_here n names);
   all = λ name bytes' is says' content'. ⊎_elim
-      (λ before. let t = r.all name bytes' before says' content' in (t.0, t.1, subst (λ (l : List (Option Status)). Contains l t.0) (sym same) (Contains-append_left old (s ∷ []) t.0 t.2)))
-      (λ (this : name ≡ n). let same_bytes = some_same bytes bytes' (sym content ∙ ap d (sym this) ∙ content') in (
-        s,
-        subst (λ (m : List ℕ). TellsStatus m bytes' s) (sym this) (subst (λ (b : List ℕ). TellsStatus n b s) same_bytes tells),
-        subst (λ (l : List (Option Status)). Contains l s) (sym same) (Contains-append_right old (s ∷ []) s (0, omega arith, refl)),
-      ))
+      (λ before. Contains-append_left r.files (n ∷ []) name (r.all name bytes' before says' content'))
+      (λ (this : name ≡ n). Contains-append_right r.files (n ∷ []) name (0, omega arith, sym this))
       (listed_cases name n names is);
+  told = subst (AreReported d (r.files ++ n ∷ [])) (sym same) (told_more d r.files old n s r.told (says, (bytes, content, tells)));
 }
 
 pub report_first : (told : Told) (statuses : List (Option Status)) → statuses ≡ [] → HasReportedAt told [] statuses
+unfolding IsStrictlySortedBy
 report_first None statuses none = tt
 report_first (Some os) statuses none = record {
-  each = subst (λ (l : List (Option Status)). All (IsReported (directory os)) l) (sym none) (λ k s lt. absurd (omega (arith, lt)));
+  files = [];
+  rising = tt;
+  from = λ k s lt. absurd (omega (arith, lt));
   all = λ name bytes is says content. absurd (false_true is);
+  told = subst (AreReported (directory os) []) (sym none) tt;
 }
 
-pub report_step : (told : Told) (names : List (List ℕ)) (n : List ℕ) (old new : List (Option Status)) → HasReportedAt told names old → ReportsAt told n old new → HasReportedAt told (names ++ n ∷ []) new
-report_step None names n old new r step = tt
-report_step (Some os) names n old new r step = ⊎_elim
-    (λ none. reported_none (directory os) names n old new none.0 none.1 r)
-    (λ one. reported_one (directory os) names n one.0 one.1 old new one.2 one.3 one.4 one.5 r)
-    step
+pub report_step : (told : Told) (all : List (List ℕ)) (i : ℕ) (n : List ℕ) (old new : List (Option Status)) → IsListed told all → IsInOrder all → i < length all → n ≡ get_or all i n
+    → take (i + 1) all ≡ take i all ++ n ∷ [] → HasReportedAt told (take i all) old → ReportsAt told n old new → HasReportedAt told (take (i + 1) all) new
+report_step None all i n old new lists sorted within here cut r step = tt
+report_step (Some os) all i n old new lists sorted within here cut r step = subst (λ (l : List (List ℕ)). HasReported l (directory os) new) (sym cut) (⊎_elim
+    (λ none. reported_none (directory os) (take i all) n old new none.0 none.1 r)
+    (λ one. reported_one (directory os) (take i all) n one.0 one.1 old new (λ m is. before_this (directory os) all i n m lists sorted within here cut is) one.2 one.3 one.4 one.5 r)
+    step)
 
 -- what is read after a removal
 removed_here : (os : List Operation) (n : List ℕ) → directory (os ++ op.Remove n ∷ []) n ≡ None

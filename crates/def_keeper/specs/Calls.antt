@@ -19,7 +19,7 @@ use Rattle.def_keeper.specs.declared.mark.StoreFault.{StoreFault}
 use Rattle.def_keeper.specs.declared.mark.StoreFault.TheVariants as store
 use Rattle.def_keeper.specs.declared.mark.StoreMark.{StoreMark}
 use Rattle.def_keeper.specs.Chapters.{Leaves, Settles, by, with_marks}
-use Rattle.def_keeper.specs.Map.{IsFree}
+use Rattle.def_map.specs.Map.{IsFree}
 use Rattle.def_keeper.specs.Marks.{StoreHistory}
 
 -- a title in one line, and a text within the limit

@@ -11,7 +11,7 @@ use Rattle.def_keeper.specs.declared.mark.StoreDeed.TheVariants as deed
 use Rattle.def_keeper.specs.declared.mark.StoreFault.{StoreFault}
 use Rattle.def_keeper.specs.declared.mark.StoreFault.TheVariants as fault
 use Rattle.def_keeper.specs.declared.mark.StoreMark.{StoreMark}
-use Rattle.def_keeper.specs.Map.{MapRows}
+use Rattle.def_map.specs.Map.{MapRows}
 use Rattle.def_keeper.specs.Marks.{StoreHistory}
 
 -- how many operations were told

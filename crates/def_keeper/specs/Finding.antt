@@ -15,7 +15,7 @@ use Rattle.store_spec.specs.FileNames.{IsDefinitionName, IsUuid, definition_name
 use Rattle.def_keeper.specs.declared.outcome.FoundDefinition.{FoundDefinition}
 use Rattle.def_keeper.specs.declared.outcome.OpenFault.{OpenFault}
 use Rattle.def_keeper.specs.declared.outcome.OpenFault.TheVariants as fault
-use Rattle.def_keeper.specs.Map.{IsFree}
+use Rattle.def_map.specs.Map.{IsFree}
 use Rattle.def_keeper.specs.Opening.{HasFound, IsNoDefinition}
 
 -- another object of the kind has the name

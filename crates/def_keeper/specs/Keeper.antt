@@ -3,7 +3,7 @@ use Rattle.std.specs.Prelude.{Option}
 use Rattle.files_disk.specs.Telling.{Told}
 use Rattle.def_keeper.specs.declared.mark.DefKey.{DefKey}
 use Rattle.def_keeper.specs.Calls.{AllGood}
-use Rattle.def_keeper.specs.Map.{MapRows, found}
+use Rattle.def_map.specs.Map.{MapRows, found}
 use Rattle.def_keeper.specs.Marks.{StoreHistory}
 use Rattle.def_keeper.specs.Safe.{IsKeptAt, IsMapOf}
 

@@ -1,5 +1,3 @@
-pub mod Rows
-pub mod Map
 pub mod Marks
 pub mod Keeping
 pub mod Trying
@@ -13,3 +11,7 @@ pub mod Finding
 pub mod Tidying
 pub mod Opened
 pub mod Boots
+pub mod Imaging
+pub mod Examining
+pub mod Judging
+pub mod Laws

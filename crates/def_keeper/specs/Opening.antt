@@ -1,9 +1,10 @@
 -- What is found in a directory when a store is opened, by the names of its files in order.
-use Rattle.std.specs.Prelude.{◌≡◌, ◌<◌, Bool, true, false, List, ℕ, Option, None, Some, All, Contains, bytes_eq, get_or, length, take}
+use Rattle.std.specs.Prelude.{◌≡◌, ◌<◌, Bool, true, false, List, ℕ, Option, None, Some, All, Contains, bytes_eq, get_or, length, map, take}
 use Rattle.std.specs.Cmp.Lexicographic.{slice_cmp}
 use Rattle.std.specs.List.{list_any}
-use Rattle.std.specs.List.Sorted.{IsSorted}
+use Rattle.std.specs.List.Sorted.{IsSorted, IsStrictlySortedBy}
 use Rattle.std.specs.Ordering.{nat_cmp}
+use Rattle.std.specs.declared.cmp.Ordering.TheVariants.{Less}
 use Rattle.files_disk.specs.Telling.{Lists, Told}
 use Rattle.store_spec.specs.declared.entry.Entry.{Entry}
 use Rattle.store_spec.specs.declared.kind.BookKind.{BookKind}
@@ -25,6 +26,17 @@ is_listed n names = list_any (bytes_eq n) names
 abbrev pub IsInOrder : List (List ℕ) → Type 0
 IsInOrder names = IsSorted (slice_cmp nat_cmp) names
 
+-- names that rise, byte by byte
+abbrev pub AreRising : List (List ℕ) → Type 0
+AreRising names = IsStrictlySortedBy (slice_cmp nat_cmp) names
+
+abbrev pub ComesBefore : List ℕ → List ℕ → Type 0
+ComesBefore one other = slice_cmp nat_cmp one other ≡ Less
+
+-- the files of definitions that were found
+abbrev pub files_in : List FoundDefinition → List (List ℕ)
+files_in rows = map (λ f. definition_name f.kind f.uuid) rows
+
 -- the file of a definition that was found is one in this version
 abbrev pub IsFound : Directory → FoundDefinition → Type 0
 IsFound d f = (bytes : List ℕ) × (e : Entry) × (d (definition_name f.kind f.uuid) ≡ Some bytes) × IsDefinitionFile f.version e bytes
@@ -35,12 +47,15 @@ pub record HasFound (names : List (List ℕ)) (d : Directory) (map : Definitions
   pub none : (k : BookKind) (uuid : List ℕ) → is_listed (definition_name k uuid) names ≡ false → map k uuid ≡ None
   pub no_other : (n : List ℕ) → is_listed n names ≡ true → IsDefinitionName n → (IsNamed n → ⊥) → d n ≡ None
   pub versions : All (IsFound d) rows
+  pub rising : AreRising (files_in rows)
+  pub from : All (λ n. is_listed n names ≡ true) (files_in rows)
   pub all : (k : BookKind) (uuid : List ℕ) (e : Entry) → map k uuid ≡ Some e → (v : Version) × Contains rows (record { kind = k; uuid = uuid; version = v })
 
--- the directory stands for the map, and the rows tell the version of each file
+-- the directory stands for the map, and the rows tell the version of each file, by rising names
 pub record IsWhole (d : Directory) (map : Definitions) (rows : List FoundDefinition) : Type 0 where
   pub stands : StandsFor d map
   pub versions : All (IsFound d) rows
+  pub rising : AreRising (files_in rows)
   pub all : (k : BookKind) (uuid : List ℕ) (e : Entry) → map k uuid ≡ Some e → (v : Version) × Contains rows (record { kind = k; uuid = uuid; version = v })
 
 -- of a store that tells its operations

@@ -8,7 +8,7 @@ use Rattle.store_spec.specs.Prefix.{LeavesPrefixes}
 use Rattle.store_spec.specs.Settled.{IsSettled}
 use Rattle.def_keeper.specs.declared.mark.DefKey.{DefKey}
 use Rattle.def_keeper.specs.Keeping.{IsKept}
-use Rattle.def_keeper.specs.Map.{found}
+use Rattle.def_map.specs.Map.{found}
 use Rattle.def_keeper.specs.Marks.{StoreHistory, acknowledged_in, tries_in}
 
 -- the promise: each crash since the chapter began leaves the map after the first of the tried changes, with all that

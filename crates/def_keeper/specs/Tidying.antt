@@ -7,7 +7,7 @@ use Rattle.store_spec.specs.declared.operation.Operation.TheVariants as op
 use Rattle.store_spec.specs.Directory.{Directory, directory}
 use Rattle.store_spec.specs.FileNames.{IsStatusName}
 use Rattle.store_reading.specs.Status.{TellsStatus}
-use Rattle.def_keeper.specs.Opening.{is_listed}
+use Rattle.def_keeper.specs.Opening.{AreRising, is_listed}
 
 -- an operation of an opening
 abbrev pub IsTidying : Operation → Type 0
@@ -20,19 +20,30 @@ abbrev pub Tidies : Told → Told → Type 0
 Tidies None new = new ≡ None
 Tidies (Some os) new = (added : List Operation) × (new ≡ Some (os ++ added)) × All IsTidying added
 
--- a report is what a status file of the directory tells
-abbrev pub IsReported : Directory → Option Status → Type 0
-IsReported d s = (name : List ℕ) × (bytes : List ℕ) × IsStatusName name × (d name ≡ Some bytes) × TellsStatus name bytes s
+-- a report is what the status file of this name tells
+abbrev pub IsReported : Directory → List ℕ → Option Status → Type 0
+IsReported d name s = IsStatusName name × ((bytes : List ℕ) × (d name ≡ Some bytes) × TellsStatus name bytes s)
 
--- just the status files with these names are reported
+-- the reports are those of the files with these names, one after another
+abbrev pub AreReported : Directory → List (List ℕ) → List (Option Status) → Type 0
+AreReported d [] [] = Unit {0}
+AreReported d (n ∷ names) (s ∷ statuses) = IsReported d n s × AreReported d names statuses
+AreReported d names statuses = ⊥
+
+-- just the status files with these names are reported, by rising names
 pub record HasReported (names : List (List ℕ)) (d : Directory) (statuses : List (Option Status)) : Type 0 where
-  pub each : All (IsReported d) statuses
-  pub all : (name bytes : List ℕ) → is_listed name names ≡ true → IsStatusName name → d name ≡ Some bytes → (s : Option Status) × TellsStatus name bytes s × Contains statuses s
+  pub files : List (List ℕ)
+  pub rising : AreRising files
+  pub from : All (λ n. is_listed n names ≡ true) files
+  pub all : (n bytes : List ℕ) → is_listed n names ≡ true → IsStatusName n → d n ≡ Some bytes → Contains files n
+  pub told : AreReported d files statuses
 
--- just the status files of the directory are reported
+-- just the status files of the directory are reported, by rising names
 pub record IsReports (d : Directory) (statuses : List (Option Status)) : Type 0 where
-  pub each : All (IsReported d) statuses
-  pub all : (name bytes : List ℕ) → IsStatusName name → d name ≡ Some bytes → (s : Option Status) × TellsStatus name bytes s × Contains statuses s
+  pub files : List (List ℕ)
+  pub rising : AreRising files
+  pub all : (n bytes : List ℕ) → IsStatusName n → d n ≡ Some bytes → Contains files n
+  pub told : AreReported d files statuses
 
 abbrev pub HasReportedAt : Told → List (List ℕ) → List (Option Status) → Type 0
 HasReportedAt None names statuses = Unit {0}

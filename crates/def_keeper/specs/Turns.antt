@@ -7,7 +7,7 @@ use Rattle.def_keeper.specs.declared.mark.StoreBase.{StoreBase}
 use Rattle.def_keeper.specs.declared.mark.StoreMark.{StoreMark}
 use Rattle.def_keeper.specs.Chapters.{moment_of}
 use Rattle.def_keeper.specs.Keeper.{Keeping}
-use Rattle.def_keeper.specs.Map.{no_rows}
+use Rattle.def_map.specs.Map.{no_rows}
 
 abbrev pub meaning : {F : Type 0} → (F → Told) → Meaning (Keeping F) StoreBase StoreMark (Unit {0})
 meaning told = record {

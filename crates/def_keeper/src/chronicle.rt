@@ -2,7 +2,7 @@
 ghost use Rattle.std.specs.Prelude.{◌≡◌, ℕ, List, ◌<◌, ◌+◌, ◌^◌, [], length, nat_le};
 ghost use Rattle.files_disk.specs.Telling.{Told};
 ghost use Rattle.def_keeper.specs.declared.mark.StoreMark.{StoreMark};
-ghost use Rattle.def_keeper.specs.Map.{MapRows};
+ghost use Rattle.def_map.specs.Map.{MapRows};
 ghost use Rattle.def_keeper.specs.Marks.{StoreHistory};
 ghost use Rattle.def_keeper.specs.Chapters.{most_marks, next_chapter, with_marks};
 
@@ -12,6 +12,9 @@ use virt_types::Front;
 
 /// How many marks a chapter holds before the next one may begin.
 const MOST_MARKS: u64 = 4096;
+
+/// The most marks of a chapter: with one more, there is no memory for it.
+pub(crate) const MOST: u64 = 1 << 62;
 
 /// What happened to a store. Marks take no bytes: nothing but contracts reads them.
 #[derive(Drop)]

@@ -4,12 +4,14 @@ ghost use Rattle.outside_spec.specs.Faults.{Rose};
 ghost use Rattle.store_spec.specs.declared.change.Change.TheVariants as change;
 ghost use Rattle.store_spec.specs.declared.kind.BookKind.{BookKind as TheKind};
 ghost use Rattle.store_spec.specs.Changes.{changed};
+ghost use Rattle.files_disk.specs.Telling.{IsListed};
 ghost use Rattle.def_keeper.specs.Calls.{AllGood};
 ghost use Rattle.def_keeper.specs.Finding.{Finds, HasDeviceFault, HasFoundAt, IsFirstOf, IsNoneFault, IsOtherOf, IsTwice, IsWrong, IsWrongAt, Takes};
-ghost use Rattle.def_keeper.specs.Map.{IsFree, found, no_rows};
+ghost use Rattle.def_map.specs.Map.{IsFree, found, no_rows};
+ghost use Rattle.def_keeper.specs.Opening.{IsInOrder};
 
-use crate::map::DefMap;
 use crate::outcome::{FoundDefinition, OpenFault};
+use def_map::DefMap;
 use files_disk::Files;
 use std::alloc::Global;
 use store_reading::{is_definition_name, read_definition, read_definition_name};
@@ -151,6 +153,8 @@ pub(crate) fn take_all<F: Files>(
 ) -> Result<(), OrNoMemory<OpenFault>>
     requires map { map.old ≡ no_rows }
     requires rows { rows.old ≡ [] }
+    requires listed { IsListed (F.told files.old) names.now }
+    requires ordered { IsInOrder names.now }
     ensures ok { OnOk result (HasFoundAt (F.told files.old) names.now (found map.new) rows.new) }
     ensures err { IfErr result (IsFirstOf (F.told files.old) names.now) }
     ensures good { OnOk result (AllGood (found map.new)) }

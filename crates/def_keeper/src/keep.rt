@@ -11,13 +11,13 @@ ghost use Rattle.def_keeper.specs.declared.mark.StoreFault.TheVariants as store;
 ghost use Rattle.def_keeper.specs.declared.mark.StoreMark.{StoreMark};
 ghost use Rattle.def_keeper.specs.Calls.{AllGood, HasDevice, HasLeft, HasMade, HasSettled, IsDoubtAfter, IsFreeFor, IsQuiet, IsSettling, IsTakenBy, Refuses, as_answer, doubt_after};
 ghost use Rattle.def_keeper.specs.Chapters.{by, moment_of, with_marks};
-ghost use Rattle.def_keeper.specs.Map.{IsFree, found};
+ghost use Rattle.def_map.specs.Map.{IsFree, found};
 ghost use Rattle.def_keeper.specs.Safe.{IsKeptAt};
 
-use crate::chronicle::Chronicle;
-use crate::map::DefMap;
+use crate::chronicle::{Chronicle, MOST};
 use crate::mark::{DefKey, StoreFault};
 use crate::trying::{drop_of, put, try_change};
+use def_map::DefMap;
 use files_disk::Files;
 use std::alloc::Global;
 use store_reading::known_uuid;
@@ -349,9 +349,6 @@ fn change_free<F: Files>(
         }
     }
 }
-
-/// The most marks of a chapter: with one more, there is no memory for it.
-const MOST: u64 = 1 << 62;
 
 /// Settles what is in doubt, and makes a change.
 pub(crate) fn change_in<F: Files>(

@@ -4,16 +4,16 @@ ghost use Rattle.store_spec.specs.declared.kind.BookKind.{BookKind as TheKind};
 ghost use Rattle.store_spec.specs.Changes.{changed};
 ghost use Rattle.def_keeper.specs.Calls.{AllGood, CanBeMade, HasDevice, HasLeft, IsDoubtAfter, IsQuiet, Refuses};
 ghost use Rattle.def_keeper.specs.Chapters.{first_chapter, moment_of, most_marks, next_chapter, open_chapter};
-ghost use Rattle.def_keeper.specs.Map.{MapRows, found};
+ghost use Rattle.def_map.specs.Map.{MapRows, found};
 ghost use Rattle.def_keeper.specs.Safe.{IsMapOf, IsSettledAt, KeepsAll};
 ghost use Rattle.files_disk.specs.Telling.{Told};
 
 use crate::chronicle::Chronicle;
 use crate::good::known_change;
 use crate::keep::change_in;
-use crate::map::DefMap;
 use crate::mark::{DefKey, StoreFault};
 use crate::opening::Opening;
+use def_map::DefMap;
 use files_disk::Files;
 use std::alloc::Global;
 use std::marker::{Model, PhantomData};

@@ -3,18 +3,21 @@
 
 mod boots;
 mod chronicle;
+mod examining;
 mod finding;
 mod good;
+mod image_turns;
+mod images;
 mod keep;
 mod keeper;
 mod kept;
-mod keyed;
+mod laws;
 mod listing;
-mod map;
 mod mark;
 mod open;
 mod opening;
 mod outcome;
+mod report;
 mod spelling;
 mod statuses;
 mod story;
@@ -24,9 +27,13 @@ mod trying;
 mod turns;
 
 pub use chronicle::Chronicle;
+pub use def_map::DefMap;
+pub use examining::examine;
+pub use image_turns::{read_image_in, write_image_in};
 pub use keeper::Keeper;
-pub use map::DefMap;
+pub use laws::openings_keep_definitions;
 pub use mark::{DefKey, StoreBase, StoreDeed, StoreFault, StoreMark};
 pub use opening::Opening;
 pub use outcome::{Found, FoundDefinition, OpenFault};
+pub use report::{Finding, Report, ReportList};
 pub use turns::{KeeperPass, KeeperTurn, change_in};

@@ -1,5 +1,5 @@
 // What happened to a store of definitions, for contracts.
-use crate::map::DefMap;
+use def_map::DefMap;
 use store_spec::{BookKind, Change, Image, ImageFault};
 use virt_types::{Failed, Name, Uuid};
 

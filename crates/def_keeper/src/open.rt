@@ -5,17 +5,19 @@ ghost use Rattle.virt_types.specs.declared.memory.Fault.TheVariants as fault;
 ghost use Rattle.def_keeper.specs.Calls.{AllGood};
 ghost use Rattle.def_keeper.specs.Chapters.{first_chapter};
 ghost use Rattle.def_keeper.specs.Finding.{HasDeviceFault};
-ghost use Rattle.def_keeper.specs.Map.{found, no_rows};
+ghost use Rattle.def_map.specs.Map.{found, no_rows};
 ghost use Rattle.def_keeper.specs.Opened.{HasTidied, IsDevice, IsOpened, IsRefused, IsSureAt};
+ghost use Rattle.files_disk.specs.Telling.{IsListed};
+ghost use Rattle.def_keeper.specs.Opening.{IsInOrder};
 ghost use Rattle.def_keeper.specs.Tidying.{Tidies};
 
 use crate::finding::take_all;
 use crate::keeper::Keeper;
 use crate::listing::listed;
-use crate::map::DefMap;
 use crate::opening::Opening;
 use crate::outcome::{Found, OpenFault};
 use crate::statuses::{remove_all, report_all};
+use def_map::DefMap;
 use files_disk::Files;
 use std::alloc::Global;
 use virt_types::{Failed, Fault, ListOf, OrNoMemory, Text};
@@ -27,7 +29,9 @@ fn tidy<F: Files>(
     finds: &mut Found,
     names: &[Text],
 ) -> Result<(), Fault>
-    requires { finds.old.statuses ≡ [] }
+    requires statuses { finds.old.statuses ≡ [] }
+    requires listed { IsListed (F.told files.old) names.now }
+    requires ordered { IsInOrder names.now }
     ensures ok { OnOk result (HasTidied (F.told files.old) names.now finds.new.statuses (F.told files.new)) }
     ensures definitions { finds.new.definitions ≡ finds.old.definitions }
     ensures told { Tidies (F.told files.old) (F.told files.new) }

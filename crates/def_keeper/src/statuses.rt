@@ -2,6 +2,8 @@
 ghost use Rattle.std.specs.Prelude.{◌≡◌, ◌≤◌, [], IsErrOf, OnOk};
 ghost use Rattle.outside_spec.specs.Faults.{HasCause, Rose};
 ghost use Rattle.virt_types.specs.declared.memory.Fault.TheVariants as fault;
+ghost use Rattle.files_disk.specs.Telling.{IsListed};
+ghost use Rattle.def_keeper.specs.Opening.{IsInOrder};
 ghost use Rattle.def_keeper.specs.Tidying.{HasRemovedAt, HasReportedAt, Removes, ReportsAt, Tidies};
 
 use files_disk::Files;
@@ -46,7 +48,9 @@ pub(crate) fn report_all<F: Files>(
     statuses: &mut ListOf<Option<Status>>,
     names: &[Text],
 ) -> Result<(), Fault>
-    requires { statuses.old ≡ [] }
+    requires statuses { statuses.old ≡ [] }
+    requires listed { IsListed (F.told files.old) names.now }
+    requires ordered { IsInOrder names.now }
     ensures ok { OnOk result (HasReportedAt (F.told files.old) names.now statuses.new) }
     ensures told { F.told files.new ≡ F.told files.old }
     ensures cause { IsErrOf result fault.Failed → Rose (F.faults files.old) (F.faults files.new) }

@@ -1,3 +1,7 @@
+mod directory;
+mod examining;
+mod images;
 mod opening;
 mod renames;
+mod rewriting;
 mod stops;

@@ -1,7 +1,7 @@
 // What an opening finds in a directory, and what it refuses.
 use crate::keeper::Keeper;
-use crate::map::DefMap;
 use crate::outcome::{Found, OpenFault};
+use def_map::DefMap;
 use files_disk::{Effect, FailingCall, Files, MemFiles};
 use std::alloc::Global;
 use std::marker::Brand;
@@ -9,7 +9,7 @@ use std::test::Fail;
 use store_spec::{BookKind, Version};
 use virt_types::{NoMemory, OrNoMemory, Text, Uuid};
 
-type TestKeeper = Keeper<MemFiles, Brand>;
+pub(crate) type TestKeeper = Keeper<MemFiles, Brand>;
 
 const ONE: &str = "domain-01010101-0101-0101-0101-010101010101.def";
 
@@ -17,7 +17,7 @@ const TWO: &str = "domain-02020202-0202-0202-0202-020202020202.def";
 
 const STATUS: &str = "run-01010101-0101-0101-0101-010101010101.sta";
 
-const VERSION_1: &str = "def 1 autostart=yes name=a\n<a/>\n";
+pub(crate) const VERSION_1: &str = "def 1 autostart=yes name=a\n<a/>\n";
 
 const VERSION_2: &str = "def 2 autostart=no name=b\ntitle=t\nlength=5\n<b/>\n";
 
@@ -69,7 +69,12 @@ fn answer_of(fault: &OrNoMemory<OpenFault>) -> Answer {
     }
 }
 
-fn put(alloc: Global, files: &mut MemFiles, name: &str, content: &str) -> Result<(), NoMemory> {
+pub(crate) fn put(
+    alloc: Global,
+    files: &mut MemFiles,
+    name: &str,
+    content: &str,
+) -> Result<(), NoMemory> {
     let name = Text::copy_of(alloc, name)?;
     let written = files.write(&name, content.as_bytes()).is_ok() && files.sync(&name).is_ok();
     if written && files.sync_dir().is_ok() {
@@ -108,8 +113,16 @@ fn a_damaged_file_is_no_definition(rt: HostRuntime) -> Result<(), Fail> {
     Ok(())
 }
 
+// The call of this number fails, and does nothing.
+pub(crate) fn failing_at(alloc: Global, number: u64) -> Result<Vec<FailingCall>, NoMemory> {
+    let mut failing = Vec::new(alloc);
+    let effect = Effect::Nothing;
+    failing.push(FailingCall { number, effect })?;
+    Ok(failing)
+}
+
 // A directory of both versions, with a status file and one that tells nothing.
-fn both_versions(alloc: Global) -> Result<MemFiles, NoMemory> {
+pub(crate) fn both_versions(alloc: Global) -> Result<MemFiles, NoMemory> {
     let mut files = MemFiles::new(alloc);
     put(alloc, &mut files, TWO, VERSION_2)?;
     put(alloc, &mut files, ONE, VERSION_1)?;
@@ -193,12 +206,7 @@ fn the_first_fault_is_told(rt: HostRuntime) -> Result<(), Fail> {
 fn a_fault_in_each_call_of_an_opening_is_told(rt: HostRuntime) -> Result<(), Fail> {
     let alloc = rt.alloc();
     for number in 1..10u64 {
-        let mut failing = Vec::new(alloc);
-        failing.push(FailingCall {
-            number,
-            effect: Effect::Nothing,
-        })?;
-        let files = both_versions(alloc)?.failing(failing);
+        let files = both_versions(alloc)?.failing(failing_at(alloc, number)?);
         let wanted = if number < 9 {
             Answer::Device
         } else {

@@ -1,6 +1,6 @@
 // A map forgets the names that its objects gave up.
 use crate::finding::take_entry;
-use crate::map::DefMap;
+use def_map::DefMap;
 use std::alloc::Global;
 use std::test::Fail;
 use store_spec::{BookKind, Entry, Version};

@@ -1,11 +1,11 @@
 // What stops leave of changes that a keeper makes, at each operation.
 ghost use Rattle.std.specs.Prelude.{IfOk, ℕ};
-ghost use Rattle.def_keeper.specs.Calls.{CanBePut};
+ghost use Rattle.def_keeper.specs.Calls.{CanBeMade, CanBePut};
 
 use crate::keeper::Keeper;
-use crate::map::DefMap;
 use crate::mark::StoreFault;
-use files_disk::{Effect, FailingCall, MemFiles};
+use def_map::DefMap;
+use files_disk::{Effect, FailingCall, Files, MemFiles};
 use std::alloc::Global;
 use std::marker::Brand;
 use std::test::Fail;
@@ -57,7 +57,7 @@ fn entry(alloc: Global, name: &str) -> Result<Entry, NoMemory>
     ensures { IfOk result CanBePut }
 {
     let title = Text::copy_of(alloc, "")?;
-    let text = Text::copy_of(alloc, "<a/>")?;
+    let text = Text::copy_of(alloc, "<a/>\n")?;
     match Name::read(alloc, name.as_bytes()) {
         Ok(name) => Ok(Entry {
             name,
@@ -69,8 +69,9 @@ fn entry(alloc: Global, name: &str) -> Result<Entry, NoMemory>
     }
 }
 
+// What a change answered.
 #[derive(Clone, Copy, Debug, PartialEq, Eq)]
-enum Answer {
+pub(crate) enum Answer {
     Done,
     Device,
     Kept,
@@ -86,22 +87,36 @@ fn answered(answer: Result<virt_types::Front, OrNoMemory<StoreFault>>) -> Answer
     }
 }
 
-fn define(
+// Changes a definition, in the turn of no pass.
+fn change<F: Files>(keeper: &mut Keeper<F, Brand>, change: Change) -> Answer
+    requires { CanBeMade change }
+{
+    if keeper.chapter() >= 1 << 62 {
+        drop(change);
+        return Answer::NoMemory;
+    }
+    answered(keeper.change(change))
+}
+
+pub(crate) fn define<F: Files>(
     alloc: Global,
-    keeper: &mut TestKeeper,
+    keeper: &mut Keeper<F, Brand>,
+    kind: BookKind,
     number: u8,
     name: &str,
 ) -> Result<Answer, NoMemory> {
+    let uuid = uuid(number);
     let entry = entry(alloc, name)?;
-    if keeper.chapter() >= 1 << 62 {
-        return Err(NoMemory);
-    }
-    let change = Change::Put {
-        kind: BookKind::Domain,
-        uuid: uuid(number),
-        entry,
-    };
-    Ok(answered(keeper.change(change)))
+    Ok(change(keeper, Change::Put { kind, uuid, entry }))
+}
+
+pub(crate) fn drop_definition<F: Files>(
+    keeper: &mut Keeper<F, Brand>,
+    kind: BookKind,
+    number: u8,
+) -> Answer {
+    let uuid = uuid(number);
+    change(keeper, Change::Drop { kind, uuid })
 }
 
 fn keeper(alloc: Global, files: MemFiles) -> TestKeeper {
@@ -161,9 +176,18 @@ fn first_other(alloc: Global, files: &MemFiles, rows: &[&[u32]]) -> Result<usize
 fn each_stop_of_three_defines_leaves_the_first_ones(rt: HostRuntime) -> Result<(), Fail> {
     let alloc = rt.alloc();
     let mut keeper = keeper(alloc, MemFiles::new(alloc));
-    assert_eq!(rt; define(alloc, &mut keeper, 0, "a")?, Answer::Done);
-    assert_eq!(rt; define(alloc, &mut keeper, 1, "b")?, Answer::Done);
-    assert_eq!(rt; define(alloc, &mut keeper, 2, "c")?, Answer::Done);
+    assert_eq!(rt;
+        define(alloc, &mut keeper, BookKind::Domain, 0, "a")?,
+        Answer::Done
+    );
+    assert_eq!(rt;
+        define(alloc, &mut keeper, BookKind::Domain, 1, "b")?,
+        Answer::Done
+    );
+    assert_eq!(rt;
+        define(alloc, &mut keeper, BookKind::Domain, 2, "c")?,
+        Answer::Done
+    );
     let (files, _) = keeper.close();
     assert_eq!(rt; first_other(alloc, &files, &THREE_DEFINES)?, 12);
     Ok(())
@@ -179,10 +203,19 @@ fn failing(alloc: Global, number: u64, effect: Effect) -> Result<MemFiles, NoMem
 fn a_change_in_doubt_is_settled_by_the_next(rt: HostRuntime) -> Result<(), Fail> {
     let alloc = rt.alloc();
     let mut keeper = keeper(alloc, failing(alloc, 8, Effect::Nothing)?);
-    assert_eq!(rt; define(alloc, &mut keeper, 0, "a")?, Answer::Done);
-    assert_eq!(rt; define(alloc, &mut keeper, 1, "b")?, Answer::Device);
+    assert_eq!(rt;
+        define(alloc, &mut keeper, BookKind::Domain, 0, "a")?,
+        Answer::Done
+    );
+    assert_eq!(rt;
+        define(alloc, &mut keeper, BookKind::Domain, 1, "b")?,
+        Answer::Device
+    );
     assert!(rt; keeper.map().get(BookKind::Domain, uuid(1)).is_none());
-    assert_eq!(rt; define(alloc, &mut keeper, 2, "c")?, Answer::Done);
+    assert_eq!(rt;
+        define(alloc, &mut keeper, BookKind::Domain, 2, "c")?,
+        Answer::Done
+    );
     let (files, _) = keeper.close();
     assert_eq!(rt; first_other(alloc, &files, &SETTLED_FIRST)?, 13);
     Ok(())
@@ -194,8 +227,14 @@ fn a_fault_in_each_call_is_told_in_that_call_alone(rt: HostRuntime) -> Result<()
     for number in 1..5u64 {
         for effect in [Effect::Nothing, Effect::Half, Effect::Whole] {
             let mut keeper = keeper(alloc, failing(alloc, number, effect)?);
-            assert_eq!(rt; define(alloc, &mut keeper, 0, "a")?, Answer::Device);
-            assert_eq!(rt; define(alloc, &mut keeper, 0, "a")?, Answer::Done);
+            assert_eq!(rt;
+                define(alloc, &mut keeper, BookKind::Domain, 0, "a")?,
+                Answer::Device
+            );
+            assert_eq!(rt;
+                define(alloc, &mut keeper, BookKind::Domain, 0, "a")?,
+                Answer::Done
+            );
             let (files, _) = keeper.close();
             assert_eq!(rt; standing(alloc, files)?, Some(1));
         }
@@ -207,10 +246,22 @@ fn a_fault_in_each_call_is_told_in_that_call_alone(rt: HostRuntime) -> Result<()
 fn a_name_of_another_is_refused_and_nothing_is_written(rt: HostRuntime) -> Result<(), Fail> {
     let alloc = rt.alloc();
     let mut keeper = keeper(alloc, MemFiles::new(alloc));
-    assert_eq!(rt; define(alloc, &mut keeper, 0, "a")?, Answer::Done);
-    assert_eq!(rt; define(alloc, &mut keeper, 1, "a")?, Answer::Kept);
-    assert_eq!(rt; define(alloc, &mut keeper, 0, "b")?, Answer::Done);
-    assert_eq!(rt; define(alloc, &mut keeper, 1, "a")?, Answer::Done);
+    assert_eq!(rt;
+        define(alloc, &mut keeper, BookKind::Domain, 0, "a")?,
+        Answer::Done
+    );
+    assert_eq!(rt;
+        define(alloc, &mut keeper, BookKind::Domain, 1, "a")?,
+        Answer::Kept
+    );
+    assert_eq!(rt;
+        define(alloc, &mut keeper, BookKind::Domain, 0, "b")?,
+        Answer::Done
+    );
+    assert_eq!(rt;
+        define(alloc, &mut keeper, BookKind::Domain, 1, "a")?,
+        Answer::Done
+    );
     let (files, _) = keeper.close();
     assert_eq!(rt;
         files.operations().len(),

@@ -2,7 +2,7 @@ use Rattle.std.proofs.Common.{◌≡◌, ◌≤◌, ◌+◌, ◌++◌, List, [],
 use Rattle.std.proofs.lemmas.List.{take_more}
 use Rattle.files_disk.specs.Telling.{Told}
 use Rattle.def_keeper.specs.Finding.{Finds, HasFoundAt}
-use Rattle.def_keeper.specs.Map.{found}
+use Rattle.def_map.specs.Map.{found}
 use Rattle.def_keeper.proofs.Knowing.{none_good}
 use Rattle.def_keeper.proofs.OpenedSo.{first_at}
 use Rattle.def_keeper.proofs.Opens.{find_step}
@@ -19,9 +19,9 @@ loop-name-preserved g c =
     let inv = c.loop-name.invariant in
     let cut : take (c.loop-name.name-index + 1) c.args.names.now ≡ before ++ item ∷ [] =
     take_more c.args.names.now c.loop-name.name-index item c.loop-name-test.true ∙ ap (λ (x : List ℕ). before ++ x ∷ []) (sym c.name-item.is) in (
-      subst (λ (l : List (List ℕ)). HasFoundAt told l (found c.take_named.new.map) c.take_named.new.rows) (sym cut)
-          (find_step told before item (found c.loop-name.map) (found c.take_named.new.map) c.loop-name.rows c.take_named.new.rows inv.0
-          (subst (λ (t : Told). Finds t item (found c.loop-name.map) (found c.take_named.new.map) c.loop-name.rows c.take_named.new.rows) inv.1 c.in-Ok.ensures.ok)),
+      find_step told c.args.names.now c.loop-name.name-index item (found c.loop-name.map) (found c.take_named.new.map) c.loop-name.rows c.take_named.new.rows
+          c.requires.listed c.requires.ordered c.loop-name-test.true c.name-item.is cut inv.0
+          (subst (λ (t : Told). Finds t item (found c.loop-name.map) (found c.take_named.new.map) c.loop-name.rows c.take_named.new.rows) inv.1 c.in-Ok.ensures.ok),
       c.take_named.ensures.told ∙ inv.1,
       omega (arith, inv.2, c.take_named.ensures.faults),
       c.in-Ok.ensures.good inv.3,

@@ -2,7 +2,7 @@
 use Rattle.std.proofs.Common.{◌≡◌, ◌≤◌, take}
 use Rattle.def_keeper.specs.Calls.{AllGood}
 use Rattle.def_keeper.specs.Finding.{HasFoundAt}
-use Rattle.def_keeper.specs.Map.{found}
+use Rattle.def_map.specs.Map.{found}
 use Rattle.def_keeper.proofs.finding.take_all.Given as goal
 
 abbrev pub invariant-loop-name : goal.invariant-loop-name

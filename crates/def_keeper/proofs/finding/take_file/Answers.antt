@@ -1,4 +1,4 @@
-use Rattle.def_keeper.specs.Map.{found}
+use Rattle.def_map.specs.Map.{found}
 use Rattle.def_keeper.proofs.Takes.{good_ok}
 use Rattle.def_keeper.proofs.finding.take_file.Goals as goal
 

@@ -2,7 +2,7 @@ use Rattle.std.proofs.Common.{[], ◌∷◌, Err, refl, subst, sym}
 use Rattle.def_keeper.specs.declared.mark.StoreDeed.TheVariants as deed
 use Rattle.def_keeper.specs.declared.mark.StoreFault.TheVariants as store
 use Rattle.def_keeper.specs.Chapters.{by, moment_of}
-use Rattle.def_keeper.specs.Map.{found}
+use Rattle.def_map.specs.Map.{found}
 use Rattle.def_keeper.specs.Safe.{IsKeptAt}
 use Rattle.def_keeper.proofs.Knowing.{at_answered, left_by}
 use Rattle.def_keeper.proofs.keep.change_free.Goals as goal

@@ -3,7 +3,7 @@ use Rattle.store_spec.specs.Changes.{uuid_of}
 use Rattle.def_keeper.specs.declared.mark.StoreDeed.TheVariants as deed
 use Rattle.def_keeper.specs.declared.mark.StoreFault.TheVariants as store
 use Rattle.def_keeper.specs.Chapters.{by, moment_of}
-use Rattle.def_keeper.specs.Map.{found}
+use Rattle.def_map.specs.Map.{found}
 use Rattle.def_keeper.specs.Safe.{IsKeptAt}
 use Rattle.def_keeper.proofs.Knowing.{at_answered}
 use Rattle.def_keeper.proofs.keep.change_in.Goals as goal

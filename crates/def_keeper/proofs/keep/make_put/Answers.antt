@@ -1,6 +1,6 @@
 use Rattle.std.proofs.Common.{None, Some, subst, sym, ◌∙◌}
 use Rattle.store_spec.specs.declared.change.Change.TheVariants as change
-use Rattle.def_keeper.specs.Map.{found}
+use Rattle.def_map.specs.Map.{found}
 use Rattle.def_keeper.specs.Safe.{IsKeptAt}
 use Rattle.def_keeper.specs.Chapters.{moment_of}
 use Rattle.def_keeper.proofs.Knowing.{at_alike, at_done, at_drafted, at_failed, changed_alike}

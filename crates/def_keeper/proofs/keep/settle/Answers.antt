@@ -1,5 +1,5 @@
 use Rattle.std.proofs.Common.{Some, None, subst, sym}
-use Rattle.def_keeper.specs.Map.{found}
+use Rattle.def_map.specs.Map.{found}
 use Rattle.def_keeper.specs.Safe.{IsKeptAt}
 use Rattle.def_keeper.proofs.Knowing.{at_drafted, at_settled, at_unsettled, settling_good}
 use Rattle.def_keeper.proofs.keep.settle.Goals as goal

@@ -1,7 +1,7 @@
 use Rattle.std.proofs.Common.{subst, sym}
 use Rattle.def_keeper.specs.Calls.{HasLeft}
 use Rattle.def_keeper.specs.Chapters.{moment_of}
-use Rattle.def_keeper.specs.Map.{found}
+use Rattle.def_map.specs.Map.{found}
 use Rattle.def_keeper.specs.Safe.{IsKeptAt}
 use Rattle.def_keeper.proofs.Knowing.{at_opened, good_told, safe_after}
 use Rattle.def_keeper.proofs.keeper.Keeper.change.Goals as goal

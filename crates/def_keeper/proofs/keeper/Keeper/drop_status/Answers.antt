@@ -1,4 +1,4 @@
-use Rattle.def_keeper.specs.Map.{found}
+use Rattle.def_map.specs.Map.{found}
 use Rattle.def_keeper.proofs.Booting.{dropped_kept}
 use Rattle.def_keeper.proofs.keeper.Keeper.drop_status.Goals as goal
 

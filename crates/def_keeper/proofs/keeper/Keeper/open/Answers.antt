@@ -1,4 +1,4 @@
-use Rattle.def_keeper.specs.Map.{found}
+use Rattle.def_map.specs.Map.{found}
 use Rattle.def_keeper.proofs.OpenedSo.{settled_at}
 use Rattle.def_keeper.proofs.keeper.Keeper.open.Goals as goal
 

@@ -1,4 +1,4 @@
-use Rattle.def_keeper.specs.Map.{found}
+use Rattle.def_map.specs.Map.{found}
 use Rattle.def_keeper.proofs.Booting.{status_kept}
 use Rattle.def_keeper.proofs.keeper.Keeper.put_status.Goals as goal
 

@@ -1,7 +1,0 @@
-use Rattle.std.proofs.Common.{◌∙◌, sym, ap}
-use Rattle.def_keeper.specs.Rows.{at}
-use Rattle.def_keeper.proofs.Rows.{rows_say}
-use Rattle.def_keeper.proofs.keyed.Keyed.get.Goals as goal
-
-pub returns : goal.returns
-returns g c = c.get.ensures.value ∙ sym (rows_say c.self.inside.rows c.args.bytes.now) ∙ ap (λ r. at r c.args.bytes.now) c.self.view_is

@@ -1,5 +1,0 @@
-use Rattle.std.proofs.Common.{◌∙◌}
-use Rattle.def_keeper.proofs.map.DefMap.give_up.Goals as goal
-
-pub returns-clause-same : goal.returns-clause-same
-returns-clause-same c = λ k u. c.forget.ensures.same k u ∙ c.drop_row.ensures k u

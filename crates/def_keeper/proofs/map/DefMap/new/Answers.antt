@@ -1,5 +1,0 @@
-use Rattle.def_keeper.proofs.MapFinds.{lead_none}
-use Rattle.def_keeper.proofs.map.DefMap.new.Goals as goal
-
-pub invariant_of-result : goal.invariant_of-result
-invariant_of-result c = rw (c.new.ensures, c.new-2.ensures) lead_none

@@ -1,0 +1,10 @@
+//! Definitions in memory, by kind and identifier, and by kind and name.
+#![tactic(auto)]
+
+mod keyed;
+mod keys;
+mod map;
+
+pub use keyed::Keyed;
+pub use keys::key_of;
+pub use map::DefMap;
