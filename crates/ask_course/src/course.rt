@@ -1,9 +1,11 @@
 // The course of a call: what it asks, and what it was answered so far.
-ghost use Rattle.std.specs.Prelude.{◌≡◌, [], IfOk, OnErr, is_some, slice_get, true};
+ghost use Rattle.std.specs.Prelude.{◌≡◌, ◌∷◌, [], IfOk, OnErr, is_some, slice_get, true};
 ghost use Rattle.domain_spec.specs.Asks.{asks_left, asks_made, plain};
+ghost use Rattle.domain_spec.specs.Types.answer;
 ghost use Rattle.core_rules.specs.Next.{at_most, is_ask, next_if, next_of};
 ghost use Rattle.core_rules.specs.Place.{next_at, planned_at, undo_step};
 ghost use Rattle.ask_course.specs.Along.{answered};
+ghost use Rattle.ask_course.specs.Copying.{is_image, writes_second, writing, written};
 ghost use Rattle.ask_course.specs.Starving.{GoesOn};
 
 use crate::made::put_made;
@@ -13,7 +15,7 @@ use domain_spec::PlannedAsk;
 use std::alloc::Global;
 use std::collections::VecDeque;
 use std::marker::Model;
-use virt_types::{Answer, AnswerList, Ask, AskList, ListOf, NoMemory, RoomyList, TryCopy};
+use virt_types::{Answer, AnswerList, Ask, AskList, Bytes, ListOf, NoMemory, RoomyList, TryCopy};
 
 /// What a call, or a phase, asks one after the other, and what it was answered so far.
 #[derive(Drop)]
@@ -71,6 +73,27 @@ impl Course {
         })
     }
 
+    /// The course of a phase that found no memory before its first ask: it asks nothing, and that is its
+    /// one answer.
+    pub fn unasked(alloc: Global) -> Result<Course, NoMemory>
+        ensures { IfOk result (λ course. course ≡ record { plan = []; answers = answer.NoMemory ∷ [] }) }
+    {
+        let mut answers = RoomyList::with_room(alloc, 1)?;
+        answers.push(Answer::NoMemory);
+        Ok(Course {
+            plan: VecDeque::new(alloc),
+            made: Vec::new(alloc),
+            answers,
+        })
+    }
+
+    /// Whether the second ask is one that writes an image.
+    pub fn writes_image(&self) -> bool
+        ensures { result ≡ writes_second self.now.plan }
+    {
+        writes_second(&self.plan)
+    }
+
     /// What was answered so far.
     pub fn answers(&self) -> &[Answer]
         ensures { result.now ≡ self.now.answers }
@@ -96,6 +119,13 @@ impl Course {
         ensures { self.new ≡ answered self.old answer }
     {
         self.answers.push(answer);
+    }
+
+    /// The second ask gets this copy of a guest's state, where it is the one that writes it.
+    pub fn put_copy(&mut self, copy: Bytes)
+        ensures { self.new ≡ record self.old { plan = written copy self.old.plan } }
+    {
+        put_second(&mut self.plan, copy);
     }
 
     /// The ask that is next, if one is. One for which there is no memory is answered so, and then the
@@ -129,6 +159,40 @@ impl Course {
         put_made(&mut plan, answers.as_slice(), &mut made);
         drop(plan);
         (ListOf::of(made), answers.into_list())
+    }
+}
+
+fn is_image(ask: &Ask) -> bool
+    ensures { result ≡ is_image ask.now }
+{
+    matches!(ask, Ask::WriteImage { .. })
+}
+
+fn writes_second(plan: &VecDeque<PlannedAsk>) -> bool
+    ensures { result ≡ writes_second plan.now.items }
+{
+    match plan.get(1) {
+        None => false,
+        Some(planned) => is_image(&planned.ask),
+    }
+}
+
+// The ask gets this copy of a guest's state, where it is the one that writes it.
+fn put_into(ask: &mut Ask, copy: Bytes)
+    ensures { ask.new ≡ writing copy ask.old }
+{
+    match ask {
+        Ask::WriteImage { bytes, .. } => *bytes = copy,
+        _ => drop(copy),
+    }
+}
+
+fn put_second(plan: &mut VecDeque<PlannedAsk>, copy: Bytes)
+    ensures { plan.new.items ≡ written copy plan.old.items }
+{
+    match plan.get_mut(1) {
+        None => drop(copy),
+        Some(planned) => put_into(&mut planned.ask, copy),
     }
 }
 
