@@ -93,11 +93,11 @@ undone_copied bytes undo (a ∷ asks) (b ∷ more) e =
     ap (λ (y : Ask). (record { ask = y; undo = undo }) ∷ with_copy bytes (undone_by undo asks)) first
     ∙ ap (λ (plan : List PlannedAsk). (record { ask = b; undo = undo }) ∷ plan) (undone_copied bytes undo asks more rest)
 
-move_same : (bytes : List ℕ) (l : Live) (b : Bool) → is_running l.run ≡ b → with_copy bytes (migrate_take_plan l) ≡ migrate_take_plan l
+pub move_same : (bytes : List ℕ) (l : Live) (b : Bool) → is_running l.run ≡ b → with_copy bytes (migrate_take_plan l) ≡ migrate_take_plan l
 move_same bytes l true e = rw e refl
 move_same bytes l false e = rw e refl
 
-live_follows : (d : Domain) (l : Live) (op : Op) (c : Call) (x : Answer) (p : Phase)
+pub live_follows : (d : Domain) (l : Live) (op : Op) (c : Call) (x : Answer) (p : Phase)
     → live_phase_plan d l op c (x ∷ []) p ≡ with_copy (copied_bytes (value_of x)) (live_phase_plan d l op c [] p)
 live_follows d l op c x phase.MigrateTake = sym (move_same (copied_bytes (value_of x)) l (is_running l.run) refl)
 live_follows d l op c x p = sym (undone_copied (copied_bytes (value_of x)) (live_phase_undo l op p) (live_phase_asks d l op c [] p) (live_phase_asks d l op c (x ∷ []) p) (asks_copied d l op c x p))
@@ -141,7 +141,7 @@ on_later : (d : Domain) (op : Option Op) (c : Call) (a : Answer) (answers more :
 on_later d None c a answers more = refl
 on_later d (Some op) c a answers more = plan_later d d.live op c a answers more
 
-in_later : (s : State) (c : Call) (a : Answer) (answers more : List Answer) → plan_in s c (a ∷ answers) ≡ plan_in s c (a ∷ more)
+pub in_later : (s : State) (c : Call) (a : Answer) (answers more : List Answer) → plan_in s c (a ∷ answers) ≡ plan_in s c (a ∷ more)
 in_later (state.Vacant boots) c a answers more = refl
 in_later (state.Held d) c a answers more = on_later d d.op c a answers more
 

@@ -1,3 +1,5 @@
 pub mod Following
 pub mod Keeping
 pub mod Phasing
+pub mod Writing
+pub mod Going

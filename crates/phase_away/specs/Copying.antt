@@ -1,21 +1,12 @@
 -- What a phase plans, where the copy of a guest's state comes with the answer to its first ask.
 use Rattle.std.specs.Prelude.{◌≡◌, ℕ, List, [], ◌∷◌, ◌++◌, map}
-use Rattle.domain_spec.specs.Types.{Answer, Ask, Call, State}
-use Rattle.domain_spec.specs.Types.ask
+use Rattle.domain_spec.specs.Types.{Answer, Call, State}
 use Rattle.domain_spec.specs.declared.planned.PlannedAsk.{PlannedAsk}
 use Rattle.domain_spec.specs.Asks.{value_of}
 use Rattle.domain_spec.specs.Phase.{plan_in}
 use Rattle.domain_spec.specs.PhaseAsks.{copied_bytes}
 use Rattle.ask_course.specs.Along.{Asked}
-
--- the ask by which an image is written, with this copy in it
-abbrev pub writing : List ℕ → Ask → Ask
-writing bytes (ask.WriteImage name k def ran saved) = ask.WriteImage name k def ran bytes
-writing bytes other = other
-
--- what is planned with this copy in it
-abbrev pub planned_writing : List ℕ → PlannedAsk → PlannedAsk
-planned_writing bytes p = record p { ask = writing bytes p.ask }
+pub use Rattle.ask_course.specs.Copying.{planned_writing, writing}
 
 -- a plan with this copy in it
 abbrev pub with_copy : List ℕ → List PlannedAsk → List PlannedAsk

@@ -1,3 +1,4 @@
 pub mod Copying
 pub mod PhaseAway
 pub mod PhaseLaws
+pub mod PhaseGoing

@@ -1,5 +1,6 @@
 // Laws of the definitions: each function's contract is one, and its body does nothing.
 ghost use Rattle.phase_away.specs.Copying.{PlansFollowAnswers};
+ghost use Rattle.phase_away.specs.PhaseGoing.{FirstPhaseIsAway, FirstPhaseIsDone, IsPhasedThen, PhaseStaysAway};
 ghost use Rattle.phase_away.specs.PhaseLaws.{IsPhasedAtOnce, IsPhasedEnded, IsPhasedLive, IsPhasedStarved, PhaseBegins, PhaseExitKeeps, PhaseGoesOn, PhasePlanStays};
 
 /// What a phase plans changes with an answer only by the copy that the first one may bring.
@@ -45,4 +46,25 @@ pub fn is_phased_while_live()
 /// A phase that was away, and whose boot has ended meanwhile, is done whatever it was answered.
 pub fn is_phased_after_its_boot()
     ensures { IsPhasedEnded }
+{}
+
+/// A phase that is let in is away where something is left to be asked, whichever asks found no memory.
+pub fn first_phase_is_away()
+    ensures { FirstPhaseIsAway }
+{}
+
+/// It is done where nothing is.
+pub fn first_phase_is_done()
+    ensures { FirstPhaseIsDone }
+{}
+
+/// A phase that was away is so after one more answer where something is left to be asked, whichever
+/// asks found no memory.
+pub fn phase_stays_away()
+    ensures { PhaseStaysAway }
+{}
+
+/// It is done where nothing is.
+pub fn is_phased_then()
+    ensures { IsPhasedThen }
 {}

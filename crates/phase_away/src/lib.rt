@@ -5,6 +5,7 @@
 mod laws;
 
 pub use laws::{
-    ends_of_boots_keep_phases, is_phased_after_its_boot, is_phased_at_once, is_phased_starved,
-    is_phased_while_live, phases_begin, phases_go_on, plans_follow_answers, plans_stay,
+    ends_of_boots_keep_phases, first_phase_is_away, first_phase_is_done, is_phased_after_its_boot,
+    is_phased_at_once, is_phased_starved, is_phased_then, is_phased_while_live, phase_stays_away,
+    phases_begin, phases_go_on, plans_follow_answers, plans_stay,
 };
