@@ -45,6 +45,16 @@ abbrev pub due_of : Outcome → Phase
 due_of (outcome.On p) = p
 due_of other = phase.Nothing
 
+-- the reply of an operation that is over
+abbrev pub reply_of : Outcome → Reply
+reply_of (outcome.Over r) = r
+reply_of other = reply.Ok value.Nothing
+
+-- the same of the operation that is open
+abbrev pub reply_in : Option OpenOperation → Reply
+reply_in None = reply.Ok value.Nothing
+reply_in (Some o) = reply_of o.outcome
+
 -- the Phase mark of an operation
 abbrev pub phase_mark : State → OpenOperation → Stamp → List Ask → List Answer → Mark Stamp
 phase_mark s o by asks answers =

@@ -3,12 +3,12 @@ ghost use Rattle.std.specs.Prelude.{◌≡◌, ◌^◌, ◌++◌, ◌∷◌, ◌
 ghost use Rattle.domain_spec.specs.Begin.{named_call, taken_up_state};
 ghost use Rattle.domain_spec.specs.Chapter.{first_base, next_base};
 ghost use Rattle.domain_spec.specs.Exit.{event_state, event_transitions};
-ghost use Rattle.domain_spec.specs.Fold.{at_base, job_at_exit, taken_up};
+ghost use Rattle.domain_spec.specs.Fold.{after, at_base, job_at_exit, taken_up};
 ghost use Rattle.domain_spec.specs.Legal.{IsLawful, IsLegal};
 ghost use Rattle.domain_spec.specs.declared.mark.Mark.TheVariants as mark;
 ghost use Rattle.domain_tidy.specs.Guests.{HasOwnGuest};
 ghost use Rattle.domain_tidy.specs.Tidy.{IsTidy};
-ghost use Rattle.domain_history.specs.Closing.{CanDo, CanPhase, done_in, phased_in, told_in};
+ghost use Rattle.domain_history.specs.Closing.{CanDo, CanPhase, done_in, phased_in, reply_in, told_in};
 ghost use Rattle.domain_history.specs.Numbered.{all_numbered};
 ghost use Rattle.domain_history.specs.Standing.{in_force};
 ghost use Rattle.domain_state.specs.Beginnings.{HasNumber};
@@ -21,12 +21,13 @@ use domain_driver::{CallParts, PhaseParts};
 use domain_spec::{HeldJobs, Mark, Outcome};
 use domain_state::{begin, due_phase, end_operation, follow_event, opened_state, take_up};
 use history_spec::Stamp;
+use operation_calls::named_call;
 use std::alloc::Global;
 use std::marker::Model;
 use std::mem;
 use virt_types::{
     AnswerList, AskList, Call, DomainDef, EndReason, GuestEvent, Job, ListOf, NoMemory,
-    RefusalCode, Reply, RoomyList, State, Transition, TransitionList, TryCopy, Who, both,
+    RefusalCode, Reply, RoomyList, State, Transition, TransitionList, TryCopy, Value, Who, both,
 };
 
 /// The history of a chapter, with what is in force after it.
@@ -71,6 +72,17 @@ fn set(operation: &mut Option<Underway>, new: Option<Underway>)
     ensures { operation.new ≡ new }
 {
     drop(mem::replace(operation, new));
+}
+
+// The reply of the operation that is over, which is let go of.
+fn take_reply(operation: &mut Option<Underway>) -> Reply
+    ensures reply { result ≡ reply_in operation.old }
+    ensures none { operation.new ≡ None }
+{
+    match operation.take() {
+        None => Reply::Ok(Value::Nothing),
+        Some(operation) => operation.into_reply(),
+    }
 }
 
 // The operation that rests goes on for this call, which is open no more.
@@ -119,6 +131,18 @@ fn again(operation: &Option<Underway>) -> Result<Option<Underway>, NoMemory>
             Err(e) => Err(e),
         },
     }
+}
+
+// A call as its operation keeps it, and two copies for its marks.
+fn named_copies(alloc: Global, state: &State, call: &Call) -> Result<(Call, (Call, Call)), NoMemory>
+    ensures named { IfOk result (λ it. it.0 ≡ named_call state.now call.now) }
+    ensures in_admit { IfOk result (λ it. it.1.0 ≡ call.now) }
+    ensures in_start { IfOk result (λ it. it.1.1 ≡ call.now) }
+{
+    both(
+        named_call(alloc, state, call),
+        both(call.copy(), call.copy()),
+    )
 }
 
 fn empty(alloc: Global, room: usize) -> Result<RoomyList<Mark<Stamp>>, NoMemory>
@@ -373,6 +397,47 @@ impl Chapter {
         Ok(())
     }
 
+    /// A call is let in and begins its operation, in one: its Admit and its Start are left, each with a
+    /// stamp of its own of one number. Where there is no memory nothing changes.
+    pub fn begin(
+        &mut self,
+        alloc: Global,
+        first: Stamp,
+        by: Stamp,
+        who: Who,
+        job: Job,
+        call: &Call,
+        boot: Option<u64>,
+    ) -> Result<(), NoMemory>
+        requires room { 2 ≤ self.old.spare }
+        requires lawful { IsLawful (in_force self.old.history.base self.old.history.marks) (mark.Admit first.number who job call.now boot) }
+        requires starts { IsLawful (after (in_force self.old.history.base self.old.history.marks) (mark.Admit first.number who job call.now boot)) (mark.Start by.number who call.now boot) }
+        ensures history { OnOk result (self.new.history ≡ record self.old.history { marks = self.old.history.marks ++ mark.Admit first who job call.now boot ∷ mark.Start by who call.now boot ∷ [] }) }
+        ensures spare { OnOk result (self.new.spare + 2 ≡ self.old.spare) }
+        ensures err { OnErr result (self.new ≡ self.old) }
+    {
+        let (named, (in_admit, in_start)) = named_copies(alloc, &self.state, call)?;
+        begin(alloc, &mut self.state, who, call)?;
+        close(&mut self.job);
+        let outcome = Outcome::On(due_phase(&self.state));
+        let begun = Underway::begun(by.again(), who, named, live_boot(&self.state), outcome);
+        set(&mut self.operation, Some(begun));
+        self.marks.push(Mark::Admit {
+            number: first,
+            who,
+            job,
+            call: in_admit,
+            boot,
+        });
+        self.marks.push(Mark::Start {
+            number: by,
+            who,
+            call: in_start,
+            boot,
+        });
+        Ok(())
+    }
+
     /// The open call takes up the operation that rests.
     pub fn take_up(&mut self, by: Stamp, who: Who, call: Call, in_mark: Call)
         requires room { 0 < self.old.spare }
@@ -405,6 +470,22 @@ impl Chapter {
     {
         end_operation(&mut self.state);
         set(&mut self.operation, None);
+        self.marks.push(Mark::End {
+            number: by,
+            who,
+            reply,
+        });
+    }
+
+    /// The operation, which is over, ends with the reply to which its last phase led.
+    pub fn end_over(&mut self, by: Stamp, who: Who)
+        requires room { 0 < self.old.spare }
+        requires lawful { IsLawful (in_force self.old.history.base self.old.history.marks) (mark.End by.number who (reply_in (in_force self.old.history.base self.old.history.marks).operation)) }
+        ensures history { self.new.history ≡ record self.old.history { marks = self.old.history.marks ++ mark.End by who (reply_in (in_force self.old.history.base self.old.history.marks).operation) ∷ [] } }
+        ensures spare { self.new.spare + 1 ≡ self.old.spare }
+    {
+        end_operation(&mut self.state);
+        let reply = take_reply(&mut self.operation);
         self.marks.push(Mark::End {
             number: by,
             who,

@@ -1,6 +1,7 @@
 // An operation that is under way in a cell, and a call that was let in.
 ghost use Rattle.std.specs.Prelude.{◌≡◌, IfOk, None, Some, if◌then◌else◌};
 ghost use Rattle.domain_spec.specs.Fold.{carries, job_at_exit, taken_up};
+ghost use Rattle.domain_history.specs.Closing.{reply_of};
 
 use domain_spec::{OpenOperation, Outcome};
 use domain_state::phase_taken_up;
@@ -8,7 +9,7 @@ use history_spec::Stamp;
 use std::marker::Model;
 use std::mem;
 use std::snapshot::Snapshot;
-use virt_types::{Call, Job, NoMemory, State, TryCopy, Who, both};
+use virt_types::{Call, Job, NoMemory, Phase, Reply, State, TryCopy, Value, Who, both};
 
 /// An operation that is under way. Contracts see it with the number of its pass; the number in
 /// `shown` says nothing.
@@ -100,6 +101,17 @@ impl Underway {
             self.shown.boot,
             outcome,
         ))
+    }
+
+    /// The reply of an operation that is over, without the rest.
+    pub fn into_reply(self) -> Reply
+        ensures { result ≡ reply_of self.outcome }
+    {
+        let mut operation = self;
+        match mem::replace(&mut operation.shown.outcome, Outcome::On(Phase::Nothing)) {
+            Outcome::Over(reply) => reply,
+            _ => Reply::Ok(Value::Nothing),
+        }
     }
 
     /// A phase led to this.
