@@ -175,7 +175,7 @@ tells bytes is =
     )
 
 -- a number that has a word
-word_small : (n m : ℕ) → n ≡ m → m ≤ 0xffffffff → word n ≡ to_be_bytes w32 m
+pub word_small : (n m : ℕ) → n ≡ m → m ≤ 0xffffffff → word n ≡ to_be_bytes w32 m
 unfolding word
 word_small n m same small =
     let e : min n 0xffffffff ≡ m = omega (arith, same, small) in
