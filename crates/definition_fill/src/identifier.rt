@@ -26,7 +26,7 @@ fn next_uuid<R: Random>(random: &mut R) -> Uuid
 }
 
 /// The identifier that is there, or a new one.
-pub(crate) fn uuid_or_new<R: Random>(uuid: Option<Uuid>, random: &mut R) -> Option<Uuid>
+pub fn uuid_or_new<R: Random>(uuid: Option<Uuid>, random: &mut R) -> Option<Uuid>
     ensures { IsMadeOfDrawn (λ words. spec.IsUuidFilled words uuid result)
         (R.drawn random.old) (R.drawn random.new) }
 {

@@ -8,3 +8,4 @@ mod mac;
 
 pub use device::fill_device;
 pub use domain::fill_domain;
+pub use identifier::uuid_or_new;

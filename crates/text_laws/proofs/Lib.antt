@@ -1,5 +1,5 @@
-mod Parts
-mod Allowed
+pub mod Parts
+pub mod Allowed
 mod Values
 mod Asides
 mod Trimmed
@@ -11,7 +11,7 @@ pub mod Macs
 mod Rows
 mod Interfaces
 mod Devices
-mod Figures
+pub mod Figures
 mod Segments
 mod DomainElements
 mod DomainValues

@@ -1,0 +1,3 @@
+mod PoolAgain
+mod Reading
+mod VolumeAgain

@@ -1,0 +1,3 @@
+pub mod PoolText
+pub mod VolumeText
+pub mod ReadsAs

@@ -1,0 +1,23 @@
+// What is printed of pools and volumes reads back.
+ghost use Rattle.virt_types.specs.declared.storage_def.PoolDef.{PoolDef as ThePool};
+ghost use Rattle.virt_types.specs.declared.storage_def.VolDef.{VolDef as TheVolume};
+ghost use Rattle.text_spec.specs.Written.{written};
+ghost use Rattle.storage_xml.specs.PoolText.{pool_tree};
+ghost use Rattle.storage_xml.specs.ReadsAs.{IsSoundPool, IsSoundVolume, ReadsAsPool, ReadsAsVolume};
+ghost use Rattle.storage_xml.specs.VolumeText.{volume_tree};
+
+use text_spec::written_reads_back;
+
+/// The text that is printed of a pool reads as that pool.
+pub fn printed_pool_reads_back()
+    ensures { (d : ThePool) → IsSoundPool d → ReadsAsPool (written (pool_tree d)) d }
+{
+    written_reads_back();
+}
+
+/// The text that is printed of a volume reads as that volume.
+pub fn printed_volume_reads_back()
+    ensures { (d : TheVolume) → IsSoundVolume d → ReadsAsVolume (written (volume_tree d)) d }
+{
+    written_reads_back();
+}

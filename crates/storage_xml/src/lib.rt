@@ -1,0 +1,15 @@
+//! Storage pools and volumes as texts: read, filled in, and printed.
+#![tactic(auto)]
+
+mod laws;
+mod pool;
+mod pool_tree;
+#[cfg(test)]
+mod tests;
+mod volume;
+mod volume_tree;
+
+pub use laws::{printed_pool_reads_back, printed_volume_reads_back};
+pub use pool::{fill, print, read};
+pub use text_spec::{DefFault, DefKind};
+pub use volume::{print_volume, read_volume};
