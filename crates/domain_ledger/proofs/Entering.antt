@@ -1,8 +1,7 @@
 -- A call that is let in.
-use Rattle.std.proofs.Common.{◌≡◌, ℕ, [], ◌∷◌, ◌++◌, List, None, Some, Option, refl, sym, ap, ◌∙◌, subst}
+use Rattle.std.proofs.Common.{◌≡◌, ℕ, [], ◌∷◌, ◌++◌, None, Some, Option, refl, sym, ap, ◌∙◌, subst}
 use Rattle.history_spec.specs.declared.stamp.Stamp.{Stamp}
 use Rattle.domain_spec.specs.Types.{Ask, Call, Job, Who}
-use Rattle.domain_spec.specs.declared.mark.Mark.{Mark}
 use Rattle.domain_spec.specs.declared.mark.Mark.TheVariants as mark
 use Rattle.domain_spec.specs.declared.standing.Standing.{Standing}
 use Rattle.domain_spec.specs.Call.{begins, job_of, takes_up}
@@ -11,13 +10,13 @@ use Rattle.domain_spec.specs.Legal.{IsLawful}
 use Rattle.core_rules.specs.declared.next.Next.TheVariants as next
 use Rattle.ask_course.specs.Along.{Asked}
 use Rattle.ask_course.specs.Starving.{AreAsks, next_in, starved}
-use Rattle.call_away.specs.Going.{first_course, let_in}
+use Rattle.call_away.specs.Going.{first_course}
 use Rattle.domain_history.specs.Standing.{HistoryWithRoom}
 use Rattle.domain_ledger.specs.Away.{IsOut}
-use Rattle.domain_ledger.specs.Ledger.{Chaptered, admitted, with_marks}
+use Rattle.domain_ledger.specs.Ledger.{admitted, with_marks}
 use Rattle.domain_ledger.specs.Turn.{CanGoOn, Enters, IsReady, TurnsTo, force_in, shown}
-use Rattle.domain_ledger.specs.declared.away.Away.{Away}
 use Rattle.domain_ledger.specs.declared.away.Ready.{Ready}
+use Rattle.domain_ledger.specs.declared.out.Out.TheVariants as gone
 use Rattle.domain_ledger.specs.declared.turns.Turn.{Turn}
 use Rattle.domain_ledger.proofs.Histories.{first_goes_on, first_is_kept, force_admitted, shown_more, turns_to}
 
@@ -68,10 +67,10 @@ entered_can old mid by again who wanted c boot r h =
 entered_out :
     (old mid : HistoryWithRoom) (n : ℕ) (who : Who) (c : Call) (boot : Option ℕ) (r : Ready) → Entered old mid n who c boot r
     → (count : ℕ) (x : Ask) → AreAsks count r.away.course → next_in (starved count r.away.course) ≡ next.Ask x
-    → IsOut (force_in mid) (force_in mid).job (Some (record r.away { course = starved count r.away.course }))
+    → IsOut (force_in mid) (force_in mid).job (Some (gone.Call (record r.away { course = starved count r.away.course })))
 entered_out old mid n who c boot r h count x asks waits =
     let rooms = h.ready.rooms in
-    subst (λ (s : Standing). IsOut s s.job (Some (record r.away { course = starved count r.away.course }))) (sym h.there)
+    subst (λ (s : Standing). IsOut s s.job (Some (gone.Call (record r.away { course = starved count r.away.course })))) (sym h.there)
     (first_is_kept (force_in old) n who c boot (record r.away { course = starved count r.away.course }) count x h.begins_none h.takes_none h.lawful h.ready.parts
     (record { told_empty = rooms.told_empty; told_room = rooms.told_room; end_empty = rooms.end_empty; end_room = rooms.end_room })
     (ap (λ (a : Asked). starved count a) h.ready.course)

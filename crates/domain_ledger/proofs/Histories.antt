@@ -1,7 +1,7 @@
 -- A chapter's history as the ledger shows it, with the numbers of passes, and a call in it.
 use Rattle.std.proofs.Common.{◌≡◌, ℕ, List, [], ◌∷◌, ◌++◌, false, true, Option, None, Some, refl, sym, ap, ◌∙◌, subst}
 use Rattle.history_spec.specs.declared.stamp.Stamp.{Stamp}
-use Rattle.domain_spec.specs.Types.{Answer, Ask, Call, Job, Reply, State, Who}
+use Rattle.domain_spec.specs.Types.{Answer, Ask, Call, Job, Reply, Who}
 use Rattle.domain_spec.specs.declared.mark.Mark.{Mark}
 use Rattle.domain_spec.specs.declared.mark.Mark.TheVariants as mark
 use Rattle.domain_spec.specs.declared.open.OpenJob.{OpenJob}
@@ -19,7 +19,7 @@ use Rattle.core_rules.specs.Next.{is_ask}
 use Rattle.ask_course.specs.Along.{Asked, answered}
 use Rattle.ask_course.specs.Starving.{AreAsks, next_in, starved}
 use Rattle.call_away.specs.AwayLaws.{made}
-use Rattle.call_away.specs.Away.{IsAway, IsUnsent}
+use Rattle.call_away.specs.Away.{IsAway}
 use Rattle.call_away.specs.Going.{IsAnsweredLive, IsLetIn, first_course, let_in}
 use Rattle.call_away.proofs.Finishing.{is_done_ended}
 use Rattle.call_away.proofs.Going.{first_is_away, first_is_done, is_done_then, stays_away}
@@ -31,12 +31,13 @@ use Rattle.domain_history.specs.Numbered.{all_numbered, numbered}
 use Rattle.domain_history.specs.Standing.{HistoryWithRoom, in_force}
 use Rattle.domain_history.proofs.Standing.{one_more}
 use Rattle.domain_spec.proofs.LawProofs.{standing-append}
-use Rattle.domain_ledger.specs.Away.{HasRooms, IsKept, IsOut}
-use Rattle.domain_ledger.specs.Ledger.{CanAnswer, Chaptered, IsClosed, IsDoneLawful, IsTold, MayAnswer, admitted, closing, done_by, loss, standing_in, with_marks}
-use Rattle.domain_ledger.specs.Turn.{CanGoOn, LeadsTo, StaysAway, TurnsTo, force_in, is_over, shown}
+use Rattle.domain_ledger.specs.Away.{HasRooms, IsOut}
+use Rattle.domain_ledger.specs.Ledger.{Chaptered, IsClosed, IsDoneLawful, IsTold, closing, done_by, loss, standing_in, with_marks}
+use Rattle.domain_ledger.specs.Turn.{CanGoOn, LeadsTo, MayAnswerCall, StaysAway, TurnsTo, force_in, is_over, shown}
 use Rattle.domain_ledger.specs.declared.turns.Turn.{Turn}
 use Rattle.domain_ledger.specs.declared.turns.Turn.TheVariants as turn
 use Rattle.domain_ledger.specs.declared.away.Away.{Away}
+use Rattle.domain_ledger.specs.declared.out.Out.TheVariants as gone
 
 -- the marks with their numbers
 
@@ -116,7 +117,7 @@ pub first_is_kept :
     (s : Standing) (n : ℕ) (who : Who) (c : Call) (boot : Option ℕ) (w : Away) (count : ℕ) (x : Ask)
     → begins c ≡ None → takes_up c ≡ None → IsLawful s (mark.Admit n who (job_of c) c boot) → FitsCall w.parts s.state c boot → HasRooms w → w.course ≡ starved count (first_course s.state c boot)
     → AreAsks count (first_course s.state c boot) → next_in (starved count (first_course s.state c boot)) ≡ next.Ask x
-    → IsOut (after s (mark.Admit n who (job_of c) c boot)) (Some (let_in n who c boot)) (Some w)
+    → IsOut (after s (mark.Admit n who (job_of c) c boot)) (Some (let_in n who c boot)) (Some (gone.Call w))
 first_is_kept s n who c boot w count x none takes lawful fits rooms is asks waits =
     let letin : IsLetIn s.state c boot = record { begins_none = none; takes_none = takes; carried = lawful.in_order.carried } in
     record {
@@ -137,7 +138,7 @@ closed_job : (s : Standing) (j : Option OpenJob) (parts : CallParts) (by : Stamp
 closed_job s None parts by a h = absurd h
 closed_job s (Some j) parts by a h = loss_job (after s (done_by s j by.number a)) (lost_boot (seq s.state j.call j.boot a.answers).state j.boot a.answers) refl
 
-in_more : (b : Base) (marks more : List (Mark Stamp)) → in_force b (marks ++ more) ≡ standing (in_force b marks) (all_numbered more)
+pub in_more : (b : Base) (marks more : List (Mark Stamp)) → in_force b (marks ++ more) ≡ standing (in_force b marks) (all_numbered more)
 unfolding in_force
 in_more b marks more = ap (λ (ms : List (Mark ℕ)). standing (at_base b) ms) (numbered_append marks more) ∙ standing-append (at_base b) (all_numbered marks) (all_numbered more)
 
@@ -184,7 +185,7 @@ closes old new h parts by n a b r can e told is numbered same = (
 pub turns_to :
     (old new : HistoryWithRoom) (h : Chaptered) (by : Stamp) (n : ℕ) (w : Away) (t : Turn) (b : ℕ → Asked)
     → CanGoOn (force_in old) w.parts by w.course
-    → ((count : ℕ) (x : Ask) → AreAsks count w.course → next_in (starved count w.course) ≡ next.Ask x → IsOut (force_in old) (force_in old).job (Some (record w { course = starved count w.course })))
+    → ((count : ℕ) (x : Ask) → AreAsks count w.course → next_in (starved count w.course) ≡ next.Ask x → IsOut (force_in old) (force_in old).job (Some (gone.Call (record w { course = starved count w.course }))))
     → shown old ≡ h → by.number ≡ n → ((count : ℕ) → starved count w.course ≡ b count)
     → TurnsTo by w old new t → (count : ℕ) × LeadsTo h n (b count) new t
 turns_to old new h by n w (turn.Away v x) b can out is numbered same t =
@@ -194,8 +195,8 @@ turns_to old new h by n w (turn.Away v x) b can out is numbered same t =
         ap (λ (u : Away). u.course) t.2 ∙ same count,
         ap next_in (sym (same count)) ∙ t.3,
         ap shown t.4 ∙ is,
-        subst (λ (c : HistoryWithRoom). IsOut (force_in c) (force_in c).job (Some v)) (sym t.4)
-            (subst (λ (u : Away). IsOut (force_in old) (force_in old).job (Some u)) (sym t.2) (out count x t.1 t.3)),
+        subst (λ (c : HistoryWithRoom). IsOut (force_in c) (force_in c).job (Some (gone.Call v))) (sym t.4)
+            (subst (λ (u : Away). IsOut (force_in old) (force_in old).job (Some (gone.Call u))) (sym t.2) (out count x t.1 t.3)),
       ),
     )
 turns_to old new h by n w (turn.Done r) b can out is numbered same t =
@@ -203,21 +204,21 @@ turns_to old new h by n w (turn.Done r) b can out is numbered same t =
 
 -- a call that was away is answered
 
-pub waits : (s : Standing) (j : Option OpenJob) (w : Away) → IsOut s j (Some w) → is_ask (next_in w.course) ≡ true
+pub waits : (s : Standing) (j : Option OpenJob) (w : Away) → IsOut s j (Some (gone.Call w)) → is_ask (next_in w.course) ≡ true
 waits s None w h = absurd h
 waits s (Some j) w h = h.away.waits
 
-pub rooms_of : (s : Standing) (j : Option OpenJob) (w : Away) → IsOut s j (Some w) → HasRooms w
+pub rooms_of : (s : Standing) (j : Option OpenJob) (w : Away) → IsOut s j (Some (gone.Call w)) → HasRooms w
 rooms_of s None w h = absurd h
 rooms_of s (Some j) w h = h.rooms
 
-no_loss : (s : Standing) (m : Mark ℕ) → s.lost ≡ None → MarksLoss s.lost m
+pub no_loss : (s : Standing) (m : Mark ℕ) → s.lost ≡ None → MarksLoss s.lost m
 no_loss s m e = subst (λ (o : Option ℕ). MarksLoss o m) (sym e) tt
 
 is_open : (j : OpenJob) (n : ℕ) → n ≡ j.number → j.job ≡ job_of j.call → IsOpen j n j.who j.call j.boot
 is_open j n e own = record { numbered = e; caller = refl; same_call = refl; same_boot = refl; own_job = own }
 
-ended_by : (s : Standing) (j : Option OpenJob) (w : Away) (by : Stamp) (x : Answer) → s.job ≡ j → s.lost ≡ None → IsOut s j (Some w) → MayAnswer s j (Some w.course) by.number x → is_over s j ≡ true
+ended_by : (s : Standing) (j : Option OpenJob) (w : Away) (by : Stamp) (x : Answer) → s.job ≡ j → s.lost ≡ None → IsOut s j (Some (gone.Call w)) → MayAnswerCall s j w.course by.number x → is_over s j ≡ true
     → CanDo s j w.parts by (made (answered w.course x)) (answered w.course x).answers
 ended_by s None w by x is lost out may over = absurd out
 ended_by s (Some j) w by x is lost out may over = (
@@ -230,14 +231,14 @@ ended_by s (Some j) w by x is lost out may over = (
   },
 )
 
-pub can_end : (s : Standing) (w : Away) (by : Stamp) (x : Answer) → s.lost ≡ None → IsOut s s.job (Some w) → MayAnswer s s.job (Some w.course) by.number x → is_over s s.job ≡ true
+pub can_end : (s : Standing) (w : Away) (by : Stamp) (x : Answer) → s.lost ≡ None → IsOut s s.job (Some (gone.Call w)) → MayAnswerCall s s.job w.course by.number x → is_over s s.job ≡ true
     → CanDo s s.job w.parts by (made (answered w.course x)) (answered w.course x).answers
 can_end s w by x lost out may over = ended_by s s.job w by x refl lost out may over
 
-live_by : (s : Standing) (j : OpenJob) (w : Away) (n : ℕ) (x : Answer) → IsOut s (Some j) (Some w) → MayAnswer s (Some j) (Some w.course) n x → is_over s (Some j) ≡ false → IsAnsweredLive s.state s.operation j w.course x
+live_by : (s : Standing) (j : OpenJob) (w : Away) (n : ℕ) (x : Answer) → IsOut s (Some j) (Some (gone.Call w)) → MayAnswerCall s (Some j) w.course n x → is_over s (Some j) ≡ false → IsAnsweredLive s.state s.operation j w.course x
 live_by s j w n x out may over = record { away = out.away; live = over; not_ended = may.1.ended_first over; unsent = may.1.unsent }
 
-then_by : (s : Standing) (j : Option OpenJob) (w : Away) (by : Stamp) (x : Answer) (count : ℕ) → s.job ≡ j → s.lost ≡ None → IsOut s j (Some w) → MayAnswer s j (Some w.course) by.number x → is_over s j ≡ false
+then_by : (s : Standing) (j : Option OpenJob) (w : Away) (by : Stamp) (x : Answer) (count : ℕ) → s.job ≡ j → s.lost ≡ None → IsOut s j (Some (gone.Call w)) → MayAnswerCall s j w.course by.number x → is_over s j ≡ false
     → AreAsks count (answered w.course x) → next_in (starved count (answered w.course x)) ≡ next.Finish
     → CanDo s j w.parts by (made (starved count (answered w.course x))) (starved count (answered w.course x)).answers
 then_by s None w by x count is lost out may over asks through = absurd out
@@ -252,13 +253,13 @@ then_by s (Some j) w by x count is lost out may over asks through =
       },
     )
 
-pub can_go_on : (s : Standing) (w : Away) (by : Stamp) (x : Answer) → s.lost ≡ None → IsOut s s.job (Some w) → MayAnswer s s.job (Some w.course) by.number x → is_over s s.job ≡ false
+pub can_go_on : (s : Standing) (w : Away) (by : Stamp) (x : Answer) → s.lost ≡ None → IsOut s s.job (Some (gone.Call w)) → MayAnswerCall s s.job w.course by.number x → is_over s s.job ≡ false
     → CanGoOn s w.parts by (answered w.course x)
 can_go_on s w by x lost out may over = λ count asks through. then_by s s.job w by x count refl lost out may over asks through
 
-out_by : (s : Standing) (j : Option OpenJob) (w : Away) (n : ℕ) (x : Answer) (count : ℕ) (y : Ask) → IsOut s j (Some w) → MayAnswer s j (Some w.course) n x → is_over s j ≡ false
+out_by : (s : Standing) (j : Option OpenJob) (w : Away) (n : ℕ) (x : Answer) (count : ℕ) (y : Ask) → IsOut s j (Some (gone.Call w)) → MayAnswerCall s j w.course n x → is_over s j ≡ false
     → AreAsks count (answered w.course x) → next_in (starved count (answered w.course x)) ≡ next.Ask y
-    → IsOut s j (Some (record w { course = starved count (answered w.course x) }))
+    → IsOut s j (Some (gone.Call (record w { course = starved count (answered w.course x) })))
 out_by s None w n x count y out may over asks waits = absurd out
 out_by s (Some j) w n x count y out may over asks waits = record {
   away = stays_away s.state s.operation j w.course x count (live_by s j w n x out may over) asks (asks_is (next_in (starved count (answered w.course x))) y waits);
@@ -266,9 +267,9 @@ out_by s (Some j) w n x count y out may over asks waits = record {
   rooms = record { told_empty = out.rooms.told_empty; told_room = out.rooms.told_room; end_empty = out.rooms.end_empty; end_room = out.rooms.end_room };
 }
 
-pub stays_out : (s : Standing) (w : Away) (n : ℕ) (x : Answer) → IsOut s s.job (Some w) → MayAnswer s s.job (Some w.course) n x → is_over s s.job ≡ false
+pub stays_out : (s : Standing) (w : Away) (n : ℕ) (x : Answer) → IsOut s s.job (Some (gone.Call w)) → MayAnswerCall s s.job w.course n x → is_over s s.job ≡ false
     → (count : ℕ) (y : Ask) → AreAsks count (answered w.course x) → next_in (starved count (answered w.course x)) ≡ next.Ask y
-    → IsOut s s.job (Some (record w { course = starved count (answered w.course x) }))
+    → IsOut s s.job (Some (gone.Call (record w { course = starved count (answered w.course x) })))
 stays_out s w n x out may over count y asks waits = out_by s s.job w n x count y out may over asks waits
 
 -- a call that asks on takes no room

@@ -1,5 +1,10 @@
-pub mod Histories
+pub mod Beginning
+pub mod LastReply
 pub mod Entering
+pub mod Histories
 pub mod Ledgers
+pub mod PhaseAnswers
+pub mod PhaseEntering
+pub mod PhaseHistories
 pub mod Rotating
 pub mod Told

@@ -10,16 +10,16 @@ use Rattle.domain_history.specs.Standing.{HistoryWithRoom}
 use Rattle.domain_ledger.specs.Away.{IsOut}
 use Rattle.domain_ledger.specs.Ledger.{now_in}
 use Rattle.domain_ledger.specs.Turn.{force_in, shown}
-use Rattle.domain_ledger.specs.declared.away.Away.{Away}
+use Rattle.domain_ledger.specs.declared.out.Out.{Out}
 use Rattle.domain_ledger.proofs.Histories.{in_shown}
 use Rattle.domain_ledger.proofs.Ledgers.{kept_begun, none_away, seen}
 
-pub kept_rotate : {A E : Type 0} (old new : HistoryWithRoom) (w : Option Away) (number : ℕ) (b : Base) (r : Result A E) → (force_in old).job ≡ None → IsOut (force_in old) (force_in old).job w
+pub kept_rotate : {A E : Type 0} (old new : HistoryWithRoom) (w : Option Out) (number : ℕ) (b : Base) (r : Result A E) → (force_in old).job ≡ None → IsOut (force_in old) (force_in old).job w
     → OnOk r (new.history ≡ record { chapter = number; base = b; marks = [] }) → OnErr r (new ≡ old) → IsOut (force_in new) (force_in new).job w
 kept_rotate old new w number b (Ok x) free h ok err = kept_begun new number b w (none_away old w free h) ok
 kept_rotate old new w number b (Err e) free h ok err = subst (λ (c : HistoryWithRoom). IsOut (force_in c) (force_in c).job w) (sym err) h
 
-pub rotated : {A E : Type 0} (old new : HistoryWithRoom) (w : Option Away) (rs : List Registration) (r : Result A E)
+pub rotated : {A E : Type 0} (old new : HistoryWithRoom) (w : Option Out) (rs : List Registration) (r : Result A E)
     → OnOk r (new.history ≡ record { chapter = old.history.chapter + 1; base = next_base (force_in old) rs; marks = [] })
     → OnOk r (shown new ≡ record { chapter = (seen old w).history.chapter + 1; base = next_base (now_in (seen old w)) rs; marks = [] })
 rotated old new w rs (Ok x) ok =

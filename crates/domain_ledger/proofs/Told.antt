@@ -1,15 +1,18 @@
 -- What the last mark tells, and what contracts see of a call that is away.
-use Rattle.std.proofs.Common.{◌≡◌, ℕ, suc, ◌+◌, ◌-◌, List, [], ◌∷◌, length, slice_get, Option, None, Some, option_map, refl, sym, ap, ◌∙◌, arith}
+use Rattle.std.proofs.Common.{◌≡◌, ℕ, inl, inr, suc, ◌-◌, List, [], ◌∷◌, length, slice_get, Option, None, Some, option_map, refl, ap, ◌∙◌, arith}
 use Rattle.history_spec.specs.declared.stamp.Stamp.{Stamp}
 use Rattle.domain_spec.specs.declared.mark.Mark.{Mark}
 use Rattle.domain_spec.specs.declared.mark.Mark.TheVariants as mark
 use Rattle.domain_spec.specs.declared.open.OpenJob.{OpenJob}
+use Rattle.domain_spec.specs.declared.open.OpenOperation.{OpenOperation}
 use Rattle.domain_spec.specs.declared.standing.Standing.{Standing}
 use Rattle.domain_spec.specs.Fold.{transitions_of}
 use Rattle.domain_history.specs.Numbered.{all_numbered, numbered}
-use Rattle.domain_ledger.specs.Away.{IsOut, WaitsWith}
+use Rattle.domain_ledger.specs.Away.{IsOut, IsPhaseOut, IsPhaseWaiting, WaitsWith, course_out}
 use Rattle.domain_ledger.specs.Told.{told_last, told_of}
-use Rattle.domain_ledger.specs.declared.away.Away.{Away}
+use Rattle.domain_ledger.specs.declared.out.Out.{Out}
+use Rattle.domain_ledger.specs.declared.out.Out.TheVariants as gone
+use Rattle.domain_ledger.specs.declared.phase_out.PhaseOut.{PhaseOut}
 
 same_told : (m : Mark Stamp) → transitions_of m ≡ transitions_of (numbered m)
 same_told (mark.Done by who c boot asks answers r events) = refl
@@ -25,8 +28,13 @@ told_at (m ∷ k ∷ ms) =
     let e : length (m ∷ k ∷ ms) - 1 ≡ suc (length (k ∷ ms) - 1) = omega arith in
     ap (λ (n : ℕ). told_of (slice_get (m ∷ k ∷ ms) n)) e ∙ told_at (k ∷ ms)
 
-pub waits_with : (s : Standing) (j : Option OpenJob) (w : Option Away) → IsOut s j w → WaitsWith s j (option_map (λ v. v.course) w)
+phase_waits : (s : Standing) (o : Option OpenOperation) (j : OpenJob) (w : PhaseOut) → IsPhaseOut s o j w → IsPhaseWaiting s.state o j w.course
+phase_waits s None j w h = h
+phase_waits s (Some o) j w h = h.away
+
+pub waits_with : (s : Standing) (j : Option OpenJob) (w : Option Out) → IsOut s j w → WaitsWith s j (option_map course_out w)
 waits_with s None None h = tt
 waits_with s None (Some w) h = absurd h
 waits_with s (Some j) None h = absurd h
-waits_with s (Some j) (Some w) h = h.away
+waits_with s (Some j) (Some (gone.Call w)) h = inl h.away
+waits_with s (Some j) (Some (gone.Phase w)) h = inr (phase_waits s s.operation j w h)

@@ -1,30 +1,40 @@
 -- A domain's history with the call that is away, as contracts see it.
 use Rattle.std.specs.Prelude.{◌≡◌, ℕ, List, [], ◌∷◌, ◌++◌, false, Option, None, Some}
 use Rattle.history_spec.specs.declared.history.History.{History}
-use Rattle.domain_spec.specs.Types.{Answer, Ask, Call, Reply, Who}
+use Rattle.domain_spec.specs.Types.{Answer, Ask, Call, Job, Reply, Who}
+use Rattle.domain_spec.specs.Types.job
 use Rattle.domain_spec.specs.declared.mark.Mark.{Mark}
 use Rattle.domain_spec.specs.declared.mark.Mark.TheVariants as mark
 use Rattle.domain_spec.specs.declared.open.OpenJob.{OpenJob}
+use Rattle.domain_spec.specs.declared.open.OpenOperation.{OpenOperation}
 use Rattle.domain_spec.specs.declared.standing.Base.{Base}
 use Rattle.domain_spec.specs.declared.standing.Standing.{Standing}
+use Rattle.domain_spec.specs.declared.step.Outcome.{Outcome}
+use Rattle.domain_spec.specs.declared.step.Outcome.TheVariants as outcome
 use Rattle.domain_spec.specs.Asks.{is_ended_answer}
 use Rattle.domain_spec.specs.Call.{job_of}
 use Rattle.domain_spec.specs.Exit.{exit_transitions}
 use Rattle.domain_spec.specs.Fold.{at_base, lost_boot, standing}
 use Rattle.domain_spec.specs.Legal.{IsLawful}
+use Rattle.domain_spec.specs.Phase.{phase_of}
+use Rattle.domain_spec.specs.Reading.{carries_ended}
 use Rattle.domain_spec.specs.Sequential.{meets_ended, seq}
 use Rattle.domain_spec.specs.TakeUp.{step_at}
 use Rattle.domain_spec.specs.Types.reason
 use Rattle.core_rules.specs.declared.next.Next.TheVariants as next
 use Rattle.ask_course.specs.Along.{Asked, answered}
-use Rattle.ask_course.specs.Starving.{AreAsks, next_in, starved}
+use Rattle.ask_course.specs.Starving.{next_in, starved}
 use Rattle.call_away.specs.Away.{IsUnsent}
 use Rattle.call_away.specs.AwayLaws.{made}
 use Rattle.call_away.specs.Going.{first_course}
+use Rattle.phase_away.specs.Copying.{with_answer}
+use Rattle.domain_history.specs.Closing.{due_of}
 use Rattle.domain_ledger.specs.declared.ledger.Back.{Back}
 use Rattle.domain_ledger.specs.declared.ledger.Back.TheVariants as back
 use Rattle.domain_ledger.specs.declared.ledger.Entry.{Entry}
 use Rattle.domain_ledger.specs.declared.ledger.Entry.TheVariants as entry
+use Rattle.domain_ledger.specs.declared.phase_out.Step.{Step}
+use Rattle.domain_ledger.specs.declared.phase_out.Step.TheVariants as step
 
 -- a history of a domain, with the numbers of passes
 abbrev pub Chaptered : Type 0
@@ -83,6 +93,39 @@ pub record IsClosed (h : Chaptered) (n : ℕ) (a : Asked) (left : Chaptered) (r 
   pub lawful : IsDoneLawful (standing_in h) (standing_in h).job n a
   pub told : IsTold (standing_in h) (standing_in h).job a r
 
+-- the Phase of this operation, with what its course asked and was answered
+abbrev pub phased_by : Standing → OpenOperation → ℕ → Asked → Mark ℕ
+phased_by s o n a =
+    mark.Phase n o.who (due_of o.outcome) (made a) a.answers (phase_of s.state o a.answers).outcome (phase_of s.state o a.answers).transitions
+
+-- the marks by which the due phase of the open operation is done
+abbrev pub phase_closing : Standing → Option OpenOperation → ℕ → Asked → List (Mark ℕ)
+phase_closing s None n a = []
+phase_closing s (Some o) n a = phased_by s o n a ∷ loss (lost_boot (phase_of s.state o a.answers).state o.boot a.answers)
+
+-- its Phase is lawful
+abbrev pub IsPhaseLawful : Standing → Option OpenOperation → ℕ → Asked → Type 0
+IsPhaseLawful s None n a = ⊥
+IsPhaseLawful s (Some o) n a = IsLawful s (phased_by s o n a)
+
+-- what a phase leads to
+abbrev pub step_to : Outcome → Step
+step_to (outcome.On p) = step.On
+step_to (outcome.Over r) = step.Over
+step_to (outcome.Rest r) = step.Rest
+
+-- what the last phase of the open operation led to; without an operation all is over
+abbrev pub step_in : Option OpenOperation → Step
+step_in None = step.Over
+step_in (Some o) = step_to o.outcome
+
+-- the due phase of the operation that is open after this history is done with what this course asked and
+-- was answered
+pub record IsPhaseClosed (h : Chaptered) (n : ℕ) (a : Asked) (left : Chaptered) (st : Step) : Type 0 where
+  pub adds : left ≡ with_marks h (phase_closing (standing_in h) (standing_in h).operation n a)
+  pub lawful : IsPhaseLawful (standing_in h) (standing_in h).operation n a
+  pub leads : st ≡ step_in (standing_in left).operation
+
 -- a call is away after this history, and asks this
 pub record IsAsking (h : Chaptered) (a : Asked) (new : Ledgered) (x : Ask) : Type 0 where
   pub stays : new.history ≡ h
@@ -103,19 +146,37 @@ pub record CanAnswer (s : Standing) (j : OpenJob) (a : Asked) (x : Answer) : Typ
   pub unsent : IsUnsent s.operation j (answered a x)
   pub ended_first : meets_ended s.state j.call j.boot ≡ false → is_ended_answer x ≡ false
 
--- the call that is away may be answered so under this number
+-- the same of a phase: before an answer that a boot has ended its end was marked
+abbrev pub CanAnswerAs : Standing → Job → OpenJob → Asked → Answer → Type 0
+CanAnswerAs s job.Nested j a x = carries_ended s.state j.boot ≡ false → is_ended_answer x ≡ false
+CanAnswerAs s other j a x = CanAnswer s j a x
+
+-- the call, or the phase, that is away may be answered so under this number
 abbrev pub MayAnswer : Standing → Option OpenJob → Option Asked → ℕ → Answer → Type 0
-MayAnswer s (Some j) (Some a) n x = (n ≡ j.number) × CanAnswer s j a x
+MayAnswer s (Some j) (Some a) n x = (n ≡ j.number) × CanAnswerAs s j.job j a x
 MayAnswer s j a n x = ⊥
 
--- the last ask was answered so: the call is done, or asks somebody next
+-- the course with one more answer; what a phase writes may come with it
+abbrev pub answered_as : Job → Asked → Answer → Asked
+answered_as job.Nested a x = with_answer a x
+answered_as other a x = answered a x
+
+-- the same, by what is open
+abbrev pub answered_in : Option OpenJob → Asked → Answer → Asked
+answered_in None a x = answered a x
+answered_in (Some j) a x = answered_as j.job a x
+
+-- the last ask was answered so: the call or the phase is done, or asks somebody next
 abbrev pub GoesBack : ℕ → Option Asked → Answer → Ledgered → Ledgered → Back → Type 0
 GoesBack n None x old new result = ⊥
 GoesBack n (Some a) x old new (back.Done r) =
     (count : ℕ) × IsClosed old.history n (starved count (answered a x)) new.history r × (new.course ≡ None)
-GoesBack n (Some a) x old new (back.Away y) = (count : ℕ) × IsAsking old.history (starved count (answered a x)) new y
+GoesBack n (Some a) x old new (back.Away y) =
+    (count : ℕ) × IsAsking old.history (starved count (answered_in (now_in old).job a x)) new y
+GoesBack n (Some a) x old new (back.Phased st) =
+    (count : ℕ) × IsPhaseClosed old.history n (starved count (with_answer a x)) new.history st × (new.course ≡ None)
 
--- a call that asks on takes no room
+-- a call, or a phase, that asks on takes no room
 abbrev pub StaysAway : Ledgered → Ledgered → Back → Type 0
 StaysAway old new (back.Away x) = new.spare ≡ old.spare
-StaysAway old new (back.Done r) = Unit {0}
+StaysAway old new other = Unit {0}

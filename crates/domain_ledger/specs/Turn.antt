@@ -1,5 +1,5 @@
 -- What the turn of an open call comes to, over the chapter.
-use Rattle.std.specs.Prelude.{◌≡◌, ℕ, List, [], ◌++◌, Bool, false, Option, None, Some}
+use Rattle.std.specs.Prelude.{◌≡◌, ℕ, ◌++◌, Bool, false, Option, None, Some}
 use Rattle.history_spec.specs.declared.stamp.Stamp.{Stamp}
 use Rattle.domain_spec.specs.Types.{Answer, Call, State, Who}
 use Rattle.domain_spec.specs.declared.open.OpenJob.{OpenJob}
@@ -16,9 +16,10 @@ use Rattle.domain_history.specs.Closing.{CanDo, done_in, told_in}
 use Rattle.domain_history.specs.Numbered.{all_numbered}
 use Rattle.domain_history.specs.Standing.{HistoryWithRoom, in_force}
 use Rattle.domain_ledger.specs.Away.{HasRooms, IsOut}
-use Rattle.domain_ledger.specs.Ledger.{Chaptered, IsClosed, admitted}
+use Rattle.domain_ledger.specs.Ledger.{CanAnswer, Chaptered, IsClosed, admitted}
 use Rattle.domain_ledger.specs.declared.away.Away.{Away}
 use Rattle.domain_ledger.specs.declared.away.Ready.{Ready}
+use Rattle.domain_ledger.specs.declared.out.Out.TheVariants as out
 use Rattle.domain_ledger.specs.declared.turns.Turn.{Turn}
 use Rattle.domain_ledger.specs.declared.turns.Turn.TheVariants as turn
 
@@ -55,7 +56,7 @@ TurnsTo by w old new (turn.Done r) =
 
 -- after this history the call is away with this course, or done with it
 abbrev pub LeadsTo : Chaptered → ℕ → Asked → HistoryWithRoom → Turn → Type 0
-LeadsTo h n a new (turn.Away v x) = (v.course ≡ a) × (next_in a ≡ next.Ask x) × (shown new ≡ h) × IsOut (force_in new) (force_in new).job (Some v)
+LeadsTo h n a new (turn.Away v x) = (v.course ≡ a) × (next_in a ≡ next.Ask x) × (shown new ≡ h) × IsOut (force_in new) (force_in new).job (Some (out.Call v))
 LeadsTo h n a new (turn.Done r) = IsClosed h n a (shown new) r × ((force_in new).job ≡ None)
 
 -- a call that is let in
@@ -71,6 +72,11 @@ Resumes n a x old new t = (count : ℕ) × LeadsTo (shown old) n (starved count 
 abbrev pub is_over : Standing → Option OpenJob → Bool
 is_over s None = false
 is_over s (Some j) = meets_ended s.state j.call j.boot
+
+-- the call that is away may be answered so under this number
+abbrev pub MayAnswerCall : Standing → Option OpenJob → Asked → ℕ → Answer → Type 0
+MayAnswerCall s None a n x = ⊥
+MayAnswerCall s (Some j) a n x = (n ≡ j.number) × CanAnswer s j a x
 
 -- a call that asks on takes no room
 abbrev pub StaysAway : HistoryWithRoom → HistoryWithRoom → Turn → Type 0

@@ -29,8 +29,8 @@ fn room_for(alloc: Global, count: usize) -> Result<TransitionList, NoMemory>
     RoomyList::with_room(alloc, count)
 }
 
-// Room for what a Done tells, and for what the end of a boot does.
-fn rooms(alloc: Global) -> Result<(TransitionList, TransitionList), NoMemory>
+/// Room for what a Done or a Phase tells, and for what the end of a boot does.
+pub fn rooms(alloc: Global) -> Result<(TransitionList, TransitionList), NoMemory>
     ensures told { IfOk result (λ rooms. (rooms.0.list ≡ []) × (3 ≤ rooms.0.room)) }
     ensures end { IfOk result (λ rooms. (rooms.1.list ≡ []) × (0 < rooms.1.room)) }
 {

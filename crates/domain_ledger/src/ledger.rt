@@ -1,4 +1,4 @@
-// A domain's history with the call that is away.
+// A domain's history with the call, or the phase, that is away.
 ghost use Rattle.std.specs.Prelude.{◌≡◌, ◌≤◌, ◌<◌, ◌+◌, ◌-◌, ◌^◌, ◌∷◌, [], IfOk, None, OnErr, OnOk, is_some, length, slice_get, true};
 ghost use Rattle.domain_spec.specs.Call.{begins, job_of, takes_up};
 ghost use Rattle.domain_spec.specs.Chapter.{first_base, next_base};
@@ -8,17 +8,26 @@ ghost use Rattle.domain_spec.specs.Legal.{IsLawful, IsLegal};
 ghost use Rattle.domain_spec.specs.Reading.{is_live};
 ghost use Rattle.domain_spec.specs.declared.mark.Mark.TheVariants as mark;
 ghost use Rattle.domain_ledger.specs.Away.{WaitsWith};
-ghost use Rattle.domain_ledger.specs.Told.{told_last, told_of};
+ghost use Rattle.domain_history.specs.Closing.{reply_in};
 ghost use Rattle.domain_ledger.specs.Ledger.{GoesBack, LetsIn, MayAnswer, StaysAway, now_in, with_marks};
+ghost use Rattle.domain_ledger.specs.Operations.{Begins, EntersPhase, IsToldAtEnd, MayPhase, TakesUp};
+ghost use Rattle.domain_ledger.specs.Told.{told_last, told_of};
 ghost use Rattle.domain_ledger.specs.Turn.{force_in};
+ghost use Rattle.domain_tidy.specs.Guests.{HasOwnGuest};
 ghost use Rattle.domain_tidy.specs.Tidy.{IsTidy};
 
-use crate::away::{Away, prepare};
+use crate::away::prepare;
+use crate::begin_turns::{begin, copied, refuse, take_up, takes_it_up};
+use crate::ending::told_at_end;
+use crate::out::Out;
+use crate::phase_out::{Step, prepare_phase};
+use crate::phase_turns::{PhaseTurn, enter_phase, resume_phase};
 use crate::turns::{Turn, enter, resume};
 use domain_history::{Chapter, KeptRegistration, LetIn, Underway};
 use domain_spec::{HeldJobs, Mark};
 use domain_state::exit_event;
 use history_spec::Stamp;
+use operation_calls::goes_on;
 use std::alloc::Global;
 use std::marker::Model;
 use std::mem;
@@ -38,47 +47,74 @@ pub enum Entry {
     NoMemory,
 }
 
-/// What became of a call whose ask was answered.
+/// What became of a call that begins an operation, or takes one up.
+#[derive(Drop)]
+pub enum Begun {
+    /// Its operation goes on.
+    GoesOn,
+    /// It is done; its caller is told this.
+    Done(Reply),
+    /// There was no memory for it, and nothing is left of it.
+    NoMemory,
+}
+
+/// What became of the phase that is due.
+#[derive(Drop)]
+pub enum PhaseEntry {
+    /// It asks this.
+    Away(Ask),
+    /// It is done, and led to this.
+    Phased(Step),
+    /// There was no memory even for the answer that there is none, and nothing is left of it.
+    NoMemory,
+}
+
+/// What became of a call, or a phase, whose ask was answered.
 #[derive(Drop)]
 pub enum Back {
-    /// It is done; its caller is told this.
+    /// The call is done; its caller is told this.
     Done(Reply),
     /// It asks this next.
     Away(Ask),
+    /// The phase is done, and led to this.
+    Phased(Step),
 }
 
-/// The history of a chapter, with what is kept of the call that is away. Between two turns a call is open
-/// exactly where it is away.
+/// The history of a chapter, with what is kept of the call, or the phase, that is away. Between two turns
+/// one is open exactly where it is away.
 #[derive(Drop)]
 pub struct Ledger {
     chapter: Chapter,
-    away: Option<Away>,
+    away: Option<Out>,
 }
 
 impl Model for Ledger {
     ghost use Rattle.std.specs.Prelude.{option_map};
     ghost use Rattle.domain_history.specs.Numbered.{all_numbered};
-    ghost use Rattle.domain_ledger.specs.Away.{IsOut};
+    ghost use Rattle.domain_ledger.specs.Away.{IsOut, course_out};
     ghost use Rattle.domain_ledger.specs.Ledger.{Ledgered};
     ghost use Rattle.domain_ledger.specs.Turn.{force_in};
 
     ghost Value = { Ledgered };
 
-    ghost view = { λ l. record { history = record { chapter = l.chapter.history.chapter; base = l.chapter.history.base; marks = all_numbered l.chapter.history.marks }; spare = l.chapter.spare; course = option_map (λ w. w.course) l.away } };
+    ghost view = { λ l. record { history = record { chapter = l.chapter.history.chapter; base = l.chapter.history.base; marks = all_numbered l.chapter.history.marks }; spare = l.chapter.spare; course = option_map course_out l.away } };
 
     ghost invariant = { λ l. IsOut (force_in l.chapter) (force_in l.chapter).job l.away };
 }
 
-// No boot's end is left to be marked, and a domain without a stored definition has no autostart.
+// No boot's end is left to be marked, a domain without a stored definition has no autostart, and beside
+// an operation no guest runs but its own.
 fn settled(chapter: &Chapter)
     ensures lost { (force_in chapter.now).lost ≡ None }
     ensures tidy { IsTidy (force_in chapter.now).state }
+    ensures guest { HasOwnGuest (force_in chapter.now).state (force_in chapter.now).operation }
 {
     chapter.state();
+    chapter.operation();
 }
 
 // What is kept is this from now on.
-fn set(slot: &mut Option<Away>, away: Option<Away>)
+fn set(slot: &mut Option<Out>, away: Option<Out>)
     ensures { slot.new ≡ away }
 {
     drop(mem::replace(slot, away));
@@ -145,7 +181,7 @@ impl Ledger {
         };
         match enter(&mut self.chapter, by, who, call, boot, ready) {
             Turn::Away(away, ask) => {
-                set(&mut self.away, Some(away));
+                set(&mut self.away, Some(Out::Call(away)));
                 Entry::Away(ask)
             }
             Turn::Done(reply) => {
@@ -155,7 +191,116 @@ impl Ledger {
         }
     }
 
-    /// The ask that the call made last is answered so. It takes no memory but for the next ask.
+    /// A call that was admitted, and begins an operation, is let in: the operation begins where the call
+    /// passes its tests, else the call is refused. Where there is no memory nothing is left of it.
+    pub fn begin(
+        &mut self,
+        alloc: Global,
+        by: Stamp,
+        who: Who,
+        call: &Call,
+        boot: Option<u64>,
+    ) -> Begun
+        requires room { 3 ≤ self.old.spare }
+        requires begins { is_some (begins call.now) ≡ true }
+        requires lawful { IsLawful (now_in self.old) (mark.Admit by.number who (job_of call.now) call.now boot) }
+        ensures begun { Begins by.number who call.now boot self.old self.new result }
+        ensures spare { self.old.spare ≤ self.new.spare + 3 }
+    {
+        settled(&self.chapter);
+        if goes_on(self.chapter.state(), call, boot) {
+            return match begin(&mut self.chapter, alloc, by, who, call, boot) {
+                Ok(()) => {
+                    set(&mut self.away, None);
+                    Begun::GoesOn
+                }
+                Err(NoMemory) => Begun::NoMemory,
+            };
+        }
+        let ready = match prepare(alloc, self.chapter.state(), call, boot) {
+            Ok(ready) => ready,
+            Err(NoMemory) => {
+                drop(by);
+                return Begun::NoMemory;
+            }
+        };
+        let reply = refuse(&mut self.chapter, by, who, call, boot, ready);
+        set(&mut self.away, None);
+        Begun::Done(reply)
+    }
+
+    /// A call that was admitted, and takes up an operation that rests, is let in: it does where one of its
+    /// kind rests, else it is refused. Where there is no memory nothing is left of it.
+    pub fn take_up(
+        &mut self,
+        alloc: Global,
+        by: Stamp,
+        who: Who,
+        call: &Call,
+        boot: Option<u64>,
+    ) -> Begun
+        requires room { 3 ≤ self.old.spare }
+        requires takes { is_some (takes_up call.now) ≡ true }
+        requires lawful { IsLawful (now_in self.old) (mark.Admit by.number who (job_of call.now) call.now boot) }
+        ensures begun { TakesUp by.number who call.now boot self.old self.new result }
+        ensures spare { self.old.spare ≤ self.new.spare + 3 }
+    {
+        settled(&self.chapter);
+        if takes_it_up(&self.chapter, call, boot) {
+            let copies = match copied(call) {
+                Ok(copies) => copies,
+                Err(NoMemory) => {
+                    drop(by);
+                    return Begun::NoMemory;
+                }
+            };
+            take_up(&mut self.chapter, by, who, call, boot, copies);
+            set(&mut self.away, None);
+            return Begun::GoesOn;
+        }
+        let ready = match prepare(alloc, self.chapter.state(), call, boot) {
+            Ok(ready) => ready,
+            Err(NoMemory) => {
+                drop(by);
+                return Begun::NoMemory;
+            }
+        };
+        let reply = refuse(&mut self.chapter, by, who, call, boot, ready);
+        set(&mut self.away, None);
+        Begun::Done(reply)
+    }
+
+    /// The due phase of the open operation is let in: it is done at once, or asks somebody. A want of
+    /// memory for what it asks is its one answer; where there is none even for that nothing is left of
+    /// it, and it may be tried again.
+    pub fn phase(&mut self, alloc: Global, by: Stamp, who: Who) -> PhaseEntry
+        requires room { 3 ≤ self.old.spare }
+        requires may { MayPhase (now_in self.old) (now_in self.old).operation by.number who }
+        ensures phased { EntersPhase by.number who self.old self.new result }
+        ensures spare { self.old.spare ≤ self.new.spare + 3 }
+    {
+        settled(&self.chapter);
+        let ready = match prepare_phase(alloc, &self.chapter) {
+            Ok(ready) => ready,
+            Err(NoMemory) => {
+                drop(by);
+                return PhaseEntry::NoMemory;
+            }
+        };
+        match enter_phase(&mut self.chapter, by, who, ready) {
+            PhaseTurn::Away(away, ask) => {
+                set(&mut self.away, Some(Out::Phase(away)));
+                PhaseEntry::Away(ask)
+            }
+            PhaseTurn::Phased(step) => {
+                set(&mut self.away, None);
+                PhaseEntry::Phased(step)
+            }
+        }
+    }
+
+    /// The ask that the call or the phase made last is answered so. It takes no memory but for the next
+    /// ask.
     pub fn back(&mut self, by: Stamp, answer: Answer) -> Back
         requires room { 2 ≤ self.old.spare }
         requires may { MayAnswer (now_in self.old) (now_in self.old).job self.old.course by.number answer }
@@ -166,12 +311,19 @@ impl Ledger {
         settled(&self.chapter);
         match self.away.take() {
             None => unreachable!(),
-            Some(away) => match resume(&mut self.chapter, by, away, answer) {
+            Some(Out::Call(away)) => match resume(&mut self.chapter, by, away, answer) {
                 Turn::Away(away, ask) => {
-                    set(&mut self.away, Some(away));
+                    set(&mut self.away, Some(Out::Call(away)));
                     Back::Away(ask)
                 }
                 Turn::Done(reply) => Back::Done(reply),
+            },
+            Some(Out::Phase(away)) => match resume_phase(&mut self.chapter, by, away, answer) {
+                PhaseTurn::Away(away, ask) => {
+                    set(&mut self.away, Some(Out::Phase(away)));
+                    Back::Away(ask)
+                }
+                PhaseTurn::Phased(step) => Back::Phased(step),
             },
         }
     }
@@ -249,15 +401,19 @@ impl Ledger {
         self.chapter.event(boot, event, told);
     }
 
-    /// The operation ends with this reply.
-    pub fn end(&mut self, by: Stamp, who: Who, reply: Reply)
+    /// The operation, which is over, ends with the reply to which its last phase led. Its caller is told
+    /// that; where there is no memory for one more copy of it, it is told so. The mark takes none.
+    pub fn end(&mut self, alloc: Global, by: Stamp, who: Who) -> Reply
         requires room { 0 < self.old.spare }
-        requires lawful { IsLawful (now_in self.old) (mark.End by.number who reply) }
-        ensures history { self.new.history ≡ with_marks self.old.history (mark.End by.number who reply ∷ []) }
+        requires lawful { IsLawful (now_in self.old) (mark.End by.number who (reply_in (now_in self.old).operation)) }
+        ensures history { self.new.history ≡ with_marks self.old.history (mark.End by.number who (reply_in (now_in self.old).operation) ∷ []) }
+        ensures told { IsToldAtEnd (reply_in (now_in self.old).operation) result }
         ensures course { self.new.course ≡ self.old.course }
         ensures spare { self.new.spare + 1 ≡ self.old.spare }
     {
-        self.chapter.end(by, who, reply);
+        let told = told_at_end(alloc, self.chapter.operation());
+        self.chapter.end_over(by, who);
+        told
     }
 
     /// Room for so many more marks. Where there is no memory nothing changes.

@@ -6,8 +6,8 @@ ghost use Rattle.domain_spec.specs.declared.mark.Mark.TheVariants as mark;
 ghost use Rattle.call_away.specs.AwayLaws.{made};
 ghost use Rattle.domain_history.specs.Closing.{CanDo, done_in, told_in};
 ghost use Rattle.domain_ledger.specs.Away.{HasRooms, IsOut};
-ghost use Rattle.domain_ledger.specs.Ledger.{MayAnswer};
-ghost use Rattle.domain_ledger.specs.Turn.{CanGoOn, Enters, IsReady, Resumes, StaysAway, TurnsTo, force_in, is_over};
+ghost use Rattle.domain_ledger.specs.Turn.{CanGoOn, Enters, IsReady, MayAnswerCall, Resumes, StaysAway, TurnsTo, force_in, is_over};
+ghost use Rattle.domain_ledger.specs.declared.out.Out.TheVariants as out;
 
 use crate::away::{Away, Ready};
 use core_rules::meets_ended;
@@ -38,8 +38,8 @@ pub fn job_of(call: &Call) -> Job
     }
 }
 
-// The open call is done with what its course made.
-fn close(chapter: &mut Chapter, by: Stamp, away: Away) -> Reply
+/// The open call is done with what its course made.
+pub fn close(chapter: &mut Chapter, by: Stamp, away: Away) -> Reply
     requires room { 2 ≤ chapter.old.spare }
     requires rooms { HasRooms away }
     requires can { CanDo (force_in chapter.old) (force_in chapter.old).job away.parts by (made away.course) away.course.answers }
@@ -109,8 +109,8 @@ fn is_over(chapter: &Chapter) -> bool
 pub fn resume(chapter: &mut Chapter, by: Stamp, away: Away, answer: Answer) -> Turn
     requires room { 2 ≤ chapter.old.spare }
     requires lost { (force_in chapter.old).lost ≡ None }
-    requires out { IsOut (force_in chapter.old) (force_in chapter.old).job (Some away) }
-    requires may { MayAnswer (force_in chapter.old) (force_in chapter.old).job (Some away.course) by.number answer }
+    requires out { IsOut (force_in chapter.old) (force_in chapter.old).job (Some (out.Call away)) }
+    requires may { MayAnswerCall (force_in chapter.old) (force_in chapter.old).job away.course by.number answer }
     ensures turn { Resumes by.number away.course answer chapter.old chapter.new result }
     ensures spare { chapter.old.spare ≤ chapter.new.spare + 2 }
     ensures stays { StaysAway chapter.old chapter.new result }

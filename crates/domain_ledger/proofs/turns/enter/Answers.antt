@@ -1,13 +1,8 @@
-use Rattle.std.proofs.Common.{◌≡◌, ℕ, refl, sym, ap, ◌∙◌, subst}
+use Rattle.std.proofs.Common.{ℕ, sym, subst}
 use Rattle.domain_spec.specs.Types.{Call}
 use Rattle.domain_spec.specs.declared.mark.Mark.TheVariants as mark
-use Rattle.domain_spec.specs.declared.standing.Standing.{Standing}
-use Rattle.domain_spec.specs.Call.{job_of}
-use Rattle.domain_spec.specs.Fold.{after}
 use Rattle.domain_spec.specs.Legal.{IsLawful}
-use Rattle.ask_course.specs.Along.{Asked}
-use Rattle.ask_course.specs.Starving.{starved}
-use Rattle.domain_ledger.specs.Turn.{CanGoOn, force_in}
+use Rattle.domain_ledger.specs.Turn.{force_in}
 use Rattle.domain_ledger.proofs.Entering.{entered_can, entered_turns, is_entered}
 use Rattle.domain_ledger.proofs.turns.enter.Goals as goal
 

@@ -1,4 +1,4 @@
-use Rattle.std.proofs.Common.{◌≡◌, ℕ, true, false, Some, refl, sym, ap, ◌∙◌, subst}
+use Rattle.std.proofs.Common.{◌≡◌, ℕ, false, Some, refl, sym, ap, ◌∙◌, subst}
 use Rattle.domain_spec.specs.Types.{Ask}
 use Rattle.core_rules.specs.declared.next.Next.TheVariants as next
 use Rattle.ask_course.specs.Along.{Asked, answered}
@@ -7,7 +7,8 @@ use Rattle.call_away.specs.AwayLaws.{made}
 use Rattle.domain_history.specs.Closing.{CanDo}
 use Rattle.domain_ledger.specs.Away.{IsOut}
 use Rattle.domain_ledger.specs.Turn.{CanGoOn, force_in, is_over, shown}
-use Rattle.domain_ledger.proofs.Histories.{can_end, can_go_on, asks_on, closes, stays_out, turns_to, waits}
+use Rattle.domain_ledger.proofs.Histories.{asks_on, can_end, can_go_on, closes, stays_out, turns_to, waits}
+use Rattle.domain_ledger.specs.declared.out.Out.TheVariants as gone
 use Rattle.domain_ledger.proofs.turns.resume.Goals as goal
 
 pub answer-requires : goal.answer-requires
@@ -48,7 +49,7 @@ returns-else-is_over-clause-turn c =
     subst (λ (x : Asked). CanGoOn s a.away.parts a.by x) (sym c.answer.ensures)
     (can_go_on s a.away a.by a.answer c.requires.lost c.requires.out c.requires.may over) in
     let out =
-    subst (λ (x : Asked). (count : ℕ) (y : Ask) → AreAsks count x → next_in (starved count x) ≡ next.Ask y → IsOut s s.job (Some (record a.away { course = starved count x }))) (sym c.answer.ensures)
+    subst (λ (x : Asked). (count : ℕ) (y : Ask) → AreAsks count x → next_in (starved count x) ≡ next.Ask y → IsOut s s.job (Some (gone.Call (record a.away { course = starved count x })))) (sym c.answer.ensures)
     (stays_out s a.away a.by.number a.answer c.requires.out c.requires.may over) in
     turns_to a.chapter.now c.go_on.new.chapter (shown a.chapter.now) a.by a.by.number (record a.away { course = c.answer.new.self }) c.go_on.result
     (λ (count : ℕ). starved count (answered a.away.course a.answer)) can out refl refl (λ (count : ℕ). ap (λ (x : Asked). starved count x) c.answer.ensures) c.go_on.ensures.turn
