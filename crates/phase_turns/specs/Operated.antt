@@ -1,6 +1,6 @@
 -- Why what the ledger leaves of an operation is what a turn of a domain may leave.
 use Rattle.std.specs.Prelude.{◌≡◌, ℕ, List, [], ◌∷◌, ◌++◌, Option, None, Some}
-use Rattle.domain_spec.specs.Types.{Call, Reply, Who}
+use Rattle.domain_spec.specs.Types.{Answer, Call, Reply, State, Who}
 use Rattle.domain_spec.specs.declared.core_step.CoreStep.{CoreStep}
 use Rattle.domain_spec.specs.declared.core_step.CoreStep.TheVariants as step
 use Rattle.domain_spec.specs.declared.mark.Mark.{Mark}
@@ -11,7 +11,8 @@ use Rattle.domain_spec.specs.declared.standing.Standing.{Standing}
 use Rattle.domain_spec.specs.Call.{job_of}
 use Rattle.domain_spec.specs.CanTake.{WaitsForAnswer}
 use Rattle.domain_spec.specs.Cell.{Cell, standing_of}
-use Rattle.domain_spec.specs.Fold.{after, standing}
+use Rattle.domain_spec.specs.Fold.{after, lost_boot, standing}
+use Rattle.domain_spec.specs.Phase.{phase_of}
 use Rattle.domain_spec.specs.Legal.{IsLawful}
 use Rattle.domain_spec.specs.Steps.{AnswersBy, LetsIn}
 use Rattle.domain_spec.specs.Turns.{GoOn, MayLeave}
@@ -78,3 +79,8 @@ EndIsLeft =
     (c : Cell) (n : ℕ) (who : Who) (r : Reply) (more : List (Mark ℕ))
     → IsLawful (standing_of c) (mark.End n who r) → GoOn c (step.EndOp n who) (after (standing_of c) (mark.End n who r)) more
     → MayLeave c (step.EndOp n who) (mark.End n who r ∷ more)
+
+-- a phase whose monitor was lost, so that the end of its boot follows, tells nothing
+abbrev pub LostPhaseIsSilent : Type 0
+LostPhaseIsSilent =
+    (s : State) (o : OpenOperation) (answers : List Answer) (boot : ℕ) → lost_boot (phase_of s o answers).state o.boot answers ≡ Some boot → (phase_of s o answers).transitions ≡ []

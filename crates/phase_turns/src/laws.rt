@@ -1,5 +1,5 @@
 // Laws of the definitions: each function's contract is one, and its body does nothing.
-ghost use Rattle.phase_turns.specs.Operated.{AwayPhaseWaits, BegunIsLeft, EndIsLeft, PhaseIsLeft, PhaseLetInIsLeft, RefusedIsLeft, TakenUpIsLeft};
+ghost use Rattle.phase_turns.specs.Operated.{AwayPhaseWaits, BegunIsLeft, EndIsLeft, LostPhaseIsSilent, PhaseIsLeft, PhaseLetInIsLeft, RefusedIsLeft, TakenUpIsLeft};
 
 /// A turn may leave the Admit of a call that begins an operation, and then its Start.
 pub fn begun_calls_are_left()
@@ -35,4 +35,9 @@ pub fn away_phases_wait()
 /// A turn may leave the end of an operation.
 pub fn operations_end()
     ensures { EndIsLeft }
+{}
+
+/// A phase whose monitor was lost, so that the end of its boot follows, tells nothing.
+pub fn lost_phases_are_silent()
+    ensures { LostPhaseIsSilent }
 {}

@@ -6,5 +6,5 @@ mod laws;
 
 pub use laws::{
     away_phases_wait, begun_calls_are_left, done_phases_are_left, let_in_phases_are_left,
-    operations_end, refused_calls_are_left, taken_up_calls_are_left,
+    lost_phases_are_silent, operations_end, refused_calls_are_left, taken_up_calls_are_left,
 };
