@@ -1,20 +1,19 @@
 -- A call that is done, with its listeners.
-use Rattle.std.proofs.Common.{◌≡◌, ℕ, ◌+◌, ◌≤◌, List, [], ◌∷◌, ◌++◌, Bool, true, false, not, ◌&&◌, ◌||◌, find, Option, None, Some, if◌then◌else◌, refl, sym, ap, ◌∙◌, subst, append-nil, arith}
+use Rattle.std.proofs.Common.{◌≡◌, ℕ, ◌+◌, ◌≤◌, List, [], ◌∷◌, ◌++◌, Bool, true, false, ◌&&◌, Option, None, Some, if◌then◌else◌, refl, sym, ap, ◌∙◌, subst, append-nil, arith}
 use Rattle.std.specs.List.{list_any}
-use Rattle.domain_spec.specs.Types.{Answer, Ask, Call, Refusal, Reply, State, Transition, Who}
+use Rattle.domain_spec.specs.Types.{Answer, Ask, Call, Refusal, Reply, State, Who}
 use Rattle.domain_spec.specs.Types.answer
 use Rattle.domain_spec.specs.Types.call
 use Rattle.domain_spec.specs.Types.reason
 use Rattle.domain_spec.specs.declared.mark.Mark.{Mark}
-use Rattle.domain_spec.specs.declared.mark.Mark.TheVariants as mark
 use Rattle.domain_spec.specs.declared.open.OpenJob.{OpenJob}
 use Rattle.domain_spec.specs.declared.standing.Standing.{Standing}
 use Rattle.domain_spec.specs.declared.step.CallStep.{CallStep}
-use Rattle.domain_spec.specs.Asks.{first_bad, is_lost_answer, is_ok_answer}
+use Rattle.domain_spec.specs.Asks.{first_bad, is_lost_answer}
 use Rattle.domain_spec.specs.Call.{job_of}
 use Rattle.domain_spec.specs.CallResult.{refused}
 use Rattle.domain_spec.specs.Exit.{exit_transitions}
-use Rattle.domain_spec.specs.Fold.{at_base, lost_boot, transitions_of}
+use Rattle.domain_spec.specs.Fold.{at_base, lost_boot}
 use Rattle.domain_spec.specs.Legal.{IsLegal}
 use Rattle.domain_spec.specs.Reading.{is_live}
 use Rattle.domain_spec.specs.Refusals.{invalid}
@@ -31,7 +30,7 @@ use Rattle.domain_listeners.specs.Listening.{Listening, registrations}
 use Rattle.domain_record.specs.Following.{IsFollowed}
 use Rattle.domain_record.specs.Record.{GoesBack, IsDoneWith, IsHeld, admit_of, cuts_after, open_ends, recorded}
 use Rattle.domain_record.proofs.Held.{AreQuiet, held_quiet, held_told, marked_quiet, may_tell, more_more, tells}
-use Rattle.domain_record.proofs.Cuts.{IsPlain, TellLast, plain_admit, plain_done, plain_exit}
+use Rattle.domain_record.proofs.Cuts.{TellLast, plain_admit, plain_done, plain_exit}
 
 -- a call whose monitor was lost tells nothing
 
@@ -134,7 +133,7 @@ still_fits_one e a b le more = omega (arith, le, more)
 
 -- a call that was answered
 
-none_added : (h : Chaptered) → h ≡ with_marks h []
+pub none_added : (h : Chaptered) → h ≡ with_marks h []
 none_added h = ap (λ (ms : List (Mark ℕ)). record h { marks = ms }) (sym (append-nil h.marks))
 
 closed_now : (h left : Chaptered) (n : ℕ) (a : Asked) (r : Reply) → IsClosed h n a left r → IsClosed (with_marks h []) n a left r

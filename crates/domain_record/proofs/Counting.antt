@@ -1,5 +1,5 @@
 -- How many registrations may still end by a mark.
-use Rattle.std.proofs.Common.{◌≡◌, ℕ, ◌+◌, ◌≤◌, List, [], ◌∷◌, ◌++◌, map, length, take, Bool, true, false, not, ◌&&◌, if◌then◌else◌, refl, sym, ap, ◌∙◌, nat_lt, arith}
+use Rattle.std.proofs.Common.{◌≡◌, ℕ, ◌+◌, ◌≤◌, List, [], ◌∷◌, map, length, take, Bool, true, false, if◌then◌else◌, refl, sym, ap, ◌∙◌, arith}
 use Rattle.domain_spec.specs.Types.{Transition}
 use Rattle.domain_spec.specs.declared.mark.Mark.{Mark}
 use Rattle.domain_spec.specs.declared.mark.Mark.TheVariants as mark
@@ -7,7 +7,7 @@ use Rattle.domain_spec.specs.declared.standing.Client.{Client}
 use Rattle.domain_spec.specs.declared.standing.Registration.{Registration}
 use Rattle.domain_spec.specs.Fold.{registered}
 use Rattle.domain_spec.specs.Registrations.{with_pending}
-use Rattle.domain_listeners.specs.Telling.{cuts_due, cut_if_over, is_over, most_of, told}
+use Rattle.domain_listeners.specs.Telling.{cut_if_over, is_over, most_of, told}
 use Rattle.domain_listeners.specs.declared.cut.Cut.{Cut}
 use Rattle.domain_listeners.specs.Listening.{Listening, cut_mark, hears, registrations}
 use Rattle.domain_listeners.proofs.Cutting.{over_lost, pend_is}

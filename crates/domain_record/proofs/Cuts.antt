@@ -1,21 +1,20 @@
 -- Why the cuts after a mark are due and lawful, and what they leave for the registrations.
-use Rattle.std.proofs.Common.{◌≡◌, ℕ, ◌+◌, ◌≤◌, List, [], ◌∷◌, ◌++◌, map, length, Bool, true, false, ◌||◌, Option, None, Some, if◌then◌else◌, refl, sym, ap, ◌∙◌, subst, append_assoc, append-nil}
+use Rattle.std.proofs.Common.{◌≡◌, ℕ, List, [], ◌∷◌, ◌++◌, map, length, Bool, true, false, ◌||◌, Option, None, refl, sym, ap, ◌∙◌, subst, append-nil}
 use Rattle.std.specs.List.{list_any}
-use Rattle.domain_spec.specs.Types.{Answer, Ask, Call, EndReason, GuestEvent, Job, Reply, RefusalCode, Transition, Who}
+use Rattle.domain_spec.specs.Types.{Answer, Ask, Call, EndReason, GuestEvent, Job, Phase, RefusalCode, Reply, Transition, Who}
 use Rattle.domain_spec.specs.declared.mark.HeldJobs.{HeldJobs}
 use Rattle.domain_spec.specs.declared.mark.Mark.{Mark}
+use Rattle.domain_spec.specs.declared.step.Outcome.{Outcome}
 use Rattle.domain_spec.specs.declared.mark.Mark.TheVariants as mark
-use Rattle.domain_spec.specs.declared.standing.Base.{Base}
 use Rattle.domain_spec.specs.declared.standing.Client.{Client}
 use Rattle.domain_spec.specs.declared.standing.Registration.{Registration}
 use Rattle.domain_spec.specs.declared.standing.Standing.{Standing}
 use Rattle.domain_spec.specs.ChapterLaws.{Agree}
-use Rattle.domain_spec.specs.Fold.{after, at_base, clients_after, standing, transitions_of, with_more}
+use Rattle.domain_spec.specs.Fold.{after, clients_after, standing, transitions_of, with_more}
 use Rattle.domain_spec.specs.Legal.{IsLegal}
 use Rattle.domain_spec.specs.Registrations.{is_numbered, registrations_after, registrations_at, with_pending}
 use Rattle.domain_spec.specs.Turns.{AllHaveRoom, AreCut}
 use Rattle.domain_spec.proofs.ChapterProofs.{registrations_agree}
-use Rattle.domain_spec.proofs.LawProofs.{standing-append}
 use Rattle.domain_listeners.specs.CutLaws.{AreCutThen, AreDifferent}
 use Rattle.domain_listeners.specs.Listening.{AreApart, Listening, has_client, hears, is_of, registrations}
 use Rattle.domain_listeners.specs.Telling.{told}
@@ -44,6 +43,18 @@ plain_exit boot why events = record { clients = λ cs. refl; registrations = λ 
 
 pub plain_event : (boot : ℕ) (e : GuestEvent) (events : List Transition) → IsPlain (mark.Event boot e events)
 plain_event boot e events = record { clients = λ cs. refl; registrations = λ rs. refl; cut = λ rs ms room h. (room, h) }
+
+pub plain_start : (n : ℕ) (who : Who) (c : Call) (boot : Option ℕ) → IsPlain (mark.Start n who c boot)
+plain_start n who c boot = record { clients = λ cs. refl; registrations = λ rs. refl; cut = λ rs ms room h. (room, h) }
+
+pub plain_take_up : (n : ℕ) (who : Who) (c : Call) → IsPlain (mark.TakeUp n who c)
+plain_take_up n who c = record { clients = λ cs. refl; registrations = λ rs. refl; cut = λ rs ms room h. (room, h) }
+
+pub plain_phase : (n : ℕ) (who : Who) (p : Phase) (asks : List Ask) (answers : List Answer) (o : Outcome) (events : List Transition) → IsPlain (mark.Phase n who p asks answers o events)
+plain_phase n who p asks answers o events = record { clients = λ cs. refl; registrations = λ rs. refl; cut = λ rs ms room h. (room, h) }
+
+pub plain_end : (n : ℕ) (who : Who) (r : Reply) → IsPlain (mark.End n who r)
+plain_end n who r = record { clients = λ cs. refl; registrations = λ rs. refl; cut = λ rs ms room h. (room, h) }
 
 -- of these marks, which belong to no client, none but the last tells anything
 abbrev pub TellLast : List (Mark ℕ) → Type 0

@@ -1,24 +1,22 @@
 -- The listeners are those of the history, whatever marks come.
-use Rattle.std.proofs.Common.{◌≡◌, ℕ, ◌+◌, ◌-◌, ◌≤◌, List, [], ◌∷◌, ◌++◌, map, length, Option, None, Some, refl, sym, ap, ◌∙◌, subst, append_assoc, append-nil, arith}
-use Rattle.domain_spec.specs.Types.{DomainDef, Transition}
+use Rattle.std.proofs.Common.{◌≡◌, ℕ, ◌+◌, ◌≤◌, List, [], ◌∷◌, ◌++◌, map, None, refl, sym, ap, ◌∙◌, subst, append_assoc, arith}
+use Rattle.domain_spec.specs.Types.{Transition}
 use Rattle.domain_spec.specs.declared.mark.Mark.{Mark}
-use Rattle.domain_spec.specs.declared.standing.Base.{Base}
 use Rattle.domain_spec.specs.declared.standing.Registration.{Registration}
 use Rattle.domain_spec.specs.declared.standing.Standing.{Standing}
 use Rattle.domain_spec.specs.ChapterLaws.{Agree}
-use Rattle.domain_spec.specs.Fold.{after, at_base, standing, transitions_of}
+use Rattle.domain_spec.specs.Fold.{at_base, standing, transitions_of}
 use Rattle.domain_spec.specs.Legal.{IsLegal}
 use Rattle.domain_spec.specs.Registrations.{registrations_at}
 use Rattle.domain_spec.specs.Turns.{AllHaveRoom, AreCut}
 use Rattle.domain_spec.proofs.LawProofs.{standing-append}
 use Rattle.domain_listeners.specs.Listening.{AreApart, Listening, hears, registrations}
-use Rattle.domain_listeners.specs.Telling.{told}
 use Rattle.domain_listeners.proofs.Apart.{apart_heard}
 use Rattle.domain_ledger.specs.Ledger.{Chaptered, Ledgered, now_in, standing_in, with_marks}
 use Rattle.domain_ledger.specs.Told.{told_last}
 use Rattle.domain_record.specs.Following.{IsFollowed}
 use Rattle.domain_record.specs.Record.{HasMarked, IsHeld, Tells, cuts_after, open_ends, recorded, with_cuts}
-use Rattle.domain_record.proofs.Cuts.{IsPlain, TellLast, Told, agree_at, heard_kept, last_added, legal_ending, told_marks, told_none}
+use Rattle.domain_record.proofs.Cuts.{IsPlain, TellLast, Told, agree_at, last_added, legal_ending, told_marks, told_none}
 
 pub in_history : (h : Chaptered) → standing_in h ≡ standing (at_base h.base) h.marks
 unfolding standing_in

@@ -5,4 +5,5 @@ pub mod Held
 pub mod Joining
 pub mod NextChapter
 pub mod OneByOne
+pub mod Phasing
 pub mod Registered

@@ -1,19 +1,16 @@
 -- The next chapter, and room for more marks.
 use Rattle.std.specs.Prelude.{Ok, Err, OnErr, OnOk}
-use Rattle.std.proofs.Common.{◌≡◌, Result, ℕ, Bool, true, false, ◌+◌, ◌-◌, ◌≤◌, List, [], ◌∷◌, length, Option, None, refl, sym, ap, ◌∙◌, subst, arith}
+use Rattle.std.proofs.Common.{◌≡◌, Result, ℕ, Bool, true, false, ◌+◌, ◌-◌, ◌≤◌, List, [], ◌∷◌, length, Option, sym, subst, arith}
 use Rattle.domain_spec.specs.Types.{DomainDef}
 use Rattle.domain_spec.specs.declared.standing.Base.{Base}
-use Rattle.domain_spec.specs.declared.standing.Registration.{Registration}
 use Rattle.domain_spec.specs.declared.standing.Standing.{Standing}
 use Rattle.domain_spec.specs.Chapter.{first_base, next_base}
 use Rattle.domain_spec.specs.ChapterLaws.{Agree}
-use Rattle.domain_spec.specs.Fold.{at_base}
 use Rattle.domain_spec.proofs.ChapterProofs.{registrations_agree}
 use Rattle.domain_listeners.specs.Listening.{Listening, registrations}
-use Rattle.domain_ledger.specs.Ledger.{Chaptered, Ledgered, now_in, standing_in}
+use Rattle.domain_ledger.specs.Ledger.{Chaptered, Ledgered, standing_in}
 use Rattle.domain_record.specs.Record.{IsHeld, open_ends, recorded}
 use Rattle.domain_record.proofs.Counting.{ends_more, one_unless}
-use Rattle.domain_record.proofs.Held.{in_history}
 
 one_at_most : (b : Bool) → one_unless b ≤ 1
 one_at_most true = omega arith

@@ -1,6 +1,6 @@
 -- A client that registers, takes what pends, or leaves.
 use Rattle.std.specs.Prelude.{Ok, Err, OnErr, OnOk}
-use Rattle.std.proofs.Common.{◌≡◌, Result, ℕ, ◌+◌, ◌-◌, ◌≤◌, ◌<◌, ◌==◌, ◌^◌, List, [], ◌∷◌, ◌++◌, map, filter, find, length, Bool, true, false, not, ◌&&◌, ◌||◌, is_some, nat_le, Option, None, Some, option_map, if◌then◌else◌, refl, sym, ap, ◌∙◌, subst, arith}
+use Rattle.std.proofs.Common.{◌≡◌, Result, ℕ, ◌+◌, ◌-◌, ◌≤◌, ◌<◌, ◌==◌, List, [], ◌∷◌, ◌++◌, map, filter, find, length, Bool, true, false, not, ◌&&◌, ◌||◌, is_some, nat_le, Option, None, Some, option_map, if◌then◌else◌, refl, sym, ap, ◌∙◌, subst, arith}
 use Rattle.std.specs.List.{list_any}
 use Rattle.std.proofs.lemmas.Bool.Decides.{nat_tests}
 use Rattle.std.proofs.lemmas.List.{map-append}
@@ -9,12 +9,11 @@ use Rattle.domain_spec.specs.declared.mark.Mark.TheVariants as mark
 use Rattle.domain_spec.specs.declared.standing.Client.{Client}
 use Rattle.domain_spec.specs.declared.standing.Registration.{Registration}
 use Rattle.domain_spec.specs.declared.standing.Standing.{Standing}
-use Rattle.domain_spec.specs.CanTake.{IsQuiet}
 use Rattle.domain_spec.specs.ChapterLaws.{Agree, as_before}
 use Rattle.domain_spec.specs.Fold.{at_base, is_client, registered}
 use Rattle.domain_spec.specs.Legal.{IsLawful, IsLegal, IsUnwatched, MarksLoss, client_named}
-use Rattle.domain_spec.specs.Registrations.{HasRoom, is_numbered, registrations_at, registrations_taken, taken_from, tells_loss}
-use Rattle.domain_spec.specs.Turns.{AllHaveRoom, AreCut}
+use Rattle.domain_spec.specs.Registrations.{HasRoom, is_numbered, registrations_taken, taken_from, tells_loss}
+use Rattle.domain_spec.specs.Turns.{AllHaveRoom}
 use Rattle.domain_spec.proofs.ChapterProofs.{registrations_agree}
 use Rattle.domain_listeners.specs.Listening.{AreApart, Listening, dropped_by, emptied, emptied_by, has_client, is_lost, is_of, left_by, listening_of, loss_told, new_listening, registrations, taken_by}
 use Rattle.domain_listeners.proofs.Apart.{apart_emptied, apart_left, apart_more}
@@ -22,7 +21,6 @@ use Rattle.domain_ledger.specs.Ledger.{Ledgered, now_in, standing_in, with_marks
 use Rattle.domain_record.specs.Record.{HasMarked, IsHeld, IsQuietOf, open_ends, recorded}
 use Rattle.domain_record.proofs.Counting.{ends_more, one_unless}
 use Rattle.domain_record.proofs.Held.{added_legal, agree_more}
-use Rattle.domain_record.proofs.Cuts.{different}
 
 or_parts : (b c : Bool) → (b || c) ≡ false → (b ≡ false) × (c ≡ false)
 or_parts true c e = cc

@@ -17,12 +17,14 @@ use Rattle.core_rules.specs.declared.next.Next.TheVariants as next
 use Rattle.ask_course.specs.Along.{Asked, answered}
 use Rattle.ask_course.specs.Starving.{next_in, starved}
 use Rattle.call_away.specs.Going.{first_course}
-use Rattle.domain_ledger.specs.Ledger.{Chaptered, IsDoneLawful, IsTold, Ledgered, closing, standing_in, with_marks}
+use Rattle.phase_away.specs.Copying.{with_answer}
+use Rattle.domain_ledger.specs.Ledger.{Chaptered, IsDoneLawful, IsPhaseLawful, IsTold, Ledgered, answered_in, closing, phase_closing, standing_in, step_in, with_marks}
 use Rattle.domain_ledger.specs.Told.{told_last}
 use Rattle.domain_ledger.specs.declared.ledger.Back.{Back}
 use Rattle.domain_ledger.specs.declared.ledger.Back.TheVariants as back
 use Rattle.domain_ledger.specs.declared.ledger.Entry.{Entry}
 use Rattle.domain_ledger.specs.declared.ledger.Entry.TheVariants as entry
+use Rattle.domain_ledger.specs.declared.phase_out.Step.{Step}
 use Rattle.domain_listeners.specs.Listening.{AreApart, Listening, hears, registrations}
 use Rattle.domain_listeners.specs.Telling.{cuts_due}
 
@@ -80,7 +82,17 @@ pub record IsDoneWith (old : Recorded) (before : List (Mark ℕ)) (n : ℕ) (a :
       Tells old new (before ++ closing s s.job n a) × IsDoneLawful s s.job n a × IsTold s s.job a r
   pub none_away : new.course ≡ None
 
--- after these marks a call is away, and asks this
+-- after these marks the due phase of the operation is done with what this course asked and was answered
+pub record IsPhasedWith (old : Recorded) (before : List (Mark ℕ)) (n : ℕ) (a : Asked) (new : Recorded) (st : Step) : Type 0 where
+  pub told :
+      let s = standing_in (with_marks old.history before) in
+      Tells old new (before ++ phase_closing s s.operation n a) × IsPhaseLawful s s.operation n a
+  pub leads :
+      let h = with_marks old.history before in
+      st ≡ step_in (standing_in (with_marks h (phase_closing (standing_in h) (standing_in h).operation n a))).operation
+  pub none_away : new.course ≡ None
+
+-- after these marks a call, or a phase, is away, and asks this
 pub record IsAsking (old : Recorded) (before : List (Mark ℕ)) (a : Asked) (new : Recorded) (x : Ask) : Type 0 where
   pub marked : HasMarked old new before
   pub listeners : new.listeners ≡ old.listeners
@@ -99,18 +111,19 @@ LetsIn n who c boot old new (entry.Done r) =
 LetsIn n who c boot old new (entry.Away x) =
     (count : ℕ) × IsAsking old (admit_of n who c boot ∷ []) (starved count (first_course (force_of old).state c boot)) new x
 
--- the last ask was answered so: the call is done, or asks somebody next
+-- the last ask was answered so: the call or the phase is done, or asks somebody next
 abbrev pub GoesBack : ℕ → Option Asked → Answer → Recorded → Recorded → Back → Type 0
 GoesBack n None x old new result = ⊥
 GoesBack n (Some a) x old new (back.Done r) = (count : ℕ) × IsDoneWith old [] n (starved count (answered a x)) new r
-GoesBack n (Some a) x old new (back.Away y) = (count : ℕ) × IsAsking old [] (starved count (answered a x)) new y
+GoesBack n (Some a) x old new (back.Away y) = (count : ℕ) × IsAsking old [] (starved count (answered_in (force_of old).job a x)) new y
+GoesBack n (Some a) x old new (back.Phased st) = (count : ℕ) × IsPhasedWith old [] n (starved count (with_answer a x)) new st
 
 -- the registration is of this number, and nothing pends for it
 abbrev pub IsQuietOf : Option Listening → ℕ → Type 0
 IsQuietOf None n = ⊥
 IsQuietOf (Some l) n = (l.kept.number ≡ n) × IsQuiet l.kept
 
--- a call that asks on takes no room
+-- a call, or a phase, that asks on takes no room
 abbrev pub StaysAway : Recorded → Recorded → Back → Type 0
 StaysAway old new (back.Away x) = new.spare ≡ old.spare
-StaysAway old new (back.Done r) = Unit {0}
+StaysAway old new other = Unit {0}

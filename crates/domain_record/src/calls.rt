@@ -48,7 +48,7 @@ pub fn let_in(
     }
 }
 
-/// The ask that the call made last is answered so.
+/// The ask that the call or the phase made last is answered so.
 pub fn back(ledger: &mut Ledger, listeners: &mut Listeners, by: Stamp, answer: Answer) -> Back
     requires held { IsHeld ledger.old listeners.old.listeners }
     requires room { 2 + open_ends (registrations listeners.old.listeners) ≤ ledger.old.spare }
@@ -67,6 +67,11 @@ pub fn back(ledger: &mut Ledger, listeners: &mut Listeners, by: Stamp, answer: A
         Back::Away(ask) => {
             settled(ledger);
             Back::Away(ask)
+        }
+        Back::Phased(step) => {
+            settled(ledger);
+            tell(ledger, listeners);
+            Back::Phased(step)
         }
     }
 }

@@ -6,6 +6,7 @@ mod calls;
 mod chapters;
 mod clients;
 mod ends;
+mod operations;
 mod record;
 mod telling;
 #[cfg(test)]

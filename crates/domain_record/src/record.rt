@@ -9,21 +9,24 @@ ghost use Rattle.domain_spec.specs.Registrations.{registrations_taken};
 ghost use Rattle.domain_spec.specs.Turns.{AllHaveRoom};
 ghost use Rattle.domain_spec.specs.declared.mark.Mark.TheVariants as mark;
 ghost use Rattle.domain_ledger.specs.Away.{WaitsWith};
+ghost use Rattle.domain_history.specs.Closing.{reply_in};
 ghost use Rattle.domain_ledger.specs.Ledger.{MayAnswer};
+ghost use Rattle.domain_ledger.specs.Operations.{IsToldAtEnd, MayPhase};
 ghost use Rattle.domain_listeners.specs.Listening.{AreAllTaken, HandsOut, IsLeastFree, dropped_by, has_client, left_by, listening_of, new_listening, registrations, taken_by};
+ghost use Rattle.domain_record.specs.Operating.{Begins, EntersPhase, TakesUp};
 ghost use Rattle.domain_record.specs.Record.{GoesBack, HasMarked, IsQuietOf, LetsIn, StaysAway, Tells, force_of};
 
-use crate::{calls, chapters, clients, ends};
+use crate::{calls, chapters, clients, ends, operations};
 use domain_history::{LetIn, Underway};
-use domain_ledger::{Back, Entry, Ledger};
+use domain_ledger::{Back, Begun, Entry, Ledger, PhaseEntry};
 use domain_listeners::{Listeners, Taken};
 use domain_spec::HeldJobs;
 use history_spec::Stamp;
 use std::alloc::Global;
 use std::marker::Model;
 use virt_types::{
-    Answer, Call, DomainDef, EndReason, GuestEvent, NoMemory, RefusalCode, State, TransitionList,
-    Who,
+    Answer, Call, DomainDef, EndReason, GuestEvent, NoMemory, RefusalCode, Reply, State,
+    TransitionList, Who,
 };
 
 /// A domain's history with its listeners. After each mark that tells something they hear it, and those that
@@ -94,7 +97,88 @@ impl Record {
         )
     }
 
-    /// The ask that the call made last is answered so. It takes no memory but for the next ask.
+    /// A call that was admitted, and begins an operation, is let in: the operation begins where the call
+    /// passes its tests, else the call is refused. Where there is no memory nothing is left of it.
+    pub fn begin(
+        &mut self,
+        alloc: Global,
+        by: Stamp,
+        who: Who,
+        call: &Call,
+        boot: Option<u64>,
+    ) -> Begun
+        requires room { 3 ≤ self.old.spare }
+        requires begins { is_some (begins call.now) ≡ true }
+        requires lawful { IsLawful (force_of self.old) (mark.Admit by.number who (job_of call.now) call.now boot) }
+        ensures begun { Begins by.number who call.now boot self.old self.new result }
+        ensures spare { self.old.spare ≤ self.new.spare + 3 }
+    {
+        operations::begin(
+            &mut self.ledger,
+            &mut self.listeners,
+            alloc,
+            by,
+            who,
+            call,
+            boot,
+        )
+    }
+
+    /// A call that was admitted, and takes up an operation that rests, is let in: it does where one of its
+    /// kind rests, else it is refused. Where there is no memory nothing is left of it.
+    pub fn take_up(
+        &mut self,
+        alloc: Global,
+        by: Stamp,
+        who: Who,
+        call: &Call,
+        boot: Option<u64>,
+    ) -> Begun
+        requires room { 3 ≤ self.old.spare }
+        requires takes { is_some (takes_up call.now) ≡ true }
+        requires lawful { IsLawful (force_of self.old) (mark.Admit by.number who (job_of call.now) call.now boot) }
+        ensures begun { TakesUp by.number who call.now boot self.old self.new result }
+        ensures spare { self.old.spare ≤ self.new.spare + 3 }
+    {
+        operations::take_up(
+            &mut self.ledger,
+            &mut self.listeners,
+            alloc,
+            by,
+            who,
+            call,
+            boot,
+        )
+    }
+
+    /// The due phase of the open operation is let in: it is done at once, or asks somebody. A want of
+    /// memory for what it asks is its one answer; where there is none even for that nothing is left of
+    /// it, and it may be tried again.
+    pub fn phase(&mut self, alloc: Global, by: Stamp, who: Who) -> PhaseEntry
+        requires room { 3 ≤ self.old.spare }
+        requires may { MayPhase (force_of self.old) (force_of self.old).operation by.number who }
+        ensures phased { EntersPhase by.number who self.old self.new result }
+        ensures spare { self.old.spare ≤ self.new.spare + 3 }
+    {
+        operations::phase(&mut self.ledger, &mut self.listeners, alloc, by, who)
+    }
+
+    /// The operation, which is over, ends with the reply to which its last phase led. Its caller is told
+    /// that; where there is no memory for one more copy of it, it is told so. The mark takes none.
+    pub fn end(&mut self, alloc: Global, by: Stamp, who: Who) -> Reply
+        requires room { 0 < self.old.spare }
+        requires lawful { IsLawful (force_of self.old) (mark.End by.number who (reply_in (force_of self.old).operation)) }
+        ensures marked { HasMarked self.old self.new (mark.End by.number who (reply_in (force_of self.old).operation) ∷ []) }
+        ensures listeners { self.new.listeners ≡ self.old.listeners }
+        ensures told { IsToldAtEnd (reply_in (force_of self.old).operation) result }
+        ensures course { self.new.course ≡ self.old.course }
+        ensures spare { self.new.spare + 1 ≡ self.old.spare }
+    {
+        operations::end(&mut self.ledger, &self.listeners, alloc, by, who)
+    }
+
+    /// The ask that the call or the phase made last is answered so. It takes no memory but for the next
+    /// ask.
     pub fn back(&mut self, by: Stamp, answer: Answer) -> Back
         requires room { 2 ≤ self.old.spare }
         requires may { MayAnswer (force_of self.old) (force_of self.old).job self.old.course by.number answer }

@@ -2,6 +2,7 @@ use Rattle.domain_listeners.specs.Listening.{registrations}
 use Rattle.domain_record.specs.Following.{IsFollowed}
 use Rattle.domain_record.specs.Record.{open_ends}
 use Rattle.domain_record.proofs.Closing.{away_held, back_away, back_done, back_held, back_tell, still_fits}
+use Rattle.domain_record.proofs.Phasing.{back_phase_held, back_phase_tell, back_phased}
 use Rattle.domain_record.proofs.calls.back.Goals as goal
 
 pub tell-requires-clause-legal : goal.tell-requires-clause-legal
@@ -36,3 +37,25 @@ returns-in-Away-clause-held c =
     let a = c.args in
     away_held a.ledger.now.course a.ledger.now c.back.new.self a.listeners.now.listeners a.by.number a.answer c.in-Away.ask c.requires.held c.in-Away.ensures.back
     (still_fits 2 (open_ends (registrations a.listeners.now.listeners)) a.ledger.now.spare c.back.new.self.spare c.requires.room c.back.ensures.spare)
+
+pub tell-requires-in-Phased-clause-legal : goal.tell-requires-in-Phased-clause-legal
+tell-requires-in-Phased-clause-legal c =
+    let a = c.args in
+    back_phase_tell a.ledger.now.course a.ledger.now c.back.new.self a.listeners.now.listeners a.by.number a.answer c.in-Phased.step c.requires.held c.in-Phased.ensures.back c.settled-in-Phased.ensures.lost
+
+pub returns-in-Phased-clause-back : goal.returns-in-Phased-clause-back
+returns-in-Phased-clause-back c =
+    let a = c.args in
+    let by : IsFollowed c.back.new.self c.tell-in-Phased.new.ledger a.listeners.now.listeners c.tell-in-Phased.new.listeners.listeners =
+    record { history = c.tell-in-Phased.ensures.history; course = c.tell-in-Phased.ensures.course; listeners = c.tell-in-Phased.ensures.listeners; spare = c.tell-in-Phased.ensures.spare; legal = c.tell-in-Phased.ensures.settled } in
+    back_phased a.ledger.now.course a.ledger.now c.back.new.self c.tell-in-Phased.new.ledger a.listeners.now.listeners c.tell-in-Phased.new.listeners.listeners a.by.number a.answer c.in-Phased.step c.requires.held
+    c.in-Phased.ensures.back c.settled-in-Phased.ensures.lost by
+
+pub returns-in-Phased-clause-held : goal.returns-in-Phased-clause-held
+returns-in-Phased-clause-held c =
+    let a = c.args in
+    let by : IsFollowed c.back.new.self c.tell-in-Phased.new.ledger a.listeners.now.listeners c.tell-in-Phased.new.listeners.listeners =
+    record { history = c.tell-in-Phased.ensures.history; course = c.tell-in-Phased.ensures.course; listeners = c.tell-in-Phased.ensures.listeners; spare = c.tell-in-Phased.ensures.spare; legal = c.tell-in-Phased.ensures.settled } in
+    back_phase_held a.ledger.now.course a.ledger.now c.back.new.self c.tell-in-Phased.new.ledger a.listeners.now.listeners c.tell-in-Phased.new.listeners.listeners a.by.number a.answer c.in-Phased.step c.requires.held
+    c.in-Phased.ensures.back c.settled-in-Phased.ensures.lost
+    (still_fits 2 (open_ends (registrations a.listeners.now.listeners)) a.ledger.now.spare c.back.new.self.spare c.requires.room c.back.ensures.spare) by

@@ -1,4 +1,4 @@
-use Rattle.std.proofs.Common.{◌≡◌, ◌+◌, ◌≤◌, List, length, ap, sym, subst}
+use Rattle.std.proofs.Common.{◌+◌, ◌≤◌, List, length, subst}
 use Rattle.std.specs.Prelude.{OnOk}
 use Rattle.domain_listeners.specs.Listening.{Listening}
 use Rattle.domain_record.proofs.NextChapter.{enough}

@@ -1,10 +1,9 @@
-use Rattle.std.proofs.Common.{◌≡◌, List, map, ◌∙◌, ap, sym, subst}
+use Rattle.std.proofs.Common.{List, map, ◌∙◌, ap, sym, subst}
 use Rattle.domain_spec.specs.Types.{Transition}
-use Rattle.domain_spec.specs.declared.mark.Mark.{Mark}
 use Rattle.domain_spec.specs.Legal.{IsLegal}
 use Rattle.domain_ledger.specs.Ledger.{standing_in, with_marks}
 use Rattle.domain_ledger.specs.Told.{told_last}
-use Rattle.domain_listeners.specs.Listening.{Registered, cut_mark, hears, registrations}
+use Rattle.domain_listeners.specs.Listening.{Registered, hears, registrations}
 use Rattle.domain_record.specs.Record.{cuts_after}
 use Rattle.domain_record.proofs.Counting.{due_fits, spare_told}
 use Rattle.domain_record.proofs.telling.tell.Goals as goal

@@ -1,5 +1,5 @@
-use Rattle.std.proofs.Common.{List, ap, sym, subst}
-use Rattle.domain_listeners.specs.Listening.{Listening, Registered}
+use Rattle.std.proofs.Common.{sym, subst}
+use Rattle.domain_listeners.specs.Listening.{Registered}
 use Rattle.domain_record.specs.Record.{IsHeld}
 use Rattle.domain_record.proofs.NextChapter.{held_opened}
 use Rattle.domain_record.proofs.record.Record.opened.Goals as goal
