@@ -1,7 +1,8 @@
 -- A call that is answered.
 use Rattle.std.proofs.Common.{◌≡◌, ℕ, ◌+◌, List, [], ◌∷◌, ◌++◌, map, replicate, Bool, true, false, inr, Option, None, Some, if◌then◌else◌, refl, sym, ap, ◌∙◌, subst, append_assoc, append-nil}
-use Rattle.domain_spec.specs.Types.{Answer, Ask, EndReason, Reply}
+use Rattle.domain_spec.specs.Types.{Answer, Ask, EndReason, Job, Reply}
 use Rattle.domain_spec.specs.Types.answer
+use Rattle.domain_spec.specs.Types.job
 use Rattle.domain_spec.specs.declared.core_step.CoreStep.{CoreStep}
 use Rattle.domain_spec.specs.declared.core_step.CoreStep.TheVariants as step
 use Rattle.domain_spec.specs.declared.mark.Mark.{Mark}
@@ -22,7 +23,7 @@ use Rattle.ask_course.specs.Along.{Asked, answered}
 use Rattle.ask_course.specs.Starving.{starved}
 use Rattle.call_turns.proofs.Turned.{starved_find_none}
 use Rattle.domain_ledger.specs.Away.{WaitsWith}
-use Rattle.domain_ledger.specs.Ledger.{Chaptered, closing, standing_in}
+use Rattle.domain_ledger.specs.Ledger.{Chaptered, answered_as, answered_in, closing, standing_in}
 use Rattle.domain_ledger.specs.Told.{told_last}
 use Rattle.domain_listeners.specs.Listening.{registrations}
 use Rattle.domain_listeners.specs.Telling.{cuts_due, is_over, most_of}
@@ -105,14 +106,24 @@ ended_first c n other old new room lost h = none_ended c (step.Back n other) old
 
 -- what was answered in this turn
 
-answers_by : (old : Recorded) (q : Queue) (held : List HeldEvent) (ears : Option (ℕ × ℕ)) (n : ℕ) (a : Asked) (x : Answer) (count : ℕ) → old.course ≡ Some a
-    → AnswersBy (cell_of old q held ears) (step.Back n x) (starved count (answered a x)).answers
-answers_by old q held ears n a x count e = (
+answers_by : (old : Recorded) (q : Queue) (held : List HeldEvent) (ears : Option (ℕ × ℕ)) (n : ℕ) (a b : Asked) (x : Answer) (count : ℕ) → old.course ≡ Some a → b.answers ≡ a.answers ++ x ∷ []
+    → AnswersBy (cell_of old q held ears) (step.Back n x) (starved count b).answers
+answers_by old q held ears n a b x count e is = (
   count,
-  starved_find_none count (answered a x)
+  starved_find_none count b
+      ∙ ap (λ (xs : List Answer). xs ++ replicate count answer.NoMemory) is
       ∙ append_assoc a.answers (x ∷ []) (replicate count answer.NoMemory)
       ∙ ap (λ (o : Option Asked). answers_of o ++ x ∷ replicate count answer.NoMemory) (sym e),
 )
+
+one_more_as : (w : Job) (a : Asked) (x : Answer) → (answered_as w a x).answers ≡ a.answers ++ x ∷ []
+one_more_as job.Nested a x = refl
+one_more_as other a x = refl
+
+-- one answer more, of a call or of a phase
+pub one_more : (j : Option OpenJob) (a : Asked) (x : Answer) → (answered_in j a x).answers ≡ a.answers ++ x ∷ []
+one_more None a x = refl
+one_more (Some j) a x = one_more_as j.job a x
 
 -- the call is done, and the held events apply
 
@@ -132,7 +143,7 @@ back_done old mid done new q held ears n a x count r can away ended is applied s
     let left : List (Mark ℕ) = ended.left ++ (closed ++ applied.left) in
     let goes : Goes c t old new left =
     goes_more c t old mid new ended.left (closed ++ applied.left) ended.goes
-    (goes_more c t mid done new closed applied.left (goes_done c t mid done n b r at (answers_by old q held ears n a x count away)) applied.goes) in
+    (goes_more c t mid done new closed applied.left (goes_done c t mid done n b r at (answers_by old q held ears n a (answered a x) x count away refl)) applied.goes) in
     let marked = goes.marked in
     let none : (force_of new).job ≡ None = applied.open_stays.0 in
     let there : force_of new ≡ standing (force_of old) left = force_after old new left marked in
@@ -179,13 +190,13 @@ open_by s (Some j) a o e h = (j, refl)
 
 pub back_away : (old mid new : Recorded) (q : Queue) (held : List HeldEvent) (ears : Option (ℕ × ℕ)) (n : ℕ) (a : Asked) (x : Answer) (count : ℕ) (y : Ask)
     → CanTake (cell_of old q held ears) (step.Back n x) → old.course ≡ Some a → BootEnded (cell_of old q held ears) (step.Back n x) old mid
-    → IsAsking mid [] (starved count (answered a x)) new y → IsSettled new
+    → IsAsking mid [] (starved count (answered_in (force_of mid).job a x)) new y → IsSettled new
     → (left : List (Mark ℕ)) × HasTurned (turning old q held ears) (turning new q held ears) (step.Back n x) left × (events_in left ≡ [])
 unfolding standing_in
 back_away old mid new q held ears n a x count y can away ended is settled =
     let c : Cell = cell_of old q held ears in
     let t = step.Back n x in
-    let b : Asked = starved count (answered a x) in
+    let b : Asked = starved count (answered_in (force_of mid).job a x) in
     let left : List (Mark ℕ) = ended.left ++ [] in
     let goes : Goes c t old new left = goes_more c t old mid new ended.left [] ended.goes (record { marked = is.marked; goes = λ more go. go }) in
     let marked = goes.marked in
@@ -209,7 +220,7 @@ back_away old mid new q held ears n a x count y can away ended is settled =
           registrations = marked.kept;
           answers =
               subst (λ (j : Option OpenJob). AnswersAfter c t left j (answers_of new.course)) (sym job)
-              (subst (λ (o : Option Asked). AnswersBy c t (answers_of o)) (sym is.away) (answers_by old q held ears n a x count away));
+              (subst (λ (o : Option Asked). AnswersBy c t (answers_of o)) (sym is.away) (answers_by old q held ears n a (answered_in (force_of mid).job a x) x count away (one_more (force_of mid).job a x)));
           away = waits new q held ears settled.waits;
           held = sym (ap (λ (j : Option OpenJob). held_by c t (force_of new) j) job);
           queue = refl;

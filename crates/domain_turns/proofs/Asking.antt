@@ -1,13 +1,16 @@
 -- What an open call asks last, as its share has it.
-use Rattle.std.proofs.Common.{◌≡◌, ℕ, ◌==◌, List, [], ◌∷◌, ◌++◌, take, Bool, true, false, Option, None, Some, if◌then◌else◌, refl, sym, ap, ◌∙◌, subst, arith}
+use Rattle.std.proofs.Common.{◌≡◌, ◌⊎◌, inl, inr, ℕ, ◌==◌, List, [], ◌∷◌, ◌++◌, take, Bool, true, false, Option, None, Some, if◌then◌else◌, refl, sym, ap, ◌∙◌, subst, arith}
 use Rattle.std.proofs.lemmas.Bool.Decides.{nat_tests}
 use Rattle.domain_spec.specs.Types.{Answer, Ask, Call, Job, State}
 use Rattle.domain_spec.specs.Types.call
 use Rattle.domain_spec.specs.declared.open.OpenJob.{OpenJob}
+use Rattle.domain_spec.specs.declared.open.OpenOperation.{OpenOperation}
 use Rattle.domain_spec.specs.declared.standing.Standing.{Standing}
 use Rattle.domain_spec.specs.Asks.{asks_left, asks_made}
 use Rattle.domain_spec.specs.Call.{job_of}
-use Rattle.domain_spec.specs.Cell.{HeldEvent, Queue, asks_so_far, call_asks, call_of, planned_at, share_of}
+use Rattle.domain_spec.specs.Cell.{HeldEvent, Queue, asks_so_far, call_asks, call_of, phase_asks, planned_at, share_of}
+use Rattle.domain_spec.specs.Phase.{phase_asked, phase_still_asked, plan_in}
+use Rattle.domain_spec.specs.Reading.{carries_ended}
 use Rattle.domain_spec.specs.Sequential.{asked, still_asked}
 use Rattle.core_rules.specs.declared.next.Next.TheVariants as next
 use Rattle.core_rules.specs.Next.{next_of}
@@ -15,7 +18,9 @@ use Rattle.ask_course.specs.Along.{Asked}
 use Rattle.ask_course.specs.Starving.{next_in}
 use Rattle.call_away.specs.Away.{IsAway}
 use Rattle.call_away.proofs.Planning.{asked_planned, still_planned}
-use Rattle.domain_ledger.specs.Away.{WaitsWith}
+use Rattle.phase_away.specs.PhaseAway.{IsPhaseAway}
+use Rattle.phase_away.proofs.Keeping.{is_there}
+use Rattle.domain_ledger.specs.Away.{IsPhaseWaiting, WaitsWith}
 use Rattle.domain_ledger.specs.Ledger.{standing_in}
 use Rattle.domain_record.specs.Record.{Recorded, force_of}
 use Rattle.domain_turns.specs.Turning.{AsksLast, answers_of, cell_of}
@@ -39,6 +44,36 @@ asks_are s j a x away asks =
     ∙ ap (λ (xs : List Ask). asks_made a.plan a.answers ++ take 1 xs) left_so
     ∙ ap (λ (xs : List Ask). asks_made a.plan a.answers ++ xs) (first_left (asks_left a.plan a.answers) x asks)
 
+asked_live : (ended : Bool) (asks : List Ask) → ended ≡ false → (if ended then [] else asks) ≡ asks
+asked_live true asks e = cc
+asked_live false asks e = refl
+
+-- the same of a phase
+phase_asks_are : (s : Standing) (j : OpenJob) (o : OpenOperation) (a : Asked) (x : Ask) → s.operation ≡ Some o → IsPhaseAway s.state o j a → next_in a ≡ next.Ask x
+    → asks_so_far s j.job j a.answers ≡ asks_made a.plan a.answers ++ x ∷ []
+phase_asks_are s j o a x op away asks =
+    let at : State = planned_at s.state j in
+    let live : carries_ended at o.boot ≡ false = is_there at o.boot away.boot away.was_live away.operated in
+    let made_so : phase_asked at o a.answers ≡ asks_made a.plan a.answers =
+    asked_live (carries_ended at o.boot) (asks_made (plan_in at o.call a.answers) a.answers) live ∙ sym (ap (λ (p : _). asks_made p a.answers) away.plan) in
+    let left_so : phase_still_asked at o a.answers ≡ asks_left a.plan a.answers =
+    asked_live (carries_ended at o.boot) (asks_left (plan_in at o.call a.answers) a.answers) live ∙ sym (ap (λ (p : _). asks_left p a.answers) away.plan) in
+    ap (λ (w : Job). asks_so_far s w j a.answers) away.nested.nested
+    ∙ ap (λ (q : Option OpenOperation). phase_asks at q a.answers) op
+    ∙ ap (λ (xs : List Ask). xs ++ take 1 (phase_still_asked at o a.answers)) made_so
+    ∙ ap (λ (xs : List Ask). asks_made a.plan a.answers ++ take 1 xs) left_so
+    ∙ ap (λ (xs : List Ask). asks_made a.plan a.answers ++ xs) (first_left (asks_left a.plan a.answers) x asks)
+
+waiting_asks : (s : Standing) (j : OpenJob) (o : Option OpenOperation) (a : Asked) (x : Ask) → s.operation ≡ o → IsPhaseWaiting s.state o j a → next_in a ≡ next.Ask x
+    → asks_so_far s j.job j a.answers ≡ asks_made a.plan a.answers ++ x ∷ []
+waiting_asks s j None a x op h asks = absurd h
+waiting_asks s j (Some o) a x op h asks = phase_asks_are s j o a x op h asks
+
+any_asks : (s : Standing) (j : OpenJob) (a : Asked) (x : Ask) → IsAway s.state s.operation j a ⊎ IsPhaseWaiting s.state s.operation j a → next_in a ≡ next.Ask x
+    → asks_so_far s j.job j a.answers ≡ asks_made a.plan a.answers ++ x ∷ []
+any_asks s j a x (inl h) asks = asks_are s j a x h asks
+any_asks s j a x (inr h) asks = waiting_asks s j s.operation a x refl h asks
+
 same_number : (b : Bool) (m n : ℕ) → m ≡ n → (m == n) ≡ b → b ≡ true
 same_number true m n e f = refl
 same_number false m n e f = grind (arith, nat_tests, e, f)
@@ -52,7 +87,7 @@ asks_by s (Some j) k (Some b) a x n is numbered away waits asks =
     let course : b ≡ a = cc in
     let same_one : (j.number == n) ≡ true = same_number (j.number == n) j.number n (ap (λ (y : OpenJob). y.number) same ∙ numbered) refl in
     subst (λ (t : Bool). AsksLast (if t then Some (record { job = j; asks = asks_so_far s j.job j b.answers; answers = b.answers }) else None) x) (sym same_one)
-    (asks_made b.plan b.answers, asks_are s j b x waits (ap next_in course ∙ asks))
+    (asks_made b.plan b.answers, any_asks s j b x waits (ap next_in course ∙ asks))
 
 pub asks_last : (r : Recorded) (q : Queue) (held : List HeldEvent) (ears : Option (ℕ × ℕ)) (k : OpenJob) (a : Asked) (x : Ask) (n : ℕ) → (force_of r).job ≡ Some k → k.number ≡ n → r.course ≡ Some a
     → WaitsWith (force_of r) (force_of r).job r.course → next_in a ≡ next.Ask x → AsksLast (share_of (cell_of r q held ears) n).call x

@@ -8,6 +8,7 @@ use Rattle.domain_spec.specs.Cell.{HeldEvent, Queue}
 use Rattle.domain_spec.specs.Turns.{AllHaveRoom}
 use Rattle.ask_course.specs.Along.{Asked, answered}
 use Rattle.ask_course.specs.Starving.{starved}
+use Rattle.domain_ledger.specs.Ledger.{answered_in}
 use Rattle.domain_ledger.specs.declared.ledger.Back.{Back}
 use Rattle.domain_ledger.specs.declared.ledger.Back.TheVariants as back
 use Rattle.domain_listeners.specs.Listening.{registrations}
@@ -39,14 +40,15 @@ goes_by (Some a) old new q held ears n x (back.Away y) can away room was settled
     let c = cell_of old q held ears in
     let ended = ended_first c n x old h.0 room was.lost h.1 in
     let turned = back_away old h.0 new q held ears n a x h.2 y can away ended h.3 settled in
-    let open_one = open_by (force_of new) (force_of new).job (starved h.2 (answered a x)) new.course h.3.away settled.waits in (
+    let open_one = open_by (force_of new) (force_of new).job (starved h.2 (answered_in (force_of h.0).job a x)) new.course h.3.away settled.waits in (
       turned.0,
       turned.1,
       (
         turned.2,
-        asks_last new q held ears open_one.0 (starved h.2 (answered a x)) y n open_one.1 (numbered_of (force_of new).job open_one.0 n open_one.1 h.4) h.3.away settled.waits h.3.asks,
+        asks_last new q held ears open_one.0 (starved h.2 (answered_in (force_of h.0).job a x)) y n open_one.1 (numbered_of (force_of new).job open_one.0 n open_one.1 h.4) h.3.away settled.waits h.3.asks,
       ),
     )
+goes_by (Some a) old new q held ears n x (back.Phased st) can away room was settled h = absurd h
 
 pub goes_back : AnswersAreTurns
 goes_back old new q held ears n x left can room was settled h = goes_by old.course old new q held ears n x left can refl room was settled h

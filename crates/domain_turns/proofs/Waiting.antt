@@ -1,15 +1,24 @@
 -- A call that is away waits for an answer in its cell.
-use Rattle.std.proofs.Common.{◌≡◌, ℕ, List, Option, None, Some, refl, ap, subst}
+use Rattle.std.proofs.Common.{◌≡◌, ℕ, List, Option, None, Some, inl, inr, refl, ap, subst}
 use Rattle.domain_spec.specs.declared.open.OpenJob.{OpenJob}
+use Rattle.domain_spec.specs.declared.open.OpenOperation.{OpenOperation}
 use Rattle.domain_spec.specs.declared.standing.Standing.{Standing}
 use Rattle.domain_spec.specs.CanTake.{WaitsForAnswer}
 use Rattle.domain_spec.specs.Cell.{HeldEvent, Queue}
 use Rattle.ask_course.specs.Along.{Asked}
 use Rattle.call_turns.proofs.Turned.{away_waits}
-use Rattle.domain_ledger.specs.Away.{WaitsWith}
+use Rattle.phase_turns.proofs.Operated.{away_phase_waits}
+use Rattle.domain_ledger.specs.Away.{IsPhaseWaiting, WaitsWith}
 use Rattle.domain_ledger.specs.Ledger.{standing_in}
 use Rattle.domain_record.specs.Record.{Recorded, force_of}
 use Rattle.domain_turns.specs.Turning.{answers_of, cell_of}
+
+phase_waits : (r : Recorded) (q : Queue) (held : List HeldEvent) (ears : Option (ℕ × ℕ)) (j : OpenJob) (a : Asked) (o : Option OpenOperation)
+    → (force_of r).operation ≡ o → (force_of r).job ≡ Some j → r.course ≡ Some a → IsPhaseWaiting (force_of r).state o j a → WaitsForAnswer (cell_of r q held ears) (Some j)
+unfolding standing_in
+phase_waits r q held ears j a None at is e h = absurd h
+phase_waits r q held ears j a (Some o) at is e h =
+    subst (λ (x : Option OpenJob). WaitsForAnswer (cell_of r q held ears) x) is (away_phase_waits (cell_of r q held ears) j o a is at h (ap answers_of e))
 
 waits_by : (r : Recorded) (q : Queue) (held : List HeldEvent) (ears : Option (ℕ × ℕ)) (j : Option OpenJob) (a : Option Asked)
     → (force_of r).job ≡ j → r.course ≡ a → WaitsWith (force_of r) j a → WaitsForAnswer (cell_of r q held ears) j
@@ -17,7 +26,8 @@ unfolding standing_in
 waits_by r q held ears None None is e h = tt
 waits_by r q held ears None (Some a) is e h = absurd h
 waits_by r q held ears (Some j) None is e h = absurd h
-waits_by r q held ears (Some j) (Some a) is e h =
+waits_by r q held ears (Some j) (Some a) is e (inr h) = phase_waits r q held ears j a (force_of r).operation refl is e h
+waits_by r q held ears (Some j) (Some a) is e (inl h) =
     subst (λ (x : Option OpenJob). WaitsForAnswer (cell_of r q held ears) x) is (away_waits (cell_of r q held ears) j a is h (ap answers_of e))
 
 pub waits : (r : Recorded) (q : Queue) (held : List HeldEvent) (ears : Option (ℕ × ℕ)) → WaitsWith (force_of r) (force_of r).job r.course → WaitsForAnswer (cell_of r q held ears) (force_of r).job

@@ -11,6 +11,7 @@ use Rattle.domain_spec.specs.Kept.{events_in}
 use Rattle.ask_course.specs.Along.{Asked, answered}
 use Rattle.ask_course.specs.Starving.{starved}
 use Rattle.call_away.specs.Away.{IsUnsent}
+use Rattle.domain_ledger.specs.Ledger.{answered_in}
 use Rattle.domain_ledger.specs.declared.ledger.Back.{Back}
 use Rattle.domain_ledger.specs.declared.ledger.Back.TheVariants as back
 use Rattle.domain_record.specs.Record.{IsAsking, IsDoneWith, Recorded, force_of}
@@ -29,25 +30,29 @@ abbrev pub IsNumbered : Option OpenJob → ℕ → Type 0
 IsNumbered None n = ⊥
 IsNumbered (Some j) n = n ≡ j.number
 
--- the answer that a boot has ended marks its end; then the call is done and the held events apply, or it asks on
+-- the answer that a boot has ended marks its end; then the call is done and the held events apply, or it asks on; no
+-- phase is done in such a turn of a call
 abbrev pub Answers : ℕ → Option Asked → Answer → List HeldEvent → Recorded → Recorded → Back → Type 0
 Answers n None x held old new result = ⊥
 Answers n (Some a) x held old new (back.Done r) =
     (mid : Recorded) × EndsFirst x old mid × (count : ℕ) × (done : Recorded) × IsDoneWith mid [] n (starved count (answered a x)) done r × IsSettled done × Applies held done new
 Answers n (Some a) x held old new (back.Away y) =
-    (mid : Recorded) × EndsFirst x old mid × (count : ℕ) × IsAsking mid [] (starved count (answered a x)) new y × IsNumbered (force_of new).job n
+    (mid : Recorded) × EndsFirst x old mid × (count : ℕ) × IsAsking mid [] (starved count (answered_in (force_of mid).job a x)) new y × IsNumbered (force_of new).job n
+Answers n (Some a) x held old new (back.Phased st) = ⊥
 
 -- a call that asks on keeps its rooms
 abbrev pub KeepsRooms : Back → ℕ → ℕ → Type 0
 KeepsRooms (back.Done r) before after = Unit {0}
 KeepsRooms (back.Away y) before after = after ≡ before
+KeepsRooms (back.Phased st) before after = ⊥
 
 -- once the call is done nothing is held any more
 abbrev pub held_after : Back → List HeldEvent → List HeldEvent
 held_after (back.Done r) held = []
-held_after (back.Away y) held = held
+held_after other held = held
 
 -- what the turn of an answer comes to
 abbrev pub GoesBack : ℕ → Answer → Turning → Turning → Back → Type 0
 GoesBack n x old new (back.Done r) = Takes old new (step.Back n x) (HasDone n r)
 GoesBack n x old new (back.Away y) = Takes old new (step.Back n x) (λ left. (events_in left ≡ []) × AsksLast (share_of new.cell n).call y)
+GoesBack n x old new (back.Phased st) = ⊥
