@@ -33,7 +33,7 @@ use Rattle.domain_history.proofs.Standing.{one_more}
 use Rattle.domain_spec.proofs.LawProofs.{standing-append}
 use Rattle.domain_ledger.specs.Away.{HasRooms, IsKept, IsOut}
 use Rattle.domain_ledger.specs.Ledger.{CanAnswer, Chaptered, IsClosed, IsDoneLawful, IsTold, MayAnswer, admitted, closing, done_by, loss, standing_in, with_marks}
-use Rattle.domain_ledger.specs.Turn.{CanGoOn, LeadsTo, TurnsTo, force_in, is_over, shown}
+use Rattle.domain_ledger.specs.Turn.{CanGoOn, LeadsTo, StaysAway, TurnsTo, force_in, is_over, shown}
 use Rattle.domain_ledger.specs.declared.turns.Turn.{Turn}
 use Rattle.domain_ledger.specs.declared.turns.Turn.TheVariants as turn
 use Rattle.domain_ledger.specs.declared.away.Away.{Away}
@@ -270,3 +270,8 @@ pub stays_out : (s : Standing) (w : Away) (n : ℕ) (x : Answer) → IsOut s s.j
     → (count : ℕ) (y : Ask) → AreAsks count (answered w.course x) → next_in (starved count (answered w.course x)) ≡ next.Ask y
     → IsOut s s.job (Some (record w { course = starved count (answered w.course x) }))
 stays_out s w n x out may over count y asks waits = out_by s s.job w n x count y out may over asks waits
+
+-- a call that asks on takes no room
+pub asks_on : (old new : HistoryWithRoom) (by : Stamp) (w : Away) (t : Turn) → TurnsTo by w old new t → StaysAway old new t
+asks_on old new by w (turn.Away v x) h = ap (λ (c : HistoryWithRoom). c.spare) h.4
+asks_on old new by w (turn.Done r) h = tt

@@ -2,6 +2,7 @@
 use Rattle.std.specs.Prelude.{◌≡◌, ◌≤◌, ◌<◌, [], Option, None, Some}
 use Rattle.domain_spec.specs.declared.open.OpenJob.{OpenJob}
 use Rattle.domain_spec.specs.declared.standing.Standing.{Standing}
+use Rattle.ask_course.specs.Along.{Asked}
 use Rattle.call_away.specs.Away.{IsAway}
 use Rattle.domain_driver.specs.Fits.{FitsCall}
 use Rattle.domain_ledger.specs.declared.away.Away.{Away}
@@ -24,3 +25,9 @@ abbrev pub IsOut : Standing → Option OpenJob → Option Away → Type 0
 IsOut s None None = Unit {0}
 IsOut s (Some j) (Some w) = IsKept s j w
 IsOut s j w = ⊥
+
+-- what contracts see of that: the course of the call that is away
+abbrev pub WaitsWith : Standing → Option OpenJob → Option Asked → Type 0
+WaitsWith s None None = Unit {0}
+WaitsWith s (Some j) (Some a) = IsAway s.state s.operation j a
+WaitsWith s j a = ⊥

@@ -114,3 +114,8 @@ GoesBack n None x old new result = ⊥
 GoesBack n (Some a) x old new (back.Done r) =
     (count : ℕ) × IsClosed old.history n (starved count (answered a x)) new.history r × (new.course ≡ None)
 GoesBack n (Some a) x old new (back.Away y) = (count : ℕ) × IsAsking old.history (starved count (answered a x)) new y
+
+-- a call that asks on takes no room
+abbrev pub StaysAway : Ledgered → Ledgered → Back → Type 0
+StaysAway old new (back.Away x) = new.spare ≡ old.spare
+StaysAway old new (back.Done r) = Unit {0}

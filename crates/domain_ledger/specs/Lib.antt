@@ -1,3 +1,4 @@
 pub mod Away
 pub mod Ledger
+pub mod Told
 pub mod Turn

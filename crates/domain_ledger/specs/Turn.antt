@@ -71,3 +71,8 @@ Resumes n a x old new t = (count : ℕ) × LeadsTo (shown old) n (starved count 
 abbrev pub is_over : Standing → Option OpenJob → Bool
 is_over s None = false
 is_over s (Some j) = meets_ended s.state j.call j.boot
+
+-- a call that asks on takes no room
+abbrev pub StaysAway : HistoryWithRoom → HistoryWithRoom → Turn → Type 0
+StaysAway old new (turn.Away v x) = new.spare ≡ old.spare
+StaysAway old new (turn.Done r) = Unit {0}

@@ -1,19 +1,22 @@
 // A domain's history with the call that is away.
-ghost use Rattle.std.specs.Prelude.{◌≡◌, ◌≤◌, ◌<◌, ◌+◌, ◌^◌, ◌∷◌, [], IfOk, None, OnErr, OnOk, length, true};
+ghost use Rattle.std.specs.Prelude.{◌≡◌, ◌≤◌, ◌<◌, ◌+◌, ◌-◌, ◌^◌, ◌∷◌, [], IfOk, None, OnErr, OnOk, is_some, length, slice_get, true};
 ghost use Rattle.domain_spec.specs.Call.{begins, job_of, takes_up};
 ghost use Rattle.domain_spec.specs.Chapter.{first_base, next_base};
 ghost use Rattle.domain_spec.specs.Exit.{event_transitions, exit_transitions};
-ghost use Rattle.domain_spec.specs.Legal.{IsLawful};
+ghost use Rattle.domain_spec.specs.Fold.{at_base};
+ghost use Rattle.domain_spec.specs.Legal.{IsLawful, IsLegal};
 ghost use Rattle.domain_spec.specs.Reading.{is_live};
 ghost use Rattle.domain_spec.specs.declared.mark.Mark.TheVariants as mark;
-ghost use Rattle.domain_ledger.specs.Ledger.{GoesBack, LetsIn, MayAnswer, now_in, with_marks};
+ghost use Rattle.domain_ledger.specs.Away.{WaitsWith};
+ghost use Rattle.domain_ledger.specs.Told.{told_last, told_of};
+ghost use Rattle.domain_ledger.specs.Ledger.{GoesBack, LetsIn, MayAnswer, StaysAway, now_in, with_marks};
 ghost use Rattle.domain_ledger.specs.Turn.{force_in};
 ghost use Rattle.domain_tidy.specs.Tidy.{IsTidy};
 
 use crate::away::{Away, prepare};
 use crate::turns::{Turn, enter, resume};
 use domain_history::{Chapter, KeptRegistration, LetIn, Underway};
-use domain_spec::HeldJobs;
+use domain_spec::{HeldJobs, Mark};
 use domain_state::exit_event;
 use history_spec::Stamp;
 use std::alloc::Global;
@@ -21,7 +24,7 @@ use std::marker::Model;
 use std::mem;
 use virt_types::{
     Answer, Ask, Call, DomainDef, EndReason, GuestEvent, ListOf, NoMemory, RefusalCode, Reply,
-    State, TransitionList, Who,
+    State, Transition, TransitionList, Who,
 };
 
 /// What became of a call that was admitted.
@@ -79,6 +82,21 @@ fn set(slot: &mut Option<Away>, away: Option<Away>)
     ensures { slot.new ≡ away }
 {
     drop(mem::replace(slot, away));
+}
+
+// What listeners are told by the last of these marks.
+fn told_by(marks: &[Mark<Stamp>]) -> &[Transition]
+    ensures { result.now ≡ told_of (slice_get marks.now (length marks.now - 1)) }
+{
+    match marks.last() {
+        Some(
+            Mark::Done { transitions, .. }
+            | Mark::Phase { transitions, .. }
+            | Mark::Exit { transitions, .. }
+            | Mark::Event { transitions, .. },
+        ) => transitions.as_slice(),
+        _ => &[],
+    }
 }
 
 impl Ledger {
@@ -143,6 +161,7 @@ impl Ledger {
         requires may { MayAnswer (now_in self.old) (now_in self.old).job self.old.course by.number answer }
         ensures back { GoesBack by.number self.old.course answer self.old self.new result }
         ensures spare { self.old.spare ≤ self.new.spare + 2 }
+        ensures stays { StaysAway self.old self.new result }
     {
         settled(&self.chapter);
         match self.away.take() {
@@ -303,5 +322,21 @@ impl Ledger {
         ensures { result ≡ length self.now.history.marks }
     {
         self.chapter.len()
+    }
+
+    /// Whether a call is away. Between two turns a call is open exactly where it is.
+    pub fn is_away(&self) -> bool
+        ensures value { result ≡ is_some self.now.course }
+        ensures waits { WaitsWith (now_in self.now) (now_in self.now).job self.now.course }
+    {
+        self.away.is_some()
+    }
+
+    /// What listeners are told by the last mark. The marks are a legal history.
+    pub fn told(&self) -> &[Transition]
+        ensures told { result.now ≡ told_last self.now.history.marks }
+        ensures legal { IsLegal (at_base self.now.history.base) self.now.history.marks }
+    {
+        told_by(self.chapter.marks())
     }
 }

@@ -7,3 +7,4 @@ mod ledger;
 mod turns;
 
 pub use ledger::{Back, Entry, Ledger};
+pub use turns::job_of;

@@ -7,7 +7,7 @@ ghost use Rattle.call_away.specs.AwayLaws.{made};
 ghost use Rattle.domain_history.specs.Closing.{CanDo, done_in, told_in};
 ghost use Rattle.domain_ledger.specs.Away.{HasRooms, IsOut};
 ghost use Rattle.domain_ledger.specs.Ledger.{MayAnswer};
-ghost use Rattle.domain_ledger.specs.Turn.{CanGoOn, Enters, IsReady, Resumes, TurnsTo, force_in, is_over};
+ghost use Rattle.domain_ledger.specs.Turn.{CanGoOn, Enters, IsReady, Resumes, StaysAway, TurnsTo, force_in, is_over};
 
 use crate::away::{Away, Ready};
 use core_rules::meets_ended;
@@ -24,8 +24,8 @@ pub enum Turn {
     Done(Reply),
 }
 
-// The job that a call takes.
-fn job_of(call: &Call) -> Job
+/// The job that a call takes.
+pub fn job_of(call: &Call) -> Job
     ensures { result ≡ job_of call.now }
 {
     match call {
@@ -113,6 +113,7 @@ pub fn resume(chapter: &mut Chapter, by: Stamp, away: Away, answer: Answer) -> T
     requires may { MayAnswer (force_in chapter.old) (force_in chapter.old).job (Some away.course) by.number answer }
     ensures turn { Resumes by.number away.course answer chapter.old chapter.new result }
     ensures spare { chapter.old.spare ≤ chapter.new.spare + 2 }
+    ensures stays { StaysAway chapter.old chapter.new result }
 {
     let mut away = away;
     away.course.answer(answer);

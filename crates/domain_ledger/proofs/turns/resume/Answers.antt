@@ -7,7 +7,7 @@ use Rattle.call_away.specs.AwayLaws.{made}
 use Rattle.domain_history.specs.Closing.{CanDo}
 use Rattle.domain_ledger.specs.Away.{IsOut}
 use Rattle.domain_ledger.specs.Turn.{CanGoOn, force_in, is_over, shown}
-use Rattle.domain_ledger.proofs.Histories.{can_end, can_go_on, closes, stays_out, turns_to, waits}
+use Rattle.domain_ledger.proofs.Histories.{can_end, can_go_on, asks_on, closes, stays_out, turns_to, waits}
 use Rattle.domain_ledger.proofs.turns.resume.Goals as goal
 
 pub answer-requires : goal.answer-requires
@@ -52,3 +52,8 @@ returns-else-is_over-clause-turn c =
     (stays_out s a.away a.by.number a.answer c.requires.out c.requires.may over) in
     turns_to a.chapter.now c.go_on.new.chapter (shown a.chapter.now) a.by a.by.number (record a.away { course = c.answer.new.self }) c.go_on.result
     (λ (count : ℕ). starved count (answered a.away.course a.answer)) can out refl refl (λ (count : ℕ). ap (λ (x : Asked). starved count x) c.answer.ensures) c.go_on.ensures.turn
+
+pub returns-else-is_over-clause-stays : goal.returns-else-is_over-clause-stays
+returns-else-is_over-clause-stays c =
+    let a = c.args in
+    asks_on a.chapter.now c.go_on.new.chapter a.by (record a.away { course = c.answer.new.self }) c.go_on.result c.go_on.ensures.turn
