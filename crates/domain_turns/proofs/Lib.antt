@@ -1,0 +1,10 @@
+pub mod Answered
+pub mod Applied
+pub mod Asking
+pub mod Backs
+pub mod Going
+pub mod Idling
+pub mod LookedAt
+pub mod Looks
+pub mod Marks
+pub mod Waiting

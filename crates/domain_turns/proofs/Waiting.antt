@@ -1,0 +1,33 @@
+-- A call that is away waits for an answer in its cell.
+use Rattle.std.proofs.Common.{◌≡◌, ℕ, List, Option, None, Some, refl, ap, subst}
+use Rattle.domain_spec.specs.declared.open.OpenJob.{OpenJob}
+use Rattle.domain_spec.specs.declared.standing.Standing.{Standing}
+use Rattle.domain_spec.specs.CanTake.{WaitsForAnswer}
+use Rattle.domain_spec.specs.Cell.{HeldEvent, Queue}
+use Rattle.ask_course.specs.Along.{Asked}
+use Rattle.call_turns.proofs.Turned.{away_waits}
+use Rattle.domain_ledger.specs.Away.{WaitsWith}
+use Rattle.domain_ledger.specs.Ledger.{standing_in}
+use Rattle.domain_record.specs.Record.{Recorded, force_of}
+use Rattle.domain_turns.specs.Turning.{answers_of, cell_of}
+
+waits_by : (r : Recorded) (q : Queue) (held : List HeldEvent) (ears : Option (ℕ × ℕ)) (j : Option OpenJob) (a : Option Asked)
+    → (force_of r).job ≡ j → r.course ≡ a → WaitsWith (force_of r) j a → WaitsForAnswer (cell_of r q held ears) j
+unfolding standing_in
+waits_by r q held ears None None is e h = tt
+waits_by r q held ears None (Some a) is e h = absurd h
+waits_by r q held ears (Some j) None is e h = absurd h
+waits_by r q held ears (Some j) (Some a) is e h =
+    subst (λ (x : Option OpenJob). WaitsForAnswer (cell_of r q held ears) x) is (away_waits (cell_of r q held ears) j a is h (ap answers_of e))
+
+pub waits : (r : Recorded) (q : Queue) (held : List HeldEvent) (ears : Option (ℕ × ℕ)) → WaitsWith (force_of r) (force_of r).job r.course → WaitsForAnswer (cell_of r q held ears) (force_of r).job
+waits r q held ears h = waits_by r q held ears (force_of r).job r.course refl refl h
+
+none_by : (s : Standing) (j : Option OpenJob) (a : Option Asked) → a ≡ None → WaitsWith s j a → j ≡ None
+none_by s None a e h = refl
+none_by s (Some j) None e h = absurd h
+none_by s (Some j) (Some a) e h = cc
+
+-- no call is open where none is away
+pub none_open : (r : Recorded) → r.course ≡ None → WaitsWith (force_of r) (force_of r).job r.course → (force_of r).job ≡ None
+none_open r e h = none_by (force_of r) (force_of r).job r.course e h

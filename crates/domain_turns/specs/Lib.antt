@@ -1,0 +1,6 @@
+pub mod Answering
+pub mod Applying
+pub mod Ending
+pub mod Looking
+pub mod TurnLaws
+pub mod Turning
