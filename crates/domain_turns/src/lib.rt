@@ -1,9 +1,12 @@
-//! Why what a domain's history with its listeners leaves of a call is one step of the domain's cell: laws of
-//! the definitions.
+//! The turns of a domain, over its history with its listeners, who waits for it, and what is held: each is one
+//! step of the domain, and leaves what that step may leave.
 #![tactic(auto)]
 
+mod held;
+mod jobs;
 mod laws;
 mod looking;
 
+pub use held::{HeldEvent, OneRoom};
 pub use laws::{answers_are_turns, looks_are_turns};
-pub use looking::Looked;
+pub use looking::{Looked, look};

@@ -1,0 +1,30 @@
+-- The room that makes later turns free of memory, and what else holds between two turns.
+use Rattle.std.specs.Prelude.{◌≤◌, ℕ, ◌+◌, List, length, Option, None, Some}
+use Rattle.domain_spec.specs.Cell.{HeldEvent}
+use Rattle.domain_spec.specs.Fold.{at_base}
+use Rattle.domain_spec.specs.Laws.{IsCounted}
+use Rattle.ask_course.specs.Along.{Asked}
+use Rattle.domain_record.specs.Record.{Recorded, force_of}
+use Rattle.domain_turns.specs.Turning.{FitsJob}
+
+-- the marks that a call that is away may need: its Done, and the end of a boot that was lost
+abbrev pub marks_needed : Option Asked → ℕ
+marks_needed None = 0
+marks_needed (Some a) = 2
+
+-- the room that a call that is away may need, for the end of its boot
+abbrev pub rooms_needed : Option Asked → ℕ
+rooms_needed None = 0
+rooms_needed (Some a) = 1
+
+-- there is room for what may come: each room is for one mark of a guest
+pub record HasRooms (r : Recorded) (held : List HeldEvent) (rooms : ℕ) : Type 0 where
+  pub marks : marks_needed r.course + rooms ≤ r.spare
+  pub enough : length held + rooms_needed r.course ≤ rooms
+  pub few : rooms ≤ 64
+
+-- what holds between two turns
+pub record IsKept (r : Recorded) (held : List HeldEvent) (rooms : ℕ) : Type 0 where
+  pub fits : FitsJob (force_of r).job held
+  pub counted : IsCounted (at_base r.history.base)
+  pub has_rooms : HasRooms r held rooms

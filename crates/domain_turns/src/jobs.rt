@@ -1,0 +1,21 @@
+// The jobs that are held for a domain, as a call finds them.
+ghost use Rattle.std.specs.Prelude.{◌≡◌, []};
+ghost use Rattle.domain_spec.specs.Open.{job_held, operation_held};
+ghost use Rattle.domain_record.specs.Record.{force_of};
+
+use domain_history::{job_held, operation_held};
+use domain_record::Record;
+use job_rules::{JobRecord, Waiters};
+
+/// The normal job that is open and the operation that is under way. Who waits stands elsewhere.
+pub fn jobs_held(kept: &Record) -> JobRecord
+    ensures active { result.active ≡ job_held (force_of kept.now).job }
+    ensures op { result.op ≡ operation_held (force_of kept.now).operation }
+    ensures waiting { result.waiting ≡ [] }
+{
+    JobRecord {
+        active: job_held(kept.job()),
+        op: operation_held(kept.operation()),
+        waiting: Waiters::new(),
+    }
+}
