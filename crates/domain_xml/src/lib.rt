@@ -11,5 +11,6 @@ mod table;
 
 pub use definition_fill::fill_domain;
 pub use definition_print::print_domain;
+pub use live_print::print_live;
 pub use reading::{read, what_is_read_fits};
 pub use text_spec::{DefFault, DefKind};

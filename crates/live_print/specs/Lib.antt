@@ -1,0 +1,2 @@
+pub mod LiveText
+pub mod Last
