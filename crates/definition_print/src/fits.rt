@@ -12,9 +12,10 @@ use std::alloc::Global;
 use text_spec::{MOST_ELEMENTS, Tree};
 use virt_types::{DeviceDef, DomainDef, NoMemory};
 
-/// Whether a tree's text is within the limits of a text. Its bytes are counted and not written.
+/// Whether a tree's text is within the limits of a text: at most 65,536 bytes and 4,096 elements. Its
+/// bytes are counted and not written.
 #[tactic(auto, unfolding(text_spec::specs::Spelling::fits))]
-fn fits(tree: &Tree) -> bool
+pub fn tree_fits(tree: &Tree) -> bool
     ensures { result ≡ spec.fits (seen tree.now) }
 {
     let left = after_tree(CAP, 0, tree);
@@ -29,7 +30,7 @@ pub fn domain_fits(alloc: Global, def: &DomainDef) -> Result<bool, NoMemory>
     ensures { IfOk result (λ fits. fits ≡ spec_domain.domain_fits def.now) }
 {
     let tree = domain_tree(alloc, def, Absent::StoodIn)?;
-    Ok(fits(&tree))
+    Ok(tree_fits(&tree))
 }
 
 /// Whether the text of a device, once it is filled in, is within the limits of a text.
@@ -38,5 +39,5 @@ pub fn device_fits(alloc: Global, device: &DeviceDef) -> Result<bool, NoMemory>
     ensures { IfOk result (λ fits. fits ≡ spec_device.device_fits device.now) }
 {
     let tree = device_tree(alloc, device, Absent::StoodIn)?;
-    Ok(fits(&tree))
+    Ok(tree_fits(&tree))
 }

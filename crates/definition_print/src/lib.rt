@@ -6,5 +6,5 @@ mod count;
 mod fits;
 mod print;
 
-pub use fits::{device_fits, domain_fits};
+pub use fits::{device_fits, domain_fits, tree_fits};
 pub use print::{print_device, print_domain};

@@ -1,0 +1,3 @@
+pub mod SnapshotText
+pub mod ReadsAs
+pub mod Parts
