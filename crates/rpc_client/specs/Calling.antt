@@ -10,7 +10,7 @@ use Rattle.wire_spec.specs.Packets.{spelling}
 use Rattle.wire_spec.specs.declared.message.Packet.{Packet}
 use Rattle.procedure_spec.specs.Calls.{call_packet}
 use Rattle.rpc_client.specs.Answer.{Spells, answer_of}
-use Rattle.rpc_client.specs.Inflow.{Gets, Gives, GivesNone, Inflow, Stops}
+use Rattle.rpc_client.specs.Inflow.{Gets, Inflow, Stops}
 use Rattle.rpc_client.specs.declared.fault.ClientFault.{ClientFault}
 use Rattle.rpc_client.specs.declared.fault.ClientFault.TheVariants.{BadPacket, BadPayload, End, Link, Spent, WrongSerial}
 
@@ -99,15 +99,3 @@ module _ {S K : Type 0} (left : S → Option (List ℕ)) (source_faults : S → 
   abbrev pub FailsOrNoMemory : Request → Connection S K → Connection S K → OrNoMemory ClientFault → Type 0
   FailsOrNoMemory asked old new (or.Fault why) = Fails asked old new why
   FailsOrNoMemory asked old new or.NoMemory = Unit {0}
-
-  -- the oldest event was given, and nothing was sent
-  pub record GivesEvent (old new : Connection S K) (event : Packet) : Type 0 where
-    pub gives : Gives left source_faults old.inflow new.inflow event
-    pub sink : new.sink ≡ old.sink
-    pub serial : new.serial ≡ old.serial
-
-  -- none was given, and nothing was sent
-  pub record GivesNoEvent (old new : Connection S K) (why : OrNoMemory ClientFault) : Type 0 where
-    pub none : GivesNone left source_faults old.serial old.inflow new.inflow why
-    pub sink : new.sink ≡ old.sink
-    pub serial : new.serial ≡ old.serial

@@ -4,3 +4,4 @@ pub mod Ends
 pub mod Inflow
 pub mod Inlets
 pub mod Messages
+pub mod Notes

@@ -2,16 +2,17 @@
 ghost use Rattle.std.specs.Prelude.{◌≡◌, ◌≤◌, ◌+◌, IfOk, IfErr, IfSome, None, Err, length};
 ghost use Rattle.procedure_spec.specs.Arguments.{HasArguments, arguments};
 ghost use Rattle.wire_spec.specs.declared.message.TheConstants.{HEADER_LENGTH, MOST_BYTES};
-ghost use Rattle.rpc_client.specs.Calling.{Answers, FailsOrNoMemory, GivesEvent, GivesNoEvent, fault_of, fresh};
+ghost use Rattle.rpc_client.specs.Calling.{Answers, FailsOrNoMemory, fault_of, fresh};
+ghost use Rattle.rpc_client.specs.Notes.{GivesNoNote, GivesNote};
 
 use crate::ends::Ends;
 use crate::fault::ClientFault;
 use crate::inlet::{Inlet, PIECE};
-use packet::{Feed, Packet, Sink, Source};
+use packet::{Feed, Sink, Source};
 use std::alloc::Global;
 use std::collections::VecDeque;
 use std::marker::Model;
-use virt_types::{NoMemory, OrNoMemory, Reply, Request};
+use virt_types::{NoMemory, Note, OrNoMemory, Reply, Request};
 
 /// The client's end of a connection: it sends one call after the other, each with the next number
 /// from 1 on, and takes what comes as packets, however it is cut. Events that come meanwhile are kept in
@@ -81,22 +82,23 @@ impl<S: Source, K: Sink> Client<S, K> {
         answer
     }
 
-    /// The packet of the next event, in the order in which they came.
-    pub fn next_event(&mut self) -> Result<Packet, OrNoMemory<ClientFault>>
-        ensures ok { IfOk result (GivesEvent S.left S.faults K.held K.faults self.old self.new) }
+    /// The note of the next event, in the order in which they came. An event whose payload is no note is
+    /// a fault, `BadPayload`.
+    pub fn next_note(&mut self) -> Result<Note, OrNoMemory<ClientFault>>
+        ensures ok { IfOk result (GivesNote S.left S.faults self.old self.new) }
         ensures err { self.old.fault ≡ None
-            → IfErr result (GivesNoEvent S.left S.faults K.held K.faults self.old self.new) }
+            → IfErr result (GivesNoNote S.left S.faults self.old self.new) }
         ensures again { IfSome self.old.fault (λ e. (result ≡ Err e) × (self.new ≡ self.old)) }
         ensures fault { self.new.fault ≡ fault_of result }
     {
         if let Some(fault) = self.fault {
             return Err(fault);
         }
-        let event = self.ends.next_event();
-        if let Err(fault) = &event {
+        let note = self.ends.next_note();
+        if let Err(fault) = &note {
             self.fault = Some(*fault);
         }
-        event
+        note
     }
 
     /// The two ends.

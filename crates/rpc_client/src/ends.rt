@@ -4,17 +4,18 @@ ghost use Rattle.procedure_spec.specs.Arguments.{HasArguments, arguments};
 ghost use Rattle.wire_spec.specs.declared.message.TheConstants.{HEADER_LENGTH, MOST_BYTES};
 ghost use Rattle.rpc_client.specs.Calling as spec;
 ghost use Rattle.rpc_client.specs.Ends.{Puts, PutsNone, used};
-ghost use Rattle.rpc_client.specs.Inflow.{Gives, GivesNone};
 ghost use Rattle.rpc_client.specs.Inlets.{Stands};
+ghost use Rattle.rpc_client.specs.Notes.{HasNone, Spells};
 
 use crate::answer::answer_of;
 use crate::fault::ClientFault;
 use crate::inlet::Inlet;
+use crate::note::note_of;
 use crate::put::put_all;
-use packet::{Header, Packet, Sink, Source, WriteFault};
+use packet::{Header, Sink, Source, WriteFault};
 use remote_args::{call_words, write_call};
 use std::alloc::Global;
-use virt_types::{Failed, OrNoMemory, Reply, Request};
+use virt_types::{Failed, Note, OrNoMemory, Reply, Request};
 
 /// The two ends of a connection.
 #[derive(Drop)]
@@ -67,15 +68,19 @@ impl<S: Source, K: Sink> Ends<S, K> {
         }
     }
 
-    /// The oldest event that was not given yet.
-    pub(crate) fn next_event(&mut self) -> Result<Packet, OrNoMemory<ClientFault>>
+    /// The note of the oldest event that was not given yet.
+    #[tactic(auto, using(crate::proofs::Noting::none_noted, crate::proofs::Noting::event_foreign))]
+    pub(crate) fn next_note(&mut self) -> Result<Note, OrNoMemory<ClientFault>>
         requires { Stands self.old.inlet }
-        ensures ok { IfOk result (Gives S.left S.faults (used self.old).inflow (used self.new).inflow) }
-        ensures err { IfErr result (GivesNone S.left S.faults self.old.serial (used self.old).inflow (used self.new).inflow) }
+        ensures ok { IfOk result (Spells S.left S.faults (used self.old).inflow (used self.new).inflow) }
+        ensures err { IfErr result (HasNone S.left S.faults self.old.serial (used self.old).inflow (used self.new).inflow) }
         ensures stands { OnOk result (Stands self.new.inlet) }
         ensures sink { self.new.sink ≡ self.old.sink }
         ensures serial { self.new.serial ≡ self.old.serial }
     {
-        self.inlet.next_event(self.serial)
+        match self.inlet.next_event(self.serial) {
+            Ok(event) => note_of(self.alloc, &event),
+            Err(fault) => Err(fault),
+        }
     }
 }

@@ -7,6 +7,7 @@ mod ends;
 mod fault;
 mod inlet;
 mod kind;
+mod note;
 mod put;
 #[cfg(test)]
 mod tests;
@@ -14,4 +15,4 @@ mod tests;
 pub use client::Client;
 pub use fault::ClientFault;
 pub use packet::{Sink, Source};
-pub use procedure_spec::{EVENT, EVENT_LOST};
+pub use virt_types::Note;

@@ -1,21 +1,22 @@
 // Events beside calls.
-use super::link::{OPENED, PING, RESUMED, SUSPENDED, bytes_of, client, open};
+use super::link::{FOREIGN, OPENED, PING, RESUMED, SUSPENDED, bytes_of, client, open};
 use crate::{Client, ClientFault};
 use packet::memory::{MemorySink, MemorySource};
 use std::process::Abort;
 use std::test::Fail;
-use virt_types::OrNoMemory;
+use virt_types::{Note, OrNoMemory};
 
-// The event that the next message reports.
+// The event that the next note reports.
 fn event(
     rt: &impl Abort,
     client: &mut Client<MemorySource, MemorySink>,
-    wanted: u8,
+    wanted: u32,
 ) -> Result<(), OrNoMemory<ClientFault>> {
-    let packet = client.next_event()?;
-    assert_eq!(rt; packet.header.procedure, 12);
-    let words = packet.payload.as_slice();
-    assert_eq!(rt; words.get(31).copied(), Some(wanted));
+    let note = client.next_note()?;
+    match &note {
+        Note::Event { transition, .. } => assert_eq!(rt; transition.event, wanted),
+        Note::Lost { .. } => assert!(rt; false),
+    }
     Ok(())
 }
 
@@ -32,7 +33,7 @@ fn events_before_a_reply_come_out_in_order(rt: HostRuntime) -> Result<(), Fail> 
     event(&rt, &mut client, 4)?;
     event(&rt, &mut client, 3)?;
     let end = OrNoMemory::Fault(ClientFault::End);
-    assert!(rt; matches!(client.next_event(), Err(fault) if fault == end));
+    assert!(rt; matches!(client.next_note(), Err(fault) if fault == end));
     assert!(rt; matches!(client.call(&open()), Err(fault) if fault == end));
     Ok(())
 }
@@ -47,6 +48,21 @@ fn a_reply_that_no_call_waits_for_is_a_fault(rt: HostRuntime) -> Result<(), Fail
     )?;
     assert!(rt; client.call(&open()).is_ok());
     let stray = OrNoMemory::Fault(ClientFault::WrongSerial { sent: 1, got: 1 });
-    assert!(rt; matches!(client.next_event(), Err(fault) if fault == stray));
+    assert!(rt; matches!(client.next_note(), Err(fault) if fault == stray));
+    Ok(())
+}
+
+#[test]
+fn an_event_that_is_no_note_is_a_fault_for_good(rt: HostRuntime) -> Result<(), Fail> {
+    let bytes = bytes_of(rt.alloc(), &[&SUSPENDED, &FOREIGN, &OPENED])?;
+    let mut client = client(
+        rt.alloc(),
+        MemorySource::new(bytes),
+        MemorySink::new(rt.alloc()),
+    )?;
+    event(&rt, &mut client, 3)?;
+    let foreign = OrNoMemory::Fault(ClientFault::BadPayload);
+    assert!(rt; matches!(client.next_note(), Err(fault) if fault == foreign));
+    assert!(rt; matches!(client.call(&open()), Err(fault) if fault == foreign));
     Ok(())
 }

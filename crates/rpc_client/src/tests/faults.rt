@@ -26,7 +26,7 @@ fn check(
         "{wanted}"
     );
     assert!(rt;
-        matches!(client.next_event(), Err(fault) if fault == wanted),
+        matches!(client.next_note(), Err(fault) if fault == wanted),
         "{wanted}"
     );
     Ok(())
