@@ -1,0 +1,7 @@
+use Rattle.network_spec.specs.declared.book.NetCall.TheVariants as call
+use Rattle.network_spec.specs.declared.book.NetAnswer.TheVariants.{Done}
+use Rattle.net_core.specs.Answers.{tested}
+use Rattle.net_core.proofs.book.NetBook.start.Given as goal
+
+abbrev pub ghost-mark_uuid : goal.ghost-mark_uuid
+ghost-mark_uuid g a = record { number = g.number; call = call.Start a._uuid; answer = tested a.tested.now }

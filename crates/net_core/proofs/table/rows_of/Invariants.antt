@@ -1,0 +1,6 @@
+use Rattle.std.proofs.Common.{◌≡◌, take, map}
+use Rattle.network_spec.specs.NetReads.{row_of}
+use Rattle.net_core.proofs.table.rows_of.Given as goal
+
+abbrev pub invariant-loop-entry : goal.invariant-loop-entry
+invariant-loop-entry l = l.rows.items ≡ map row_of (take l.entry-index l.entries)

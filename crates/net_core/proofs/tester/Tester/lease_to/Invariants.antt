@@ -1,0 +1,4 @@
+use Rattle.net_core.proofs.tester.Tester.lease_to.Given as goal
+
+abbrev pub ghost-lease : goal.ghost-lease
+ghost-lease a = 0

@@ -1,0 +1,6 @@
+pub mod Index
+pub mod Entries
+pub mod Answers
+pub mod Opening
+pub mod Keeping
+pub mod Turns

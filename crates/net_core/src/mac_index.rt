@@ -1,0 +1,45 @@
+// Addresses by the bytes of the interfaces that they are leased to.
+ghost use Rattle.std.specs.Prelude.{◌≡◌, List, ℕ, OnOk, OnErr, None, Some};
+ghost use Rattle.net_core.specs.Index.{address_at, Updates, Stays};
+
+use std::alloc::Global;
+use std::collections::BTreeMap;
+use virt_types::NoMemory;
+
+/// A map from interfaces to addresses.
+#[derive(Drop)]
+pub struct MacIndex {
+    addresses: BTreeMap<Vec<u8>, u32>,
+    alloc: Global,
+}
+
+impl MacIndex {
+    /// An empty one.
+    pub(crate) fn new(alloc: Global) -> MacIndex
+        ensures { (bytes : List ℕ) → address_at result bytes ≡ None }
+    {
+        MacIndex {
+            addresses: BTreeMap::new(alloc),
+            alloc,
+        }
+    }
+
+    /// The address of the interface of these bytes.
+    pub(crate) fn get(&self, bytes: &[u8]) -> Option<u32>
+        ensures { result ≡ address_at self.now bytes.now }
+    {
+        self.addresses.get(bytes).copied()
+    }
+
+    /// Gives the interface of these bytes an address.
+    pub(crate) fn insert(&mut self, bytes: &[u8], address: u32) -> Result<(), NoMemory>
+        ensures ok { OnOk result (Updates bytes.now (Some address) self.old self.new) }
+        ensures err { OnErr result (Stays self.old self.new) }
+    {
+        let key = Vec::from_slice(self.alloc, bytes)?;
+        match self.addresses.insert(key, address) {
+            Ok(_) => Ok(()),
+            Err(_) => Err(NoMemory),
+        }
+    }
+}

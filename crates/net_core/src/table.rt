@@ -1,0 +1,323 @@
+// The networks of the book.
+ghost use Rattle.std.specs.Prelude.{◌≡◌, Bool, map, option_copied, IfOk, position};
+ghost use Rattle.network_spec.specs.declared.book.NetAnswer.TheVariants.{Done};
+ghost use Rattle.network_spec.specs.declared.book.NetCall.TheVariants as call;
+ghost use Rattle.network_spec.specs.Networks.{has, name_of, network_of, uuid_of, with_changed, without};
+ghost use Rattle.network_spec.specs.NetCalls.{answer, if_active, if_inactive, if_there, networks_after, redefined, started, stopped, with_autostart, with_network};
+ghost use Rattle.network_spec.specs.NetReads.{AreLeases, AreRows, IsDescribed, row_of};
+ghost use Rattle.net_core.specs.Answers.{IsFoundOf, LeaseTakesEffect, TakesEffect, Tells, TellsLease};
+ghost use Rattle.net_core.specs.Opening.{opened};
+
+use crate::entry::{Entry, identifier};
+use crate::found::FoundNetworkList;
+use crate::refusals::{
+    Tested, book_full, is_active, is_inactive, missing, name_exists, no_network, uuid_exists,
+};
+use network_spec::{LeaseFault, NetRow, NetRowList};
+use std::alloc::Global;
+use std::marker::Model;
+use virt_types::{LeaseRowList, ListOf, Mac, NetDef, NoMemory, OrNoMemory, Refusal, TryCopy, Uuid};
+
+/// At most as many networks stand in the book.
+const MOST_NETWORKS: usize = 64;
+
+/// The networks, in the order in which they were first defined. It has room for as many as there
+/// may be.
+#[derive(Drop)]
+pub struct Table {
+    entries: Vec<Entry>,
+}
+
+impl Model for Table {
+    ghost use Rattle.std.specs.Prelude.{◌≤◌, vec_capacity};
+    ghost use Rattle.network_spec.specs.Networks.{Networks};
+
+    ghost Value = { Networks };
+
+    ghost view = { λ t. t.entries.items };
+
+    ghost invariant = { λ t. 64 ≤ vec_capacity t.entries };
+}
+
+fn place_of_name(entries: &[Entry], name: &[u8]) -> Option<usize>
+    ensures { result ≡ position (has name_of name.now) entries.now }
+{
+    entries.iter().position(|entry| entry.has_name(name))
+}
+
+fn place_of_uuid(entries: &[Entry], uuid: Uuid) -> Option<usize>
+    ensures { result ≡ position (has uuid_of uuid) entries.now }
+{
+    entries.iter().position(|entry| entry.has_uuid(uuid))
+}
+
+fn entry_of_name<'a>(entries: &'a [Entry], name: &[u8]) -> Option<&'a Entry>
+    ensures { option_copied result ≡ network_of name_of name.now entries.now }
+{
+    match place_of_name(entries, name) {
+        None => None,
+        Some(place) => Some(&entries[place]),
+    }
+}
+
+fn entry_of_uuid(entries: &[Entry], uuid: Uuid) -> Option<&Entry>
+    ensures { option_copied result ≡ network_of uuid_of uuid entries.now }
+{
+    match place_of_uuid(entries, uuid) {
+        None => None,
+        Some(place) => Some(&entries[place]),
+    }
+}
+
+// The network has to be there.
+fn test_there(alloc: Global, found: Option<&Entry>, uuid: Uuid) -> Tested
+    ensures { Tells result (if_there uuid (option_copied found.entry)) }
+{
+    match found {
+        None => no_network(alloc, uuid),
+        Some(_) => Ok(()),
+    }
+}
+
+// The network has to be there and inactive.
+fn test_inactive(alloc: Global, found: Option<&Entry>, uuid: Uuid) -> Tested
+    ensures { Tells result (if_inactive uuid (option_copied found.entry)) }
+{
+    match found {
+        None => no_network(alloc, uuid),
+        Some(entry) => {
+            if entry.is_active() {
+                return is_active(alloc);
+            }
+            Ok(())
+        }
+    }
+}
+
+// The network has to be there and active.
+fn test_active(alloc: Global, found: Option<&Entry>, uuid: Uuid) -> Tested
+    ensures { Tells result (if_active uuid (option_copied found.entry)) }
+{
+    match found {
+        None => no_network(alloc, uuid),
+        Some(entry) => {
+            if entry.is_active() {
+                return Ok(());
+            }
+            is_inactive(alloc)
+        }
+    }
+}
+
+// A network of the name that is to be defined: it has to have the same identifier, and be inactive.
+fn test_redefined(alloc: Global, entry: &Entry, uuid: Uuid) -> Tested
+    ensures { Tells result (redefined uuid entry.now) }
+{
+    if entry.has_uuid(uuid) {
+        return test_inactive(alloc, Some(entry), uuid);
+    }
+    name_exists(alloc, entry.uuid())
+}
+
+fn test_define(alloc: Global, entries: &[Entry], def: &NetDef) -> Tested
+    ensures { Tells result (answer (call.Define def.now) entries.now) }
+{
+    let uuid = identifier(def);
+    if let Some(entry) = entry_of_name(entries, def.name.as_bytes()) {
+        return test_redefined(alloc, entry, uuid);
+    }
+    if let Some(entry) = entry_of_uuid(entries, uuid) {
+        return uuid_exists(alloc, &entry.def().name);
+    }
+    if entries.len() < MOST_NETWORKS {
+        return Ok(());
+    }
+    book_full(alloc)
+}
+
+impl Table {
+    /// The networks that were found where the daemon was opened.
+    pub(crate) fn new(alloc: Global, found: FoundNetworkList) -> Result<Table, NoMemory>
+        ensures { IfOk result (λ table. table ≡ map opened found) }
+    {
+        let mut entries = Vec::with_capacity(alloc, MOST_NETWORKS)?;
+        for network in found.into_vec() {
+            entries.push(Entry::new(alloc, network.def, network.autostart))?;
+        }
+        Ok(Table { entries })
+    }
+
+    pub(crate) fn alloc(&self) -> Global {
+        *self.entries.allocator()
+    }
+
+    /// Whether a network may be defined so.
+    pub(crate) fn may_define(&self, def: &NetDef) -> Tested
+        ensures { Tells result (answer (call.Define def.now) self.now) }
+    {
+        test_define(self.alloc(), self.entries.as_slice(), def)
+    }
+
+    /// Whether there is a network of this identifier.
+    #[tactic(auto, unfolding(network_spec::specs::NetCalls::answer))]
+    pub(crate) fn may_change(&self, uuid: Uuid) -> Tested
+        ensures { (on : Bool) → Tells result (answer (call.Autostart uuid on) self.now) }
+    {
+        test_there(
+            self.alloc(),
+            entry_of_uuid(self.entries.as_slice(), uuid),
+            uuid,
+        )
+    }
+
+    /// Whether there is one that is inactive.
+    #[tactic(auto, unfolding(network_spec::specs::NetCalls::answer))]
+    pub(crate) fn may_undefine(&self, uuid: Uuid) -> Tested
+        ensures { Tells result (answer (call.Undefine uuid) self.now) }
+    {
+        test_inactive(
+            self.alloc(),
+            entry_of_uuid(self.entries.as_slice(), uuid),
+            uuid,
+        )
+    }
+
+    /// Defines a network that may be defined so. It takes no memory.
+    pub(crate) fn define(&mut self, def: NetDef)
+        requires { answer (call.Define def) self.old ≡ Done }
+        ensures { self.new ≡ with_network def self.old }
+    {
+        let alloc = self.alloc();
+        match place_of_uuid(self.entries.as_slice(), identifier(&def)) {
+            Some(place) => self.entries[place].redefine(alloc, def),
+            None => self.entries.push_reserved(Entry::new(alloc, def, false)),
+        }
+    }
+
+    /// Takes a network out, where there is one.
+    pub(crate) fn undefine(&mut self, uuid: Uuid)
+        ensures { self.new ≡ without uuid self.old }
+    {
+        if let Some(place) = place_of_uuid(self.entries.as_slice(), uuid) {
+            drop(self.entries.remove(place));
+        }
+    }
+
+    pub(crate) fn set_autostart(&mut self, uuid: Uuid, on: bool)
+        ensures { self.new ≡ with_changed uuid_of uuid (with_autostart on) self.old }
+    {
+        if let Some(place) = place_of_uuid(self.entries.as_slice(), uuid) {
+            self.entries[place].set_autostart(on);
+        }
+    }
+
+    // Starts a network, where there is one.
+    fn set_active(&mut self, uuid: Uuid)
+        ensures { self.new ≡ with_changed uuid_of uuid started self.old }
+    {
+        if let Some(place) = place_of_uuid(self.entries.as_slice(), uuid) {
+            self.entries[place].start();
+        }
+    }
+
+    // Stops a network, where there is one.
+    fn set_inactive(&mut self, uuid: Uuid)
+        ensures { self.new ≡ with_changed uuid_of uuid stopped self.old }
+    {
+        let alloc = self.alloc();
+        if let Some(place) = place_of_uuid(self.entries.as_slice(), uuid) {
+            self.entries[place].stop(alloc);
+        }
+    }
+
+    /// Starts a network that is inactive.
+    #[tactic(auto, unfolding(network_spec::specs::NetCalls::answer, network_spec::specs::NetCalls::networks_after))]
+    pub(crate) fn start(&mut self, uuid: Uuid) -> Tested
+        ensures answer { Tells result (answer (call.Start uuid) self.old) }
+        ensures effect { TakesEffect (call.Start uuid) result self.old self.new }
+    {
+        let alloc = self.alloc();
+        match test_inactive(alloc, entry_of_uuid(self.entries.as_slice(), uuid), uuid) {
+            Ok(()) => {
+                self.set_active(uuid);
+                Ok(())
+            }
+            Err(e) => Err(e),
+        }
+    }
+
+    /// Stops a network that is active.
+    #[tactic(auto, unfolding(network_spec::specs::NetCalls::answer, network_spec::specs::NetCalls::networks_after))]
+    pub(crate) fn stop(&mut self, uuid: Uuid) -> Tested
+        ensures answer { Tells result (answer (call.Stop uuid) self.old) }
+        ensures effect { TakesEffect (call.Stop uuid) result self.old self.new }
+    {
+        let alloc = self.alloc();
+        match test_active(alloc, entry_of_uuid(self.entries.as_slice(), uuid), uuid) {
+            Ok(()) => {
+                self.set_inactive(uuid);
+                Ok(())
+            }
+            Err(e) => Err(e),
+        }
+    }
+
+    /// Leases an address of the network of this name to an interface.
+    pub(crate) fn lease(&mut self, name: &[u8], mac: Mac) -> Result<u32, OrNoMemory<LeaseFault>>
+        ensures answer { TellsLease result (answer (call.Lease name.now mac) self.old) }
+        ensures effect { LeaseTakesEffect name.now mac result self.old self.new }
+    {
+        let Some(place) = place_of_name(self.entries.as_slice(), name) else {
+            return Err(OrNoMemory::Fault(LeaseFault::Class(11)));
+        };
+        if !self.entries[place].is_active() {
+            return Err(OrNoMemory::Fault(LeaseFault::Class(12)));
+        }
+        match self.entries[place].address_for(mac) {
+            None => Err(OrNoMemory::Fault(LeaseFault::Class(13))),
+            Some(address) => {
+                self.entries[place].lease(mac, address)?;
+                Ok(address)
+            }
+        }
+    }
+
+    /// The networks by rising name.
+    pub(crate) fn rows(&self) -> Result<NetRowList, NoMemory>
+        ensures { IfOk result (AreRows self.now) }
+    {
+        let mut rows = rows_of(self.alloc(), self.entries.as_slice())?;
+        rows.sort_by(|one, other| one.name.as_str().cmp(other.name.as_str()))?;
+        Ok(ListOf::of(rows))
+    }
+
+    /// The definition of a network.
+    pub(crate) fn desc(&self, uuid: Uuid) -> Result<NetDef, OrNoMemory<Refusal>>
+        ensures { IsFoundOf IsDescribed uuid (network_of uuid_of uuid self.now) result }
+    {
+        match entry_of_uuid(self.entries.as_slice(), uuid) {
+            None => Err(missing(self.alloc(), uuid)),
+            Some(entry) => Ok(entry.def().copy()?),
+        }
+    }
+
+    /// The leases of a network, by rising address.
+    pub(crate) fn leases(&self, uuid: Uuid) -> Result<LeaseRowList, OrNoMemory<Refusal>>
+        ensures { IsFoundOf AreLeases uuid (network_of uuid_of uuid self.now) result }
+    {
+        match entry_of_uuid(self.entries.as_slice(), uuid) {
+            None => Err(missing(self.alloc(), uuid)),
+            Some(entry) => Ok(entry.leases()?),
+        }
+    }
+}
+
+fn rows_of(alloc: Global, entries: &[Entry]) -> Result<Vec<NetRow>, NoMemory>
+    ensures { IfOk result (λ rows. rows.items ≡ map row_of entries.now) }
+{
+    let mut rows = Vec::with_capacity(alloc, entries.len())?;
+    for entry in entries {
+        rows.push(entry.row()?)?;
+    }
+    Ok(rows)
+}
