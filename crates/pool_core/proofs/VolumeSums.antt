@@ -35,8 +35,14 @@ module _ (name : List ℕ) where
   pub allocated-fewer : (vs : List VolDef) (i : ℕ) (d : VolDef) → i < length vs → allocated vs ≡ allocated (remove vs i) + (get_or vs i d).allocation
   unfolding allocated
   allocated-fewer [] i d within = absurd (omega (arith, within))
-  allocated-fewer (v ∷ vs) zero d within = omega arith
-  allocated-fewer (v ∷ vs) (suc i) d within = omega (arith, allocated-fewer vs i d (omega (arith, within)))
+  allocated-fewer (v ∷ vs) zero d within =
+      let all : allocated (v ∷ vs) ≡ v.allocation + allocated vs = refl in
+      let left : allocated (remove (v ∷ vs) 0) ≡ allocated vs = refl in
+      omega (arith, all, left)
+  allocated-fewer (v ∷ vs) (suc i) d within =
+      let all : allocated (v ∷ vs) ≡ v.allocation + allocated vs = refl in
+      let left : allocated (remove (v ∷ vs) (suc i)) ≡ v.allocation + allocated (remove vs i) = refl in
+      omega (arith, all, left, allocated-fewer vs i d (omega (arith, within)))
 
   pub volume-at : (vs : List VolDef) (i : ℕ) (d : VolDef) → position (is_named name) vs ≡ Some i → volume_of name vs ≡ Some (get_or vs i d)
   unfolding volume_of
