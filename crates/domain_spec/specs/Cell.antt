@@ -33,8 +33,14 @@ pub record HeldEvent : Type 0 where
   pub boot : ℕ
   pub event : GuestEvent
 
--- a domain's cell: `answers` are those of the open call or phase so far; `ears` are out, with the number
--- of the pass that has them and their boot
+-- ears that are out: the number of the pass that has them, their boot, and whether what they heard was told: there is
+-- room to tell one thing
+pub record LentEars : Type 0 where
+  pub number : ℕ
+  pub boot : ℕ
+  pub told : Bool
+
+-- a domain's cell: `answers` are those of the open call or phase so far
 pub record Cell : Type 0 where
   pub base : Base
   pub marks : List (Mark ℕ)
@@ -42,13 +48,14 @@ pub record Cell : Type 0 where
   pub answers : List Answer
   pub queue : Queue
   pub held : List HeldEvent
-  pub ears : Option (ℕ × ℕ)
+  pub ears : Option LentEars
 
 -- what is in force after the cell's marks
 abbrev pub standing_of : Cell → Standing
 standing_of c = standing (at_base c.base) c.marks
 
--- an open call with its ticket: what it has asked, the ask that waits among them, and what was answered
+-- an open call, as it was let in, with its ticket: what it has asked, the ask that waits among them, and what was
+-- answered
 pub record OpenCall : Type 0 where
   pub job : OpenJob
   pub asks : List Ask
@@ -60,13 +67,13 @@ pub record Taken : Type 0 where
   pub taken : ℕ
 
 -- what a cell keeps for one number alone: who waits by it, its open call, its operation unless that rests,
--- its registrations, and the boot whose ears it has out
+-- its registrations, and the ears that it has out
 pub record Share : Type 0 where
   pub waits : Option Who
   pub call : Option OpenCall
   pub operation : Option OpenOperation
   pub registrations : List Taken
-  pub ears : Option ℕ
+  pub ears : Option LentEars
 
 -- the state in which an open call's asks were planned: where its boot has ended, the one just before
 abbrev pub planned_at : State → OpenJob → State
@@ -86,21 +93,25 @@ abbrev pub asks_so_far : Standing → Job → OpenJob → List Answer → List A
 asks_so_far s job.Nested j answers = phase_asks (planned_at s.state j) s.operation answers
 asks_so_far s other j answers = call_asks (planned_at s.state j) j answers
 
+-- the call as it was let in, whatever ended since
+abbrev pub as_let_in : OpenJob → OpenJob
+as_let_in j = record j { before = None }
+
 -- the open call, where it is of this number
 abbrev pub call_of : Standing → Option OpenJob → List Answer → ℕ → Option OpenCall
 call_of s None answers n = None
 call_of s (Some j) answers n =
-    if j.number == n then Some (record { job = j; asks = asks_so_far s j.job j answers; answers = answers }) else None
+    if j.number == n then Some (record { job = as_let_in j; asks = asks_so_far s j.job j answers; answers = answers }) else None
 
 -- the open operation, where it is of this number and does not rest
 abbrev pub operation_of : Option OpenOperation → ℕ → Option OpenOperation
 operation_of None n = None
 operation_of (Some o) n = if o.number == n && not (is_rest o.outcome) then Some o else None
 
--- the boot whose ears this number has out
-abbrev pub ears_of : Option (ℕ × ℕ) → ℕ → Option ℕ
+-- the ears that this number has out
+abbrev pub ears_of : Option LentEars → ℕ → Option LentEars
 ears_of None n = None
-ears_of (Some ears) n = if ears.0 == n then Some ears.1 else None
+ears_of (Some ears) n = if ears.number == n then Some ears else None
 
 -- the caller that waits by this number
 abbrev pub waits_of : List WaitingPass → ℕ → Option Who

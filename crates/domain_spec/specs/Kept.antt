@@ -1,5 +1,5 @@
 -- What a cell keeps beside its history after a turn: who waits, which events are held, whose ears are out.
-use Rattle.std.specs.Prelude.{◌≡◌, ◌⊎◌, ℕ, ◌+◌, ◌==◌, List, [], ◌∷◌, ◌++◌, filter, find, length, min, nat_lt, not, option_map, unwrap_or, ◌&&◌, Option, None, Some, if◌then◌else◌}
+use Rattle.std.specs.Prelude.{◌≡◌, ◌⊎◌, ℕ, ◌+◌, ◌==◌, List, [], ◌∷◌, ◌++◌, filter, find, length, min, nat_lt, not, option_map, true, unwrap_or, ◌&&◌, Option, None, Some, if◌then◌else◌}
 use Rattle.domain_spec.specs.Types.{Call, GuestEvent, Who}
 use Rattle.domain_spec.specs.declared.core_step.CoreStep.{CoreStep}
 use Rattle.domain_spec.specs.declared.core_step.CoreStep.TheVariants as step
@@ -7,7 +7,7 @@ use Rattle.domain_spec.specs.declared.mark.Mark.{Mark}
 use Rattle.domain_spec.specs.declared.mark.Mark.TheVariants as mark
 use Rattle.domain_spec.specs.declared.open.OpenJob.{OpenJob}
 use Rattle.domain_spec.specs.declared.standing.Standing.{Standing}
-use Rattle.domain_spec.specs.Cell.{Cell, HeldEvent, Queue, Waiter, WaitingPass, standing_of}
+use Rattle.domain_spec.specs.Cell.{Cell, HeldEvent, LentEars, Queue, Waiter, WaitingPass, standing_of}
 use Rattle.domain_spec.specs.Open.{Excludes, is_same_who, job_held, operation_held}
 use Rattle.domain_spec.specs.Reading.{is_live}
 
@@ -38,6 +38,16 @@ abbrev pub held_by : Cell → CoreStep ℕ → Standing → Option OpenJob → L
 held_by c (step.Event b e) last (Some j) = held_more c last b e
 held_by c other last (Some j) = c.held
 held_by c t last None = []
+
+-- what these ears heard was told
+abbrev pub told_of : LentEars → LentEars
+told_of ears = record ears { told = true }
+
+-- the ears that are out after a turn: a boot's end and an event are what they heard
+abbrev pub ears_after : CoreStep ℕ → Option LentEars → Option LentEars
+ears_after (step.Exit boot why) ears = option_map told_of ears
+ears_after (step.Event boot e) ears = option_map told_of ears
+ears_after other ears = ears
 
 -- who waits, but for this caller
 abbrev pub without_caller : List Waiter → Who → List Waiter

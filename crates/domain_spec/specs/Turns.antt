@@ -15,7 +15,7 @@ use Rattle.domain_spec.specs.Cell.{Cell, standing_of}
 use Rattle.domain_spec.specs.Chapter.{first_base, next_base}
 use Rattle.domain_spec.specs.Exit.{event_transitions}
 use Rattle.domain_spec.specs.Fold.{after, at_base, standing}
-use Rattle.domain_spec.specs.Kept.{AppliesHeld, WaitAfter, held_by}
+use Rattle.domain_spec.specs.Kept.{AppliesHeld, WaitAfter, ears_after, held_by}
 use Rattle.domain_spec.specs.Lawful.{IsDone, IsEnded, IsPhased, IsRefused, IsStarted, IsTakenUp}
 use Rattle.domain_spec.specs.Legal.{IsInOrder, IsLegal, MarksLoss}
 use Rattle.domain_spec.specs.Reading.{is_live}
@@ -115,7 +115,7 @@ pub record Leads (c : Cell) (t : CoreStep ℕ) (left : List (Mark ℕ)) (d : Cel
   pub away : WaitsForAnswer d (standing_of d).job
   pub held : d.held ≡ held_by c t (standing_of d) (standing_of d).job
   pub queue : WaitAfter c t left d.queue
-  pub ears : d.ears ≡ c.ears
+  pub ears : d.ears ≡ ears_after t c.ears
 
 -- a step with the marks that it left
 pub record Turn : Type 0 where

@@ -11,7 +11,7 @@ use Rattle.domain_spec.specs.declared.open.OpenJob.{OpenJob}
 use Rattle.domain_spec.specs.declared.standing.Registration.{Registration}
 use Rattle.domain_spec.specs.declared.standing.Standing.{Standing}
 use Rattle.domain_spec.specs.CanTake.{CanTake}
-use Rattle.domain_spec.specs.Cell.{Cell, HeldEvent, Queue}
+use Rattle.domain_spec.specs.Cell.{Cell, HeldEvent, LentEars, Queue}
 use Rattle.domain_spec.specs.Exit.{exit_transitions}
 use Rattle.domain_spec.specs.Fold.{after, standing}
 use Rattle.domain_spec.specs.Kept.{due_events, events_in, held_by}
@@ -106,7 +106,7 @@ ended_first c n other old new room lost h = none_ended c (step.Back n other) old
 
 -- what was answered in this turn
 
-answers_by : (old : Recorded) (q : Queue) (held : List HeldEvent) (ears : Option (ℕ × ℕ)) (n : ℕ) (a b : Asked) (x : Answer) (count : ℕ) → old.course ≡ Some a → b.answers ≡ a.answers ++ x ∷ []
+answers_by : (old : Recorded) (q : Queue) (held : List HeldEvent) (ears : Option LentEars) (n : ℕ) (a b : Asked) (x : Answer) (count : ℕ) → old.course ≡ Some a → b.answers ≡ a.answers ++ x ∷ []
     → AnswersBy (cell_of old q held ears) (step.Back n x) (starved count b).answers
 answers_by old q held ears n a b x count e is = (
   count,
@@ -127,7 +127,7 @@ one_more (Some j) a x = one_more_as j.job a x
 
 -- the call is done, and the held events apply
 
-pub back_done : (old mid done new : Recorded) (q : Queue) (held : List HeldEvent) (ears : Option (ℕ × ℕ)) (n : ℕ) (a : Asked) (x : Answer) (count : ℕ) (r : Reply)
+pub back_done : (old mid done new : Recorded) (q : Queue) (held : List HeldEvent) (ears : Option LentEars) (n : ℕ) (a : Asked) (x : Answer) (count : ℕ) (r : Reply)
     → CanTake (cell_of old q held ears) (step.Back n x) → old.course ≡ Some a → BootEnded (cell_of old q held ears) (step.Back n x) old mid
     → IsDoneWith mid [] n (starved count (answered a x)) done r → AreApplied (cell_of old q held ears) (step.Back n x) held done new → IsSettled new
     → (left : List (Mark ℕ)) × HasTurned (turning old q held ears) (turning new q [] ears) (step.Back n x) left × HasDone n r left
@@ -188,7 +188,7 @@ open_by s None a None e h = cc
 open_by s None a (Some b) e h = absurd h
 open_by s (Some j) a o e h = (j, refl)
 
-pub back_away : (old mid new : Recorded) (q : Queue) (held : List HeldEvent) (ears : Option (ℕ × ℕ)) (n : ℕ) (a : Asked) (x : Answer) (count : ℕ) (y : Ask)
+pub back_away : (old mid new : Recorded) (q : Queue) (held : List HeldEvent) (ears : Option LentEars) (n : ℕ) (a : Asked) (x : Answer) (count : ℕ) (y : Ask)
     → CanTake (cell_of old q held ears) (step.Back n x) → old.course ≡ Some a → BootEnded (cell_of old q held ears) (step.Back n x) old mid
     → IsAsking mid [] (starved count (answered_in (force_of mid).job a x)) new y → IsSettled new
     → (left : List (Mark ℕ)) × HasTurned (turning old q held ears) (turning new q held ears) (step.Back n x) left × (events_in left ≡ [])

@@ -8,7 +8,7 @@ use Rattle.domain_spec.specs.declared.open.OpenOperation.{OpenOperation}
 use Rattle.domain_spec.specs.declared.standing.Standing.{Standing}
 use Rattle.domain_spec.specs.Asks.{asks_left, asks_made}
 use Rattle.domain_spec.specs.Call.{job_of}
-use Rattle.domain_spec.specs.Cell.{HeldEvent, Queue, asks_so_far, call_asks, call_of, phase_asks, planned_at, share_of}
+use Rattle.domain_spec.specs.Cell.{HeldEvent, LentEars, Queue, as_let_in, asks_so_far, call_asks, call_of, phase_asks, planned_at, share_of}
 use Rattle.domain_spec.specs.Phase.{phase_asked, phase_still_asked, plan_in}
 use Rattle.domain_spec.specs.Reading.{carries_ended}
 use Rattle.domain_spec.specs.Sequential.{asked, still_asked}
@@ -86,10 +86,10 @@ asks_by s (Some j) k (Some b) a x n is numbered away waits asks =
     let same : j ≡ k = cc in
     let course : b ≡ a = cc in
     let same_one : (j.number == n) ≡ true = same_number (j.number == n) j.number n (ap (λ (y : OpenJob). y.number) same ∙ numbered) refl in
-    subst (λ (t : Bool). AsksLast (if t then Some (record { job = j; asks = asks_so_far s j.job j b.answers; answers = b.answers }) else None) x) (sym same_one)
+    subst (λ (t : Bool). AsksLast (if t then Some (record { job = as_let_in j; asks = asks_so_far s j.job j b.answers; answers = b.answers }) else None) x) (sym same_one)
     (asks_made b.plan b.answers, any_asks s j b x waits (ap next_in course ∙ asks))
 
-pub asks_last : (r : Recorded) (q : Queue) (held : List HeldEvent) (ears : Option (ℕ × ℕ)) (k : OpenJob) (a : Asked) (x : Ask) (n : ℕ) → (force_of r).job ≡ Some k → k.number ≡ n → r.course ≡ Some a
+pub asks_last : (r : Recorded) (q : Queue) (held : List HeldEvent) (ears : Option LentEars) (k : OpenJob) (a : Asked) (x : Ask) (n : ℕ) → (force_of r).job ≡ Some k → k.number ≡ n → r.course ≡ Some a
     → WaitsWith (force_of r) (force_of r).job r.course → next_in a ≡ next.Ask x → AsksLast (share_of (cell_of r q held ears) n).call x
 unfolding standing_in
 asks_last r q held ears k a x n is numbered away waits asks = asks_by (force_of r) (force_of r).job k r.course a x n is numbered away waits asks

@@ -4,7 +4,7 @@ use Rattle.domain_spec.specs.Types.{Answer}
 use Rattle.domain_spec.specs.declared.core_step.CoreStep.TheVariants as step
 use Rattle.domain_spec.specs.declared.open.OpenJob.{OpenJob}
 use Rattle.domain_spec.specs.CanTake.{CanTake}
-use Rattle.domain_spec.specs.Cell.{HeldEvent, Queue}
+use Rattle.domain_spec.specs.Cell.{HeldEvent, LentEars, Queue}
 use Rattle.domain_spec.specs.Turns.{AllHaveRoom}
 use Rattle.ask_course.specs.Along.{Asked, answered}
 use Rattle.ask_course.specs.Starving.{starved}
@@ -25,7 +25,7 @@ numbered_of : (j : Option OpenJob) (k : OpenJob) (n : ℕ) → j ≡ Some k → 
 numbered_of None k n e h = absurd h
 numbered_of (Some j) k n e h = let same : j ≡ k = cc in sym (h ∙ ap (λ (x : OpenJob). x.number) same)
 
-goes_by : (course : Option Asked) (old new : Recorded) (q : Queue) (held : List HeldEvent) (ears : Option (ℕ × ℕ)) (n : ℕ) (x : Answer) (left : Back)
+goes_by : (course : Option Asked) (old new : Recorded) (q : Queue) (held : List HeldEvent) (ears : Option LentEars) (n : ℕ) (x : Answer) (left : Back)
     → CanTake (cell_of old q held ears) (step.Back n x) → old.course ≡ course → AllHaveRoom (registrations old.listeners) → IsSettled old → IsSettled new → Answers n course x held old new left
     → GoesBack n x (turning old q held ears) (turning new q (held_after left held) ears) left
 goes_by None old new q held ears n x left can away room was settled h = absurd h

@@ -10,7 +10,7 @@ use Rattle.domain_spec.specs.declared.mark.Mark.TheVariants as mark
 use Rattle.domain_spec.specs.declared.open.OpenJob.{OpenJob}
 use Rattle.domain_spec.specs.declared.standing.Standing.{Standing}
 use Rattle.domain_spec.specs.CanTake.{CanLook, CanTake}
-use Rattle.domain_spec.specs.Cell.{Cell, HeldEvent, Queue}
+use Rattle.domain_spec.specs.Cell.{Cell, HeldEvent, LentEars, Queue}
 use Rattle.domain_spec.specs.Fold.{after}
 use Rattle.domain_spec.specs.Kept.{LooksOn, due_events, held_by, left_queue}
 use Rattle.domain_spec.specs.Lawful.{IsRefused}
@@ -62,7 +62,7 @@ held_given_up c s (Some j) n who d e = refl
 
 -- a look that leaves no mark
 
-pub look_idle : (r : Recorded) (q p : Queue) (held : List HeldEvent) (ears : Option (ℕ × ℕ)) (n : ℕ) (who : Who) (d : Call) (first : First)
+pub look_idle : (r : Recorded) (q p : Queue) (held : List HeldEvent) (ears : Option LentEars) (n : ℕ) (who : Who) (d : Call) (first : First)
     → CanLook (cell_of r q held ears) n who d first → IsSettled r → AllHaveRoom (registrations r.listeners) → FitsJob (force_of r).job held → LooksOn (cell_of r q held ears) n who d [] p
     → HasTurned (turning r q held ears) (turning r p held ears) (step.Look n who d first) []
 unfolding standing_in
@@ -102,7 +102,7 @@ away_by old new q held n who d why jobs h = subst (λ (a : Option Asked). WaitsW
 same_job : (old new : Recorded) (q : Queue) (held : List HeldEvent) (n : ℕ) (who : Who) (d : Call) (why : RefusalCode) (jobs : HeldJobs) → TurnsAway old new q held n who d why jobs → (force_of new).job ≡ (force_of old).job
 same_job old new q held n who d why jobs h = ap (λ (s : Standing). s.job) (force_after old new (mark.Refused n who d why jobs ∷ []) h.marked)
 
-pub look_turned : (old new : Recorded) (q : Queue) (held : List HeldEvent) (ears : Option (ℕ × ℕ)) (n : ℕ) (who : Who) (d : Call) (first : First) (jobs : HeldJobs)
+pub look_turned : (old new : Recorded) (q : Queue) (held : List HeldEvent) (ears : Option LentEars) (n : ℕ) (who : Who) (d : Call) (first : First) (jobs : HeldJobs)
     → CanLook (cell_of old q held ears) n who d first → TurnsAway old new q held n who d code.TooManyWaiting jobs
     → HasTurned (turning old q held ears) (turning new (left_queue q n who) held ears) (step.Look n who d first) (mark.Refused n who d code.TooManyWaiting jobs ∷ [])
 unfolding standing_in
@@ -133,7 +133,7 @@ look_turned old new q held ears n who d first jobs can h =
       chapter = ap (λ (x : Chaptered). x.chapter) h.marked.history;
     }
 
-pub given_up : (old new : Recorded) (q : Queue) (held : List HeldEvent) (ears : Option (ℕ × ℕ)) (n : ℕ) (who : Who) (d : Call) (jobs : HeldJobs)
+pub given_up : (old new : Recorded) (q : Queue) (held : List HeldEvent) (ears : Option LentEars) (n : ℕ) (who : Who) (d : Call) (jobs : HeldJobs)
     → CanTake (cell_of old q held ears) (step.GiveUp n who d) → TurnsAway old new q held n who d code.OperationTimeout jobs
     → HasTurned (turning old q held ears) (turning new (left_queue q n who) held ears) (step.GiveUp n who d) (mark.Refused n who d code.OperationTimeout jobs ∷ [])
 unfolding standing_in

@@ -9,7 +9,7 @@ use Rattle.domain_spec.specs.declared.standing.Registration.{Registration}
 use Rattle.domain_spec.specs.declared.standing.Standing.{Standing}
 use Rattle.domain_spec.specs.Call.{job_of}
 use Rattle.domain_spec.specs.CanTake.{CanLook}
-use Rattle.domain_spec.specs.Cell.{Cell, HeldEvent, Queue}
+use Rattle.domain_spec.specs.Cell.{Cell, HeldEvent, LentEars, Queue}
 use Rattle.domain_spec.specs.Fold.{after, standing}
 use Rattle.domain_spec.specs.Kept.{due_events, events_in, held_by, left_queue}
 use Rattle.domain_spec.specs.Legal.{MarksLoss}
@@ -33,7 +33,7 @@ use Rattle.domain_turns.proofs.Marks.{cuts_go_on, events_append, has_done, no_ev
 use Rattle.domain_turns.proofs.Waiting.{none_open, waits}
 
 -- what every turn that lets a call in knows before
-pub record Entering (old : Recorded) (q : Queue) (held : List HeldEvent) (ears : Option (ℕ × ℕ)) (n : ℕ) (who : Who) (d : Call) (first : First) (boot : Option ℕ) : Type 0 where
+pub record Entering (old : Recorded) (q : Queue) (held : List HeldEvent) (ears : Option LentEars) (n : ℕ) (who : Who) (d : Call) (first : First) (boot : Option ℕ) : Type 0 where
   pub can : CanLook (cell_of old q held ears) n who d first
   pub lets_in : LetsIn (cell_of old q held ears) (step.Look n who d first) n who (job_of d) d boot
   pub lost : (force_of old).lost ≡ None
@@ -42,7 +42,7 @@ pub record Entering (old : Recorded) (q : Queue) (held : List HeldEvent) (ears :
 pub no_loss : (s : Standing) (m : Mark ℕ) → s.lost ≡ None → MarksLoss s.lost m
 no_loss s m e = subst (λ (o : Option ℕ). MarksLoss o m) (sym e) tt
 
-pub look_away : (old new : Recorded) (q : Queue) (held : List HeldEvent) (ears : Option (ℕ × ℕ)) (n : ℕ) (who : Who) (d : Call) (first : First) (boot : Option ℕ) (count : ℕ) (x : Ask)
+pub look_away : (old new : Recorded) (q : Queue) (held : List HeldEvent) (ears : Option LentEars) (n : ℕ) (who : Who) (d : Call) (first : First) (boot : Option ℕ) (count : ℕ) (x : Ask)
     → Entering old q held ears n who d first boot → IsSettled new → IsAsking old (admit_of n who d boot ∷ []) (starved count (first_course (force_of old).state d boot)) new x
     → HasTurned (turning old q held ears) (turning new (left_queue q n who) held ears) (step.Look n who d first) (admit_of n who d boot ∷ [])
 unfolding standing_in
@@ -87,7 +87,7 @@ none_due : (s : Standing) (j : Option OpenJob) (held : List HeldEvent) → held 
 none_due s None held e = ap (λ (hs : List HeldEvent). due_events s None hs) e
 none_due s (Some j) held e = refl
 
-pub look_done : (old new : Recorded) (q : Queue) (held : List HeldEvent) (ears : Option (ℕ × ℕ)) (n : ℕ) (who : Who) (d : Call) (first : First) (boot : Option ℕ) (count : ℕ) (r : Reply)
+pub look_done : (old new : Recorded) (q : Queue) (held : List HeldEvent) (ears : Option LentEars) (n : ℕ) (who : Who) (d : Call) (first : First) (boot : Option ℕ) (count : ℕ) (r : Reply)
     → Entering old q held ears n who d first boot → IsSettled new → IsDoneWith old (admit_of n who d boot ∷ []) n (starved count (first_course (force_of old).state d boot)) new r
     → (left : List (Mark ℕ)) × HasTurned (turning old q held ears) (turning new (left_queue q n who) held ears) (step.Look n who d first) left × HasDone n r left
 unfolding standing_in

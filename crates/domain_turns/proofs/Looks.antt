@@ -12,7 +12,7 @@ use Rattle.domain_spec.specs.declared.open.OpenJob.{OpenJob}
 use Rattle.domain_spec.specs.declared.standing.Standing.{Standing}
 use Rattle.domain_spec.specs.Call.{job_of}
 use Rattle.domain_spec.specs.Carried.{IsBootAt}
-use Rattle.domain_spec.specs.Cell.{HeldEvent, Queue, share_of}
+use Rattle.domain_spec.specs.Cell.{HeldEvent, LentEars, Queue, share_of}
 use Rattle.domain_spec.specs.JobTable.{May}
 use Rattle.domain_spec.specs.Kept.{LooksOn, left_queue}
 use Rattle.domain_spec.specs.Open.{Excludes, MayAdmit, job_held, operation_held}
@@ -34,13 +34,13 @@ free_by : (j : Option OpenJob) (op : Option HeldOperation) (wanted : Job) (who :
 free_by None op wanted who held may fits = fits
 free_by (Some j) op wanted who held may fits = absurd may
 
-boot_at : (old : Recorded) (q : Queue) (held : List HeldEvent) (ears : Option (ℕ × ℕ)) (f : First) → IsKnownFirst f (cell_of old q held ears)
+boot_at : (old : Recorded) (q : Queue) (held : List HeldEvent) (ears : Option LentEars) (f : First) → IsKnownFirst f (cell_of old q held ears)
     → IsBootAt f old.history.base old.history.marks (boot_first f (live_boot (force_of old).state))
 unfolding standing_in
 boot_at old q held ears first.Now known = refl
 boot_at old q held ears (first.Boot boot) known = (refl, known)
 
-entering : (old : Recorded) (q : Queue) (held : List HeldEvent) (ears : Option (ℕ × ℕ)) (n : ℕ) (who : Who) (d : Call) (f : First) (spare : ℕ) → CanLookSo old q held ears n who d f
+entering : (old : Recorded) (q : Queue) (held : List HeldEvent) (ears : Option LentEars) (n : ℕ) (who : Who) (d : Call) (f : First) (spare : ℕ) → CanLookSo old q held ears n who d f
     → May (job_held (force_of old).job) (operation_held (force_of old).operation) (job_of d) who → Entering (with_room old spare) q held ears n who d f (boot_first f (live_boot (force_of old).state))
 unfolding standing_in
 entering old q held ears n who d f spare h may = record {
@@ -54,19 +54,19 @@ entering old q held ears n who d f spare h may = record {
   none_held = free_by (force_of old).job (operation_held (force_of old).operation) (job_of d) who held may h.fits;
 }
 
-idle : (old new : Recorded) (q p : Queue) (held : List HeldEvent) (ears : Option (ℕ × ℕ)) (n : ℕ) (who : Who) (d : Call) (f : First) → CanLookSo old q held ears n who d f → new ≡ with_room old new.spare
+idle : (old new : Recorded) (q p : Queue) (held : List HeldEvent) (ears : Option LentEars) (n : ℕ) (who : Who) (d : Call) (f : First) → CanLookSo old q held ears n who d f → new ≡ with_room old new.spare
     → LooksOn (cell_of old q held ears) n who d [] p → HasTurned (turning old q held ears) (turning new p held ears) (step.Look n who d f) []
 idle old new q p held ears n who d f h same looks =
     subst (λ (t : Turning). HasTurned (turning old q held ears) t (step.Look n who d f) []) (sym (ap (λ (r : Recorded). turning r p held ears) same))
     (look_idle old q p held ears n who d f h.can h.settled h.room h.fits looks)
 
-asked_in : (old new : Recorded) (q p : Queue) (held : List HeldEvent) (ears : Option (ℕ × ℕ)) (n : ℕ) (who : Who) (d : Call) (boot : Option ℕ) (a : Asked) (x : Ask) → IsSettled new
+asked_in : (old new : Recorded) (q p : Queue) (held : List HeldEvent) (ears : Option LentEars) (n : ℕ) (who : Who) (d : Call) (boot : Option ℕ) (a : Asked) (x : Ask) → IsSettled new
     → IsAsking old (admit_of n who d boot ∷ []) a new x → AsksLast (share_of (cell_of new p held ears) n).call x
 asked_in old new q p held ears n who d boot a x settled h =
     let there = force_after old new (admit_of n who d boot ∷ []) h.marked in
     asks_last new p held ears _ a x n (ap (λ (s : Standing). s.job) there) refl h.away settled.waits h.asks
 
-turned : (old new : Recorded) (q p : Queue) (held : List HeldEvent) (ears : Option (ℕ × ℕ)) (n : ℕ) (who : Who) (d : Call) (f : First) (jobs : HeldJobs) → CanLookSo old q held ears n who d f → IsSettled new
+turned : (old new : Recorded) (q p : Queue) (held : List HeldEvent) (ears : Option LentEars) (n : ℕ) (who : Who) (d : Call) (f : First) (jobs : HeldJobs) → CanLookSo old q held ears n who d f → IsSettled new
     → IsTurned n who d jobs old new → jobs.waiting ≡ callers_in q → p ≡ left_queue q n who
     → HasTurned (turning old q held ears) (turning new p held ears) (step.Look n who d f) (mark.Refused n who d code.TooManyWaiting jobs ∷ [])
 turned old new q p held ears n who d f jobs h settled is waiting left =
@@ -81,7 +81,7 @@ turned old new q p held ears n who d f jobs h settled is waiting left =
       settled = settled;
     }))
 
-with_spare : (old : Recorded) (q : Queue) (held : List HeldEvent) (ears : Option (ℕ × ℕ)) (n : ℕ) (who : Who) (d : Call) (f : First) (spare : ℕ) → CanLookSo old q held ears n who d f → CanLookSo (with_room old spare) q held ears n who d f
+with_spare : (old : Recorded) (q : Queue) (held : List HeldEvent) (ears : Option LentEars) (n : ℕ) (who : Who) (d : Call) (f : First) (spare : ℕ) → CanLookSo old q held ears n who d f → CanLookSo (with_room old spare) q held ears n who d f
 with_spare old q held ears n who d f spare h =
     record { can = h.can; known = h.known; settled = record { lost = h.settled.lost; waits = h.settled.waits }; room = h.room; fits = h.fits }
 

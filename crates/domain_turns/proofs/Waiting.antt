@@ -4,7 +4,7 @@ use Rattle.domain_spec.specs.declared.open.OpenJob.{OpenJob}
 use Rattle.domain_spec.specs.declared.open.OpenOperation.{OpenOperation}
 use Rattle.domain_spec.specs.declared.standing.Standing.{Standing}
 use Rattle.domain_spec.specs.CanTake.{WaitsForAnswer}
-use Rattle.domain_spec.specs.Cell.{HeldEvent, Queue}
+use Rattle.domain_spec.specs.Cell.{HeldEvent, LentEars, Queue}
 use Rattle.ask_course.specs.Along.{Asked}
 use Rattle.call_turns.proofs.Turned.{away_waits}
 use Rattle.phase_turns.proofs.Operated.{away_phase_waits}
@@ -13,14 +13,14 @@ use Rattle.domain_ledger.specs.Ledger.{standing_in}
 use Rattle.domain_record.specs.Record.{Recorded, force_of}
 use Rattle.domain_turns.specs.Turning.{answers_of, cell_of}
 
-phase_waits : (r : Recorded) (q : Queue) (held : List HeldEvent) (ears : Option (ℕ × ℕ)) (j : OpenJob) (a : Asked) (o : Option OpenOperation)
+phase_waits : (r : Recorded) (q : Queue) (held : List HeldEvent) (ears : Option LentEars) (j : OpenJob) (a : Asked) (o : Option OpenOperation)
     → (force_of r).operation ≡ o → (force_of r).job ≡ Some j → r.course ≡ Some a → IsPhaseWaiting (force_of r).state o j a → WaitsForAnswer (cell_of r q held ears) (Some j)
 unfolding standing_in
 phase_waits r q held ears j a None at is e h = absurd h
 phase_waits r q held ears j a (Some o) at is e h =
     subst (λ (x : Option OpenJob). WaitsForAnswer (cell_of r q held ears) x) is (away_phase_waits (cell_of r q held ears) j o a is at h (ap answers_of e))
 
-waits_by : (r : Recorded) (q : Queue) (held : List HeldEvent) (ears : Option (ℕ × ℕ)) (j : Option OpenJob) (a : Option Asked)
+waits_by : (r : Recorded) (q : Queue) (held : List HeldEvent) (ears : Option LentEars) (j : Option OpenJob) (a : Option Asked)
     → (force_of r).job ≡ j → r.course ≡ a → WaitsWith (force_of r) j a → WaitsForAnswer (cell_of r q held ears) j
 unfolding standing_in
 waits_by r q held ears None None is e h = tt
@@ -30,7 +30,7 @@ waits_by r q held ears (Some j) (Some a) is e (inr h) = phase_waits r q held ear
 waits_by r q held ears (Some j) (Some a) is e (inl h) =
     subst (λ (x : Option OpenJob). WaitsForAnswer (cell_of r q held ears) x) is (away_waits (cell_of r q held ears) j a is h (ap answers_of e))
 
-pub waits : (r : Recorded) (q : Queue) (held : List HeldEvent) (ears : Option (ℕ × ℕ)) → WaitsWith (force_of r) (force_of r).job r.course → WaitsForAnswer (cell_of r q held ears) (force_of r).job
+pub waits : (r : Recorded) (q : Queue) (held : List HeldEvent) (ears : Option LentEars) → WaitsWith (force_of r) (force_of r).job r.course → WaitsForAnswer (cell_of r q held ears) (force_of r).job
 waits r q held ears h = waits_by r q held ears (force_of r).job r.course refl refl h
 
 none_by : (s : Standing) (j : Option OpenJob) (a : Option Asked) → a ≡ None → WaitsWith s j a → j ≡ None

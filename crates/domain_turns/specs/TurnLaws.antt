@@ -4,7 +4,7 @@ use Rattle.domain_spec.specs.Types.{Answer, Call, Who}
 use Rattle.domain_spec.specs.declared.core_step.CoreStep.TheVariants as step
 use Rattle.domain_spec.specs.declared.core_step.First.{First}
 use Rattle.domain_spec.specs.CanTake.{CanLook, CanTake}
-use Rattle.domain_spec.specs.Cell.{HeldEvent, Queue}
+use Rattle.domain_spec.specs.Cell.{HeldEvent, LentEars, Queue}
 use Rattle.domain_spec.specs.Reading.{live_boot}
 use Rattle.domain_spec.specs.Turns.{AllHaveRoom}
 use Rattle.domain_ledger.specs.declared.ledger.Back.{Back}
@@ -16,7 +16,7 @@ use Rattle.domain_turns.specs.Looking.{IsKnownFirst, Looks, LooksSo, boot_first}
 use Rattle.domain_turns.specs.Turning.{FitsJob, IsSettled, cell_of, turning}
 
 -- what is known before a look
-pub record CanLookSo (old : Recorded) (q : Queue) (held : List HeldEvent) (ears : Option (ℕ × ℕ)) (n : ℕ) (who : Who) (d : Call) (f : First) : Type 0 where
+pub record CanLookSo (old : Recorded) (q : Queue) (held : List HeldEvent) (ears : Option LentEars) (n : ℕ) (who : Who) (d : Call) (f : First) : Type 0 where
   pub can : CanLook (cell_of old q held ears) n who d f
   pub known : IsKnownFirst f (cell_of old q held ears)
   pub settled : IsSettled old
@@ -26,12 +26,12 @@ pub record CanLookSo (old : Recorded) (q : Queue) (held : List HeldEvent) (ears 
 -- what a look finds, and leaves of the history and of who waits, is one step of the cell
 abbrev pub LooksAreTurns : Type 0
 LooksAreTurns =
-    (old new : Recorded) (q p : Queue) (held : List HeldEvent) (ears : Option (ℕ × ℕ)) (n : ℕ) (who : Who) (d : Call) (f : First) (result : Looked) → CanLookSo old q held ears n who d f → IsSettled new
+    (old new : Recorded) (q p : Queue) (held : List HeldEvent) (ears : Option LentEars) (n : ℕ) (who : Who) (d : Call) (f : First) (result : Looked) → CanLookSo old q held ears n who d f → IsSettled new
     → LooksSo n who d (boot_first f (live_boot (force_of old).state)) old new q p result → Looks n who d f (turning old q held ears) (turning new p held ears) result
 
 -- what an answer leaves of the history, once the held events apply, is one step of the cell
 abbrev pub AnswersAreTurns : Type 0
 AnswersAreTurns =
-    (old new : Recorded) (q : Queue) (held : List HeldEvent) (ears : Option (ℕ × ℕ)) (n : ℕ) (x : Answer) (left : Back)
+    (old new : Recorded) (q : Queue) (held : List HeldEvent) (ears : Option LentEars) (n : ℕ) (x : Answer) (left : Back)
     → CanTake (cell_of old q held ears) (step.Back n x) → AllHaveRoom (registrations old.listeners) → IsSettled old → IsSettled new → Answers n old.course x held old new left
     → GoesBack n x (turning old q held ears) (turning new q (held_after left held) ears) left

@@ -6,7 +6,7 @@ use Rattle.domain_spec.specs.declared.core_step.CoreStep.TheVariants as step
 use Rattle.domain_spec.specs.declared.mark.Mark.{Mark}
 use Rattle.domain_spec.specs.declared.mark.Mark.TheVariants as mark
 use Rattle.domain_spec.specs.declared.open.OpenJob.{OpenJob}
-use Rattle.domain_spec.specs.Cell.{Cell, HeldEvent, OpenCall, Queue}
+use Rattle.domain_spec.specs.Cell.{Cell, HeldEvent, LentEars, OpenCall, Queue}
 use Rattle.domain_spec.specs.Chapter.{first_base}
 use Rattle.domain_spec.specs.Turns.{IsTurn, Leads}
 use Rattle.ask_course.specs.Along.{Asked}
@@ -27,7 +27,7 @@ answers_of None = []
 answers_of (Some a) = a.answers
 
 -- the cell with this record, queue and held events, of which these ears are out
-abbrev pub cell_of : Recorded → Queue → List HeldEvent → Option (ℕ × ℕ) → Cell
+abbrev pub cell_of : Recorded → Queue → List HeldEvent → Option LentEars → Cell
 cell_of r queue held ears = record {
   base = r.history.base;
   marks = r.history.marks;
@@ -39,7 +39,7 @@ cell_of r queue held ears = record {
 }
 
 -- all of it
-abbrev pub turning : Recorded → Queue → List HeldEvent → Option (ℕ × ℕ) → Turning
+abbrev pub turning : Recorded → Queue → List HeldEvent → Option LentEars → Turning
 turning r queue held ears =
     record { chapter = r.history.chapter; cell = cell_of r queue held ears; course = r.course; listeners = r.listeners }
 
