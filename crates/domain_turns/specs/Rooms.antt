@@ -1,6 +1,6 @@
 -- The room that makes later turns free of memory, and what else holds between two turns.
-use Rattle.std.specs.Prelude.{◌≤◌, ℕ, ◌+◌, List, length, Option, None, Some}
-use Rattle.domain_spec.specs.Cell.{HeldEvent}
+use Rattle.std.specs.Prelude.{◌≤◌, ℕ, ◌+◌, List, length, Option, None, Some, if◌then◌else◌}
+use Rattle.domain_spec.specs.Cell.{HeldEvent, LentEars}
 use Rattle.domain_spec.specs.Fold.{at_base}
 use Rattle.domain_spec.specs.Laws.{IsCounted}
 use Rattle.ask_course.specs.Along.{Asked}
@@ -17,14 +17,20 @@ abbrev pub rooms_needed : Option Asked → ℕ
 rooms_needed None = 0
 rooms_needed (Some a) = 1
 
--- there is room for what may come: each room is for one mark of a guest
-pub record HasRooms (r : Recorded) (held : List HeldEvent) (rooms : ℕ) : Type 0 where
-  pub marks : marks_needed r.course + rooms ≤ r.spare
-  pub enough : length held + rooms_needed r.course ≤ rooms
-  pub few : rooms ≤ 64
+-- the room that ears need which are out, until they told something
+abbrev pub rooms_lent : Option LentEars → ℕ
+rooms_lent None = 0
+rooms_lent (Some ears) = if ears.told then 0 else 1
 
--- what holds between two turns
-pub record IsKept (r : Recorded) (held : List HeldEvent) (rooms : ℕ) : Type 0 where
+-- there is room for what may come: each room is for one mark of a guest
+pub record HasRooms (r : Recorded) (held : List HeldEvent) (ears : Option LentEars) (rooms : ℕ) : Type 0 where
+  pub marks : marks_needed r.course + rooms ≤ r.spare
+  pub enough : length held + rooms_needed r.course + rooms_lent ears ≤ rooms
+  pub few : rooms ≤ 128
+
+-- what holds between two turns; ears are lent only where one more event can be held
+pub record IsKept (r : Recorded) (held : List HeldEvent) (ears : Option LentEars) (rooms : ℕ) : Type 0 where
   pub fits : FitsJob (force_of r).job held
+  pub few_held : length held + rooms_lent ears ≤ 64
   pub counted : IsCounted (at_base r.history.base)
-  pub has_rooms : HasRooms r held rooms
+  pub has_rooms : HasRooms r held ears rooms

@@ -60,11 +60,11 @@ fn boot_first(kept: &Record, first: First) -> Option<u64>
 // Room for the marks of a call and for what a boot's end tells while it is away, besides the rooms that are
 // there.
 fn make_room(kept: &mut Record, rooms: &mut Vec<OneRoom>, alloc: Global) -> Result<(), NoMemory>
-    requires few { vec_len rooms.old ≤ 64 }
+    requires few { vec_len rooms.old ≤ 128 }
     ensures same { kept.new ≡ with_room kept.old kept.new.spare }
     ensures marks { OnOk result (5 + vec_len rooms.new ≤ kept.new.spare) }
     ensures rooms { OnOk result (1 ≤ vec_len rooms.new) }
-    ensures grown { (vec_len rooms.old ≤ vec_len rooms.new) × (vec_len rooms.new ≤ 64) }
+    ensures grown { (vec_len rooms.old ≤ vec_len rooms.new) × (vec_len rooms.new ≤ 128) }
     ensures stays { kept.old.spare ≤ kept.new.spare }
     ensures err { OnErr result (vec_len rooms.new ≡ vec_len rooms.old) }
 {
@@ -150,7 +150,7 @@ fn refusal_parts(
     alloc: Global,
     call: &Call,
 ) -> Result<(Call, WhoList), NoMemory>
-    requires few { rooms ≤ 64 }
+    requires few { rooms ≤ 128 }
     ensures same { kept.new ≡ with_room kept.old kept.new.spare }
     ensures marks { OnOk result (3 + rooms ≤ kept.new.spare) }
     ensures stays { kept.old.spare ≤ kept.new.spare }
@@ -191,7 +191,7 @@ fn wait(
     call: &Call,
     held: JobRecord,
 ) -> Looked
-    requires few { rooms ≤ 64 }
+    requires few { rooms ≤ 128 }
     requires active { held.active ≡ job_held (force_of kept.old).job }
     requires op { held.op ≡ operation_held (force_of kept.old).operation }
     requires excluded { Excludes held.active held.op call.now who }
@@ -236,14 +236,14 @@ pub fn look(
     call: &Call,
     first: First,
 ) -> Looked
-    requires few { vec_len rooms.old ≤ 64 }
+    requires few { vec_len rooms.old ≤ 128 }
     requires marks { marks_needed kept.old.course + vec_len rooms.old ≤ kept.old.spare }
     requires begins { begins call.now ≡ None }
     requires takes { takes_up call.now ≡ None }
     requires lawful { May (job_held (force_of kept.old).job) (operation_held (force_of kept.old).operation) (job_of call.now) who → IsLawful (force_of kept.old) (mark.Admit by.number who (job_of call.now) call.now (boot_first first (live_boot (force_of kept.old).state))) }
     ensures looks { LooksSo by.number who call.now (boot_first first (live_boot (force_of kept.old).state)) kept.old kept.new queue.old queue.new result }
     ensures marks { marks_needed kept.new.course + vec_len rooms.new ≤ kept.new.spare }
-    ensures rooms { (vec_len rooms.old ≤ vec_len rooms.new) × (vec_len rooms.new ≤ 64) }
+    ensures rooms { (vec_len rooms.old ≤ vec_len rooms.new) × (vec_len rooms.new ≤ 128) }
     ensures room { (1 ≤ vec_len rooms.new) ⊎ (kept.new.course ≡ kept.old.course) }
 {
     let held = jobs_held(kept);
