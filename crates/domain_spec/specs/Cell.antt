@@ -1,5 +1,5 @@
 -- A domain's cell between two turns: its history, and what it keeps beside that, for each number alone.
-use Rattle.std.specs.Prelude.{ℕ, ◌==◌, List, [], ◌++◌, map, filter, find, take, not, ◌&&◌, Option, None, Some, option_map, unwrap_or, if◌then◌else◌}
+use Rattle.std.specs.Prelude.{ℕ, ◌==◌, List, [], ◌++◌, map, filter, find, take, not, ◌&&◌, Bool, Option, None, Some, option_map, unwrap_or, if◌then◌else◌}
 use Rattle.domain_spec.specs.Types.{Answer, Ask, GuestEvent, Job, State, Who}
 use Rattle.domain_spec.specs.Types.job
 use Rattle.domain_spec.specs.declared.mark.Mark.{Mark}
