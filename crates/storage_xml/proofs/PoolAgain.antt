@@ -1,7 +1,7 @@
 -- Pools that are printed are read again.
-use Rattle.std.proofs.Common.{◌≡◌, ℕ, zero, suc, ◌^◌, ◌<◌, ◌≤◌, List, [], ◌∷◌, ◌++◌, true, false, Option, Some, None, Ok, refl, ap, arith}
-use Rattle.std.specs.Prelude.{◌==◌, codes, chars, find, option_and_then, option_map}
-use Rattle.std.specs.List.{AllByRecursion, flat_map}
+use Rattle.std.proofs.Common.{◌≡◌, ℕ, ◌≤◌, List, [], ◌∷◌, ◌++◌, true, false, Option, Some, None, Ok, refl, ap, arith}
+use Rattle.std.specs.Prelude.{◌==◌, codes, chars, find, option_map}
+use Rattle.std.specs.List.{flat_map}
 use Rattle.std.specs.Option.{option_to_list}
 use Rattle.std.proofs.lemmas.Bool.Decides.{nat_tests}
 use Rattle.uuid.specs.Parts.{zero_bytes}
@@ -13,18 +13,15 @@ use Rattle.text_spec.specs.Text.{read_of}
 use Rattle.text_spec.specs.Tree.{Tree, trees, none}
 use Rattle.text_spec.specs.Writable.{IsNamed, IsTree, IsWritable}
 use Rattle.text_spec.specs.Written.{written, in_text, deeper, trees_written}
-use Rattle.text_laws.specs.Given.{IsUuidOf}
 use Rattle.text_laws.proofs.Allowed.{both_all}
 use Rattle.text_laws.proofs.Lengths.{AreNoLonger, as_long, both_longer, first_room, fits_too, none_longer, tree_room, with_room}
 use Rattle.text_laws.proofs.Plain.{named_by, word_value}
-use Rattle.virt_types.specs.Name.{bad_place}
 use Rattle.virt_types.specs.declared.storage_def.PoolDef.{PoolDef}
 use Rattle.virt_types.specs.declared.storage_def.PoolType.{PoolType}
 use Rattle.virt_types.specs.declared.storage_def.PoolType.TheVariants as pool
 use Rattle.tree_words.specs.Called.{first_called, is_called, is_pair_called, text_called, value_called}
 use Rattle.tree_words.specs.Spelled.{spelled, worded, worth}
-use Rattle.text_rows.specs.Rows.{optional}
-use Rattle.text_rows.specs.Values.{size_tree, size_value, uuid_tree, uuid_value}
+use Rattle.text_rows.specs.Values.{size_tree, uuid_tree}
 use Rattle.text_rows.proofs.Again.{identifier_back, name_back, size_back}
 use Rattle.text_rows.proofs.Formed.{first_in, holder_formed, one_attribute, size_formed, uuid_formed, word_formed, writable}
 use Rattle.storage_xml.specs.PoolText.{capacity_or_most, identified, path_in, pool_fits, pool_in, pool_of, pool_read, pool_tree, target_tree}
