@@ -1,5 +1,5 @@
 -- Networks that are printed are read again.
-use Rattle.std.proofs.Common.{◌≡◌, ℕ, ◌^◌, ◌<◌, ◌≤◌, List, [], ◌∷◌, ◌++◌, true, false, Option, Some, None, Ok, refl, ap, ◌∙◌, arith}
+use Rattle.std.proofs.Common.{◌≡◌, ℕ, ◌^◌, ◌<◌, ◌≤◌, List, [], ◌∷◌, ◌++◌, true, false, Option, Some, None, Ok, refl, sym, ap, ◌∙◌, subst, arith}
 use Rattle.std.specs.Prelude.{codes, chars, decimal, filter, find, map, option_and_then, option_map, slice_index}
 use Rattle.std.specs.Int.{w32, to_be_bytes}
 use Rattle.std.specs.List.{AllByRecursion, flat_map}
@@ -19,6 +19,7 @@ use Rattle.virt_types.specs.declared.network_def.NetIp.{NetIp}
 use Rattle.procedure_spec.specs.LeaseText.{address_text}
 use Rattle.procedure_spec.proofs.LeaseTexts.{address_again}
 use Rattle.text_spec.specs.Character.{is_name_start, is_name_char}
+use Rattle.text_spec.specs.Fill.{IsUuidFilled}
 use Rattle.text_spec.specs.Look.{text_of}
 use Rattle.text_spec.specs.Spelling.{fits}
 use Rattle.text_spec.specs.Tag.{is_among}
@@ -39,6 +40,7 @@ use Rattle.tree_words.specs.Spelled.{spelled, worded, worth}
 use Rattle.text_rows.specs.Rows.{optional}
 use Rattle.text_rows.specs.Values.{uuid_tree}
 use Rattle.text_rows.proofs.Again.{identifier_back, name_back}
+use Rattle.text_rows.proofs.Identifiers.{uuid_filled, uuid_longer}
 use Rattle.text_rows.proofs.Formed.{first_in, holder_formed, one_attribute, uuid_formed, word_formed, writable}
 use Rattle.network_xml.specs.Addresses.{mask_of}
 use Rattle.network_xml.proofs.Masks.{is_le, mask_small, ones_back}
@@ -485,3 +487,30 @@ network_again back d is = record {
   is_tree = back (network_tree d) (writable (network_tree d) (formed d is) (own_fits d is.fitting));
   is_network = read_back d is;
 }
+
+-- ---- what is filled in
+alike : (d : NetDef) (u v : List ℕ) → AreNoLonger (network_tree (record d { uuid = Some u }) ∷ []) (network_tree (record d { uuid = Some v }) ∷ [])
+unfolding network_tree
+alike d u v =
+    longer (uuid_tree u ∷ behind d) (uuid_tree v ∷ behind d) (worded (codes "name") d.name) (worded (codes "name") d.name)
+    (both_longer (worded (codes "name") d.name ∷ []) (worded (codes "name") d.name ∷ []) (uuid_tree u ∷ behind d) (uuid_tree v ∷ behind d) (as_long (worded (codes "name") d.name ∷ []))
+    (both_longer (uuid_tree u ∷ []) (uuid_tree v ∷ []) (behind d) (behind d) (uuid_longer u v) (as_long (behind d))))
+
+fits_alike : (d : NetDef) (u v : List ℕ) → fits (network_tree (record d { uuid = Some u })) ≡ true → fits (network_tree (record d { uuid = Some v })) ≡ true
+fits_alike d u v e = fits_too (network_tree (record d { uuid = Some v })) (network_tree (record d { uuid = Some u })) (alike d v u) e
+
+fits_filled : (d : NetDef) (words : List ℕ) (u v : Option (List ℕ)) → IsUuidFilled words u v → network_fits (record d { uuid = u }) ≡ true → network_fits (record d { uuid = v }) ≡ true
+unfolding network_fits
+fits_filled d words None None filled e = e
+fits_filled d words None (Some v) filled e = fits_alike d zero_bytes v e
+fits_filled d words (Some u) v filled e = subst (λ (w : Option (List ℕ)). network_fits (record d { uuid = w }) ≡ true) (sym filled.0) e
+
+pub network_filled : (d f : NetDef) (words : List ℕ) → IsSoundNetwork d → IsUuidFilled words d.uuid f.uuid → f ≡ record d { uuid = f.uuid } → IsSoundNetwork f
+network_filled d f words is filled same = subst IsSoundNetwork (sym same) (record {
+  name = is.name;
+  name_text = is.name_text;
+  uuid = uuid_filled words d.uuid f.uuid filled is.uuid;
+  bridge = is.bridge;
+  ip = is.ip;
+  fitting = fits_filled d words d.uuid f.uuid filled is.fitting;
+})

@@ -1,6 +1,7 @@
 // What is printed of networks reads back, and what is read is sound.
-ghost use Rattle.std.specs.Prelude.{ℕ, List};
+ghost use Rattle.std.specs.Prelude.{◌≡◌, ℕ, List};
 ghost use Rattle.virt_types.specs.declared.network_def.NetDef.{NetDef as TheNetwork};
+ghost use Rattle.text_spec.specs.Fill.{IsUuidFilled};
 ghost use Rattle.text_spec.specs.Written.{written};
 ghost use Rattle.network_xml.specs.NetworkPrinted.{network_tree};
 ghost use Rattle.network_xml.specs.ReadsAs.{IsSoundNetwork, ReadsAsNetwork};
@@ -21,3 +22,8 @@ pub fn read_network_is_sound()
 {
     read_is_writable();
 }
+
+/// A sound network stays sound once it is filled in.
+pub fn filled_network_is_sound()
+    ensures { (d f : TheNetwork) → (words : List ℕ) → IsSoundNetwork d → IsUuidFilled words d.uuid f.uuid → f ≡ record d { uuid = f.uuid } → IsSoundNetwork f }
+{}

@@ -11,6 +11,6 @@ mod subnet;
 #[cfg(test)]
 mod tests;
 
-pub use laws::{printed_network_reads_back, read_network_is_sound};
+pub use laws::{filled_network_is_sound, printed_network_reads_back, read_network_is_sound};
 pub use network::{fill, print, read};
 pub use text_spec::{DefFault, DefKind};
