@@ -1,3 +1,4 @@
 mod PoolAgain
 mod Reading
+mod Sound
 mod VolumeAgain

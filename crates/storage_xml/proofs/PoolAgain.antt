@@ -1,31 +1,30 @@
 -- Pools that are printed are read again.
-use Rattle.std.proofs.Common.{◌≡◌, ℕ, zero, suc, ◌^◌, ◌<◌, ◌≤◌, List, [], ◌∷◌, ◌++◌, true, false, Option, Some, None, Ok, refl, ap, arith}
-use Rattle.std.specs.Prelude.{◌==◌, codes, chars, find, option_and_then, option_map}
-use Rattle.std.specs.List.{AllByRecursion, flat_map}
+use Rattle.std.proofs.Common.{◌≡◌, ℕ, ◌≤◌, List, [], ◌∷◌, ◌++◌, true, false, Option, Some, None, Ok, refl, sym, ap, subst, arith}
+use Rattle.std.specs.Prelude.{◌==◌, codes, chars, find, option_map}
+use Rattle.std.specs.List.{flat_map}
 use Rattle.std.specs.Option.{option_to_list}
 use Rattle.std.proofs.lemmas.Bool.Decides.{nat_tests}
 use Rattle.uuid.specs.Parts.{zero_bytes}
 use Rattle.uuid.specs.Text.{hyphenated_text, lower}
 use Rattle.text_spec.specs.Character.{is_name_start, is_name_char}
+use Rattle.text_spec.specs.Fill.{IsUuidFilled}
 use Rattle.text_spec.specs.Look.{text_of}
 use Rattle.text_spec.specs.Spelling.{fits}
 use Rattle.text_spec.specs.Text.{read_of}
 use Rattle.text_spec.specs.Tree.{Tree, trees, none}
 use Rattle.text_spec.specs.Writable.{IsNamed, IsTree, IsWritable}
 use Rattle.text_spec.specs.Written.{written, in_text, deeper, trees_written}
-use Rattle.text_laws.specs.Given.{IsUuidOf}
 use Rattle.text_laws.proofs.Allowed.{both_all}
 use Rattle.text_laws.proofs.Lengths.{AreNoLonger, as_long, both_longer, first_room, fits_too, none_longer, tree_room, with_room}
 use Rattle.text_laws.proofs.Plain.{named_by, word_value}
-use Rattle.virt_types.specs.Name.{bad_place}
 use Rattle.virt_types.specs.declared.storage_def.PoolDef.{PoolDef}
 use Rattle.virt_types.specs.declared.storage_def.PoolType.{PoolType}
 use Rattle.virt_types.specs.declared.storage_def.PoolType.TheVariants as pool
 use Rattle.tree_words.specs.Called.{first_called, is_called, is_pair_called, text_called, value_called}
 use Rattle.tree_words.specs.Spelled.{spelled, worded, worth}
-use Rattle.text_rows.specs.Rows.{optional}
-use Rattle.text_rows.specs.Values.{size_tree, size_value, uuid_tree, uuid_value}
+use Rattle.text_rows.specs.Values.{size_tree, uuid_tree}
 use Rattle.text_rows.proofs.Again.{identifier_back, name_back, size_back}
+use Rattle.text_rows.proofs.Identifiers.{uuid_filled, uuid_longer}
 use Rattle.text_rows.proofs.Formed.{first_in, holder_formed, one_attribute, size_formed, uuid_formed, word_formed, writable}
 use Rattle.storage_xml.specs.PoolText.{capacity_or_most, identified, path_in, pool_fits, pool_in, pool_of, pool_read, pool_tree, target_tree}
 use Rattle.storage_xml.specs.ReadsAs.{IsSoundPool, ReadsAsPool}
@@ -193,3 +192,30 @@ pool_again back d is = record {
   is_tree = back (pool_tree d) (writable (pool_tree d) (formed d is) (own_fits d is.fitting));
   is_pool = read_back d is;
 }
+
+-- ---- what is filled in
+alike : (d : PoolDef) (u v : List ℕ) → AreNoLonger (pool_tree (record d { uuid = Some u }) ∷ []) (pool_tree (record d { uuid = Some v }) ∷ [])
+unfolding pool_tree
+alike d u v =
+    longer (uuid_tree u ∷ behind d) (uuid_tree v ∷ behind d) (worded (codes "name") d.name) (worded (codes "name") d.name)
+    (both_longer (worded (codes "name") d.name ∷ []) (worded (codes "name") d.name ∷ []) (uuid_tree u ∷ behind d) (uuid_tree v ∷ behind d) (as_long (worded (codes "name") d.name ∷ []))
+    (both_longer (uuid_tree u ∷ []) (uuid_tree v ∷ []) (behind d) (behind d) (uuid_longer u v) (as_long (behind d))))
+
+fits_alike : (d : PoolDef) (u v : List ℕ) → fits (pool_tree (record d { uuid = Some u })) ≡ true → fits (pool_tree (record d { uuid = Some v })) ≡ true
+fits_alike d u v e = fits_too (pool_tree (record d { uuid = Some v })) (pool_tree (record d { uuid = Some u })) (alike d v u) e
+
+fits_filled : (d : PoolDef) (words : List ℕ) (u v : Option (List ℕ)) → IsUuidFilled words u v → pool_fits (record d { uuid = u }) ≡ true → pool_fits (record d { uuid = v }) ≡ true
+unfolding pool_fits
+fits_filled d words None None filled e = e
+fits_filled d words None (Some v) filled e = fits_alike d zero_bytes v e
+fits_filled d words (Some u) v filled e = subst (λ (w : Option (List ℕ)). pool_fits (record d { uuid = w }) ≡ true) (sym filled.0) e
+
+pub pool_filled : (d f : PoolDef) (words : List ℕ) → IsSoundPool d → IsUuidFilled words d.uuid f.uuid → f ≡ record d { uuid = f.uuid } → IsSoundPool f
+pool_filled d f words is filled same = subst IsSoundPool (sym same) (record {
+  name = is.name;
+  name_text = is.name_text;
+  uuid = uuid_filled words d.uuid f.uuid filled is.uuid;
+  capacity = is.capacity;
+  path = is.path;
+  fitting = fits_filled d words d.uuid f.uuid filled is.fitting;
+})

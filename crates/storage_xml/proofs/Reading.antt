@@ -1,9 +1,7 @@
 -- What is read, from its parts.
-use Rattle.std.proofs.Common.{◌≡◌, ℕ, List, Option, Some, None, Ok, refl, sym}
+use Rattle.std.proofs.Common.{◌≡◌, ℕ, List, Option, Ok, refl, sym}
 use Rattle.std.specs.Prelude.{codes, unwrap_or}
-use Rattle.virt_types.specs.declared.storage_def.PoolDef.{PoolDef}
 use Rattle.virt_types.specs.declared.storage_def.PoolType.{PoolType}
-use Rattle.virt_types.specs.declared.storage_def.VolDef.{VolDef}
 use Rattle.text_spec.specs.Tree.{Tree}
 use Rattle.tree_words.specs.Called.{first_called, text_called, value_called}
 use Rattle.text_rows.specs.Rows.{needed, optional}

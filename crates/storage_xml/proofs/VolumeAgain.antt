@@ -1,17 +1,16 @@
 -- Volumes that are printed are read again.
-use Rattle.std.proofs.Common.{◌≡◌, ℕ, ◌^◌, ◌<◌, ◌≤◌, List, [], ◌∷◌, true, Option, Some, None, Ok, refl, ap, arith}
-use Rattle.std.specs.Prelude.{codes, find, option_and_then}
+use Rattle.std.proofs.Common.{◌≡◌, ℕ, List, [], ◌∷◌, true, Some, Ok, refl, arith}
+use Rattle.std.specs.Prelude.{codes, find}
 use Rattle.text_spec.specs.Character.{is_name_start, is_name_char}
 use Rattle.text_spec.specs.Text.{read_of}
 use Rattle.text_spec.specs.Tree.{Tree}
 use Rattle.text_spec.specs.Writable.{IsNamed, IsTree, IsWritable}
 use Rattle.text_spec.specs.Written.{written}
 use Rattle.text_laws.proofs.Plain.{named_by}
-use Rattle.virt_types.specs.Name.{bad_place}
 use Rattle.virt_types.specs.declared.storage_def.VolDef.{VolDef}
 use Rattle.tree_words.specs.Called.{first_called, is_called, is_pair_called, text_called, value_called}
-use Rattle.tree_words.specs.Spelled.{spelled, worded, worth}
-use Rattle.text_rows.specs.Values.{size_tree, size_value}
+use Rattle.tree_words.specs.Spelled.{worded, worth}
+use Rattle.text_rows.specs.Values.{size_tree}
 use Rattle.text_rows.proofs.Again.{name_back, size_back}
 use Rattle.text_rows.proofs.Formed.{first_in, holder_formed, one_attribute, size_formed, word_formed, writable}
 use Rattle.storage_xml.specs.ReadsAs.{IsSoundVolume, ReadsAsVolume}

@@ -1,5 +1,5 @@
 -- The texts of volumes, after libvirt's storage volume format ("General metadata", "Target elements").
-use Rattle.std.specs.Prelude.{ℕ, List, [], ◌∷◌, Bool, Option, Some, None, Result, Ok, Err, option_and_then, unwrap_or, codes, if◌then◌else◌}
+use Rattle.std.specs.Prelude.{ℕ, List, [], ◌∷◌, Bool, Option, Result, Ok, Err, option_and_then, unwrap_or, codes, if◌then◌else◌}
 use Rattle.virt_types.specs.declared.storage_def.VolDef.{VolDef}
 use Rattle.text_spec.specs.declared.definition.DefFault.{DefFault}
 use Rattle.text_spec.specs.declared.definition.DefKind.TheVariants as kind

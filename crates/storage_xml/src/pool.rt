@@ -112,6 +112,9 @@ fn pool_in(alloc: Global, tree: &Tree) -> Result<PoolDef, OrNoMemory<DefFault>>
 /// The fault is the first in that order: another root element, a value that is missing or none, a
 /// capacity above 2^60. It is `TooLong`, with the root's path, where the pool's own text would pass
 /// the limits of a text.
+///
+/// What is read of the tree of a whole text is sound (`read_pool_is_sound`), so that it reads back from
+/// the text that is printed of it.
 #[tactic(auto, unfolding(crate::specs::PoolText::pool_read))]
 pub fn read(alloc: Global, tree: &Tree) -> Result<PoolDef, OrNoMemory<DefFault>>
     ensures { UnlessNoMemory result (spec.pool_read (seen tree.now)) }

@@ -98,6 +98,9 @@ fn volume_fits(alloc: Global, def: &VolDef) -> Result<bool, NoMemory>
 /// The fault is the first in that order: another root element, a value that is missing or none, a size
 /// above 2^60. It is `TooLong`, with the root's path, where the volume's own text would pass the limits
 /// of a text.
+///
+/// What is read of the tree of a whole text is sound (`read_volume_is_sound`), so that it reads back
+/// from the text that is printed of it.
 #[tactic(auto, unfolding(crate::specs::VolumeText::volume_read))]
 pub fn read_volume(alloc: Global, tree: &Tree) -> Result<VolDef, OrNoMemory<DefFault>>
     ensures { UnlessNoMemory result (spec.volume_read (seen tree.now)) }

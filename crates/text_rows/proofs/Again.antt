@@ -1,11 +1,11 @@
 -- Values that are printed are read again.
-use Rattle.std.proofs.Common.{◌≡◌, ℕ, ◌*◌, ◌^◌, ◌<◌, ◌≤◌, List, [], ◌∷◌, true, Option, Some, None, Ok, refl, arith}
+use Rattle.std.proofs.Common.{◌≡◌, ℕ, ◌*◌, ◌^◌, ◌<◌, ◌≤◌, List, true, Option, Some, None, Ok, refl, arith}
 use Rattle.std.specs.Prelude.{codes, nat_le, option_map}
 use Rattle.std.specs.Fmt.{decimal}
 use Rattle.std.proofs.lemmas.Bool.Decides.{nat_tests}
-use Rattle.uuid.specs.Text.{hyphenated_text, lower, parsed}
+use Rattle.uuid.specs.Text.{hyphenated_text, lower}
 use Rattle.virt_types.specs.Name.{bad_place}
-use Rattle.text_spec.specs.Units.{bytes_of, number_of, size_of, unit_of, base_of, power_of}
+use Rattle.text_spec.specs.Units.{bytes_of, size_of, unit_of, base_of, power_of}
 use Rattle.text_laws.specs.Given.{IsUuidOf}
 use Rattle.text_laws.proofs.Figures.{number_back, uuid_back}
 use Rattle.tree_words.specs.Called.{is_pair_called, value_called}

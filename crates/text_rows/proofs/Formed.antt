@@ -1,6 +1,6 @@
 -- Trees that are put together by words can be written, where they fit.
-use Rattle.std.proofs.Common.{◌≡◌, ℕ, suc, ◌^◌, ◌<◌, ◌≤◌, List, [], ◌∷◌, ◌++◌, length, Bool, true, false, Option, Some, None, refl, ap, arith}
-use Rattle.std.specs.Prelude.{nat_le, chars, codes, find, option_map}
+use Rattle.std.proofs.Common.{◌≡◌, ℕ, suc, ◌^◌, ◌<◌, List, [], ◌∷◌, length, true, Option, Some, None, refl, ap, arith}
+use Rattle.std.specs.Prelude.{nat_le, codes, find, option_map}
 use Rattle.std.specs.Fmt.{decimal}
 use Rattle.std.specs.List.{AllByRecursion}
 use Rattle.std.specs.Option.{option_to_list}
@@ -8,12 +8,10 @@ use Rattle.std.proofs.lemmas.Bool.Decides.{nat_tests}
 use Rattle.uuid.specs.Text.{hyphenated_text, lower}
 use Rattle.text_spec.specs.declared.pair.Pair.{Pair}
 use Rattle.text_spec.specs.Character.{is_name_start, is_name_char}
-use Rattle.text_spec.specs.Look.{listed, children_of}
 use Rattle.text_spec.specs.Spelling.{fits}
-use Rattle.text_spec.specs.Tag.{is_among}
 use Rattle.text_spec.specs.Text.{most_bytes, most_levels, most_elements}
-use Rattle.text_spec.specs.Tree.{Tree, element, trees}
-use Rattle.text_spec.specs.Writable.{AreAttributes, AreTrees, IsAttribute, IsNamed, IsText, IsTree, IsWritable, size}
+use Rattle.text_spec.specs.Tree.{Tree, trees}
+use Rattle.text_spec.specs.Writable.{AreAttributes, AreTrees, IsNamed, IsText, IsTree, IsWritable, size}
 use Rattle.text_spec.specs.Written.{written}
 use Rattle.text_spec.proofs.Seen.{listed-trees}
 use Rattle.text_laws.specs.Given.{IsValue}

@@ -1,3 +1,6 @@
 pub mod Again
 pub mod Formed
+pub mod Found
+pub mod Identifiers
 pub mod Parsed
+pub mod Was

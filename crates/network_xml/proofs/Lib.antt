@@ -1,0 +1,5 @@
+pub mod Hosts
+pub mod Masks
+pub mod NetworkAgain
+pub mod Reading
+pub mod Sound

@@ -1,0 +1,4 @@
+pub mod Addresses
+pub mod NetworkText
+pub mod NetworkPrinted
+pub mod ReadsAs

@@ -1,0 +1,129 @@
+// Addresses as values of attributes: of the network (IPv4) and of interfaces.
+ghost use Rattle.std.specs.Prelude.{◌≡◌, IfOk, Some, None, Ok, option_map};
+ghost use Rattle.std.specs.String.{string_bytes};
+ghost use Rattle.procedure_spec.specs.LeaseText as written;
+ghost use Rattle.virt_types.specs.Memory.{UnlessNoMemory};
+ghost use Rattle.text_rows.specs.Rows.{at, needed};
+ghost use Rattle.network_xml.specs.NetworkText as spec;
+
+use crate::subnet::ones_of;
+use definition_words::{mac_of, read_number};
+use std::alloc::Global;
+use std::net::Ipv4Addr;
+use text_rows::fault_at;
+use text_spec::{DefFault, DefKind};
+use virt_types::{Mac, NoMemory, OrNoMemory, Text};
+
+/// The address that a text is: four decimal numbers with dots between them.
+#[tactic(auto, using(procedure_spec::proofs::LeaseTexts::address_parsed))]
+pub(crate) fn address_of(text: &str) -> Option<u32>
+    ensures { result ≡ written.address_written text.now }
+{
+    match text.parse::<Ipv4Addr>() {
+        Ok(address) => Some(address.to_bits()),
+        Err(_) => None,
+    }
+}
+
+/// The text of an address.
+pub(crate) fn address_text(alloc: Global, address: u32) -> Result<String, NoMemory>
+    ensures { IfOk result (λ text. string_bytes text ≡ written.address_text address) }
+{
+    Ok(Ipv4Addr::from_bits(address).to_string(alloc)?)
+}
+
+/// An address that has to be there.
+///
+/// The fault is `Missing` where it is absent, `BadValue` where the text is no address.
+pub(crate) fn needed_address(
+    alloc: Global,
+    path: &str,
+    text: Option<&Text>,
+) -> Result<u32, OrNoMemory<DefFault>>
+    ensures { UnlessNoMemory result (needed path.now spec.address_value (option_map (λ t. t.now) text.entry)) }
+{
+    match text {
+        None => Err(fault_at(alloc, path, DefKind::Missing)),
+        Some(text) => match address_of(text.as_str()) {
+            Some(address) => Ok(address),
+            None => Err(fault_at(alloc, path, DefKind::BadValue)),
+        },
+    }
+}
+
+/// The same of an interface's address.
+pub(crate) fn needed_mac(
+    alloc: Global,
+    path: &str,
+    text: Option<&Text>,
+) -> Result<Mac, OrNoMemory<DefFault>>
+    ensures { UnlessNoMemory result (needed path.now spec.mac_value (option_map (λ t. t.now) text.entry)) }
+{
+    match text {
+        None => Err(fault_at(alloc, path, DefKind::Missing)),
+        Some(text) => match mac_of(text.as_bytes()) {
+            Some(mac) => Ok(mac),
+            None => Err(fault_at(alloc, path, DefKind::BadValue)),
+        },
+    }
+}
+
+/// A prefix is a number from 1 to 30.
+fn test_prefix(prefix: Option<u64>) -> Result<u32, DefKind>
+    ensures { result ≡ spec.a_prefix prefix }
+{
+    match prefix {
+        None => Err(DefKind::BadValue),
+        Some(prefix @ 1..=30) => Ok(prefix as u32),
+        Some(_) => Err(DefKind::Range),
+    }
+}
+
+fn prefix_value(text: &Text) -> Result<u32, DefKind>
+    ensures { result ≡ spec.prefix_value text.now }
+{
+    test_prefix(read_number(text.as_str()))
+}
+
+fn mask_value(text: &Text) -> Result<u32, DefKind>
+    ensures { result ≡ spec.mask_value text.now }
+{
+    match address_of(text.as_str()) {
+        None => test_prefix(None),
+        Some(mask) => match ones_of(mask) {
+            None => test_prefix(None),
+            Some(prefix) => test_prefix(Some(u64::from(prefix))),
+        },
+    }
+}
+
+fn kind_at<T>(
+    alloc: Global,
+    path: &str,
+    value: Result<T, DefKind>,
+) -> Result<T, OrNoMemory<DefFault>>
+    ensures { UnlessNoMemory result (at path.now value) }
+{
+    match value {
+        Ok(value) => Ok(value),
+        Err(kind) => Err(fault_at(alloc, path, kind)),
+    }
+}
+
+/// The prefix of a network: that of its netmask, or where it has none its prefix as a number.
+///
+/// The fault is `Missing` where both are absent, `BadValue` where the text is no mask or no number,
+/// `Range` where the prefix is none of 1 to 30.
+pub(crate) fn prefix_of(
+    alloc: Global,
+    mask: Option<&Text>,
+    prefix: Option<&Text>,
+) -> Result<u32, OrNoMemory<DefFault>>
+    ensures { UnlessNoMemory result (spec.prefix_of (option_map (λ t. t.now) mask.entry) (option_map (λ t. t.now) prefix.entry)) }
+{
+    match (mask, prefix) {
+        (Some(mask), _) => kind_at(alloc, "/network/ip", mask_value(mask)),
+        (None, Some(prefix)) => kind_at(alloc, "/network/ip", prefix_value(prefix)),
+        (None, None) => Err(fault_at(alloc, "/network/ip", DefKind::Missing)),
+    }
+}

@@ -1,0 +1,3 @@
+pub mod Chronicles
+pub mod Calling
+pub mod Turning

@@ -1,0 +1,11 @@
+use Rattle.std.proofs.Common.{sym, subst, ◌∙◌, ◌<◌, length}
+use Rattle.pool_spec.specs.declared.book.PoolCall.TheVariants as call
+use Rattle.pool_spec.specs.declared.book.PoolAnswer.TheVariants.{Done}
+use Rattle.pool_core.proofs.Calling.{kept-done, book-done, after-undefine}
+use Rattle.pool_core.proofs.book.PoolBook.undefine.Goals as goal
+
+pub invariant_of-self : goal.invariant_of-self
+invariant_of-self g c = kept-done (record { number = g.number; call = call.Undefine c.args.uuid; answer = Done }) c.self.inside.table c.undefine.new.self c.self.inside.chronicle c.mark_done.new.chronicle c.self.invariant (subst (λ h. length h.marks < 4096) (sym c.self.view_is) c.requires.room) (c.undefine.ensures ∙ sym (after-undefine c.args.uuid c.self.inside.table)) c.mark_done.ensures
+
+pub returns-clause-called : goal.returns-clause-called
+returns-clause-called g c = book-done c.self.inside.table c.self.inside.chronicle c.args.self.now c.self.invariant c.self.view_is g.number (call.Undefine c.args.uuid) c.mark_done.new.chronicle c.requires.may c.mark_done.ensures

@@ -1,0 +1,4 @@
+use Rattle.pool_core.proofs.marking.leave.Given as goal
+
+abbrev pub ghost-tell : goal.ghost-tell
+ghost-tell g a = g.mark

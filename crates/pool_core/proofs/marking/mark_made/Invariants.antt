@@ -1,0 +1,4 @@
+use Rattle.pool_core.proofs.marking.mark_made.Given as goal
+
+abbrev pub ghost-leave : goal.ghost-leave
+ghost-leave g a = g.mark

@@ -1,0 +1,3 @@
+pub mod Marks
+pub mod Keeping
+pub mod Turns

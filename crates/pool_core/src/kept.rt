@@ -1,0 +1,28 @@
+use crate::book::PoolBook;
+use pool_spec::{PoolMark, Pools};
+use turn_cell::Kept;
+
+impl Kept for PoolBook {
+    ghost use Rattle.pool_core.specs.Keeping.{meaning, no_mark_lowers, new_base_keeps};
+
+    type Base = Pools;
+
+    type Mark = PoolMark;
+
+    /// A pass keeps nothing in the book.
+    type Share = ();
+
+    ghost meaning = { meaning };
+
+    ghost no_mark_lowers = { no_mark_lowers };
+
+    ghost new_base_keeps = { new_base_keeps };
+
+    fn chapter(&self) -> u64 {
+        self.chapter()
+    }
+
+    fn marks(&self) -> u64 {
+        self.marks()
+    }
+}
