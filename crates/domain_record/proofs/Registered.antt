@@ -285,7 +285,7 @@ room_taken_if : (b : Bool) (r : Registration) (rs rest : List Registration) → 
 room_taken_if true r rs rest all h = room_from (tells_loss r) r rs all.0 all.1
 room_taken_if false r rs rest all h = (all.0, h)
 
-room_taken : (rs : List Registration) (client : ℕ) → AllHaveRoom rs → AllHaveRoom (registrations_taken rs client)
+pub room_taken : (rs : List Registration) (client : ℕ) → AllHaveRoom rs → AllHaveRoom (registrations_taken rs client)
 room_taken [] client all = tt
 room_taken (r ∷ rs) client all = room_taken_if (is_numbered client r) r rs (registrations_taken rs client) all (room_taken rs client all.1)
 

@@ -12,7 +12,7 @@ ghost use Rattle.domain_ledger.specs.Away.{WaitsWith};
 ghost use Rattle.domain_history.specs.Closing.{reply_in};
 ghost use Rattle.domain_ledger.specs.Ledger.{MayAnswer};
 ghost use Rattle.domain_ledger.specs.Operations.{IsToldAtEnd, MayPhase};
-ghost use Rattle.domain_listeners.specs.Listening.{AreAllTaken, HandsOut, IsLeastFree, dropped_by, has_client, left_by, listening_of, new_listening, registrations, taken_by};
+ghost use Rattle.domain_listeners.specs.Listening.{AreAllTaken, AreApart, HandsOut, IsLeastFree, dropped_by, has_client, left_by, listening_of, new_listening, registrations, taken_by};
 ghost use Rattle.domain_record.specs.Operating.{Begins, EntersPhase, TakesUp};
 ghost use Rattle.domain_record.specs.Record.{GoesBack, HasMarked, IsQuietOf, LetsIn, StaysAway, Tells, force_of};
 
@@ -304,9 +304,10 @@ impl Record {
         self.listeners.least_free()
     }
 
-    /// Whether this client is registered.
+    /// Whether this client is registered. No two registrations are one client's.
     pub fn has(&self, client: u32) -> bool
-        ensures { result ≡ has_client self.now.listeners client }
+        ensures value { result ≡ has_client self.now.listeners client }
+        ensures apart { AreApart self.now.listeners }
     {
         self.listeners.has(client)
     }

@@ -1,0 +1,6 @@
+pub mod Finding
+pub mod Keeping
+pub mod Resting
+pub mod Rotated
+pub mod Took
+pub mod Watched

@@ -1,0 +1,139 @@
+use crate::rotating::rotate;
+use crate::taking::{drop_events, take_events};
+use crate::watching::{WatchFault, watch};
+use domain_listeners::Taken;
+use domain_queue::Queue;
+use domain_record::Record;
+use history_spec::Stamp;
+use std::alloc::Global;
+use virt_types::{
+    CrashAction, DomainDef, DomainType, LifecycleAction, ListOf, Name, NoMemory, Os, Script, Text,
+    Who, both,
+};
+
+// The stamp of a pass, whichever it is.
+fn stamp() -> Stamp {
+    Stamp::named()
+}
+
+fn name(alloc: Global) -> Result<Name, NoMemory> {
+    match Name::read(alloc, b"a") {
+        Ok(name) => Ok(name),
+        Err(_) => Err(NoMemory),
+    }
+}
+
+fn no_script(alloc: Global) -> Result<Script, NoMemory> {
+    let text = Text::copy_of(alloc, "")?;
+    Ok(Script {
+        text,
+        entries: ListOf::new(alloc),
+    })
+}
+
+fn os(alloc: Global) -> Result<Os, NoMemory> {
+    let kind = Text::copy_of(alloc, "hvm")?;
+    Ok(Os {
+        kind,
+        arch: None,
+        machine: None,
+        boot: ListOf::new(alloc),
+    })
+}
+
+fn definition(alloc: Global) -> Result<DomainDef, NoMemory> {
+    let (name, (guest, os)) = both(name(alloc), both(no_script(alloc), os(alloc)))?;
+    Ok(DomainDef {
+        kind: DomainType::Qemu,
+        name,
+        uuid: None,
+        title: None,
+        description: None,
+        guest,
+        memory: 2048,
+        current_memory: 2048,
+        vcpus: 2,
+        current_vcpus: 2,
+        os,
+        on_poweroff: LifecycleAction::Destroy,
+        on_reboot: LifecycleAction::Restart,
+        on_crash: CrashAction::Destroy,
+        emulator: None,
+        disks: ListOf::new(alloc),
+        interfaces: ListOf::new(alloc),
+        serials: ListOf::new(alloc),
+        consoles: ListOf::new(alloc),
+        graphics: ListOf::new(alloc),
+        memballoon: None,
+    })
+}
+
+// The domain `a`, which is shut off.
+fn shut_off(alloc: Global) -> Result<Record, NoMemory> {
+    Record::opened(alloc, Some(definition(alloc)?), false)
+}
+
+// What a client is handed out, as one number: how many transitions, or the loss and 10,000.
+fn taken(alloc: Global, kept: &mut Record, client: u32) -> Result<usize, NoMemory> {
+    if !kept.has(client) {
+        return Ok(99_999);
+    }
+    Ok(match take_events(kept, alloc, client)? {
+        Taken::Events(events) => events.len(),
+        Taken::Lost(count) => 10_000 + count as usize,
+    })
+}
+
+// The chapter ends, where it may.
+fn end_chapter(alloc: Global, kept: &mut Record, queue: &mut Queue) -> Result<(), NoMemory> {
+    let who = Who {
+        session: 1,
+        lane: 0,
+        count: 7,
+    };
+    if kept.job().is_none() && kept.chapter() < 9 {
+        rotate(kept, queue, 128, alloc, stamp(), who)?;
+    }
+    Ok(())
+}
+
+#[test]
+fn registers_sixteen_clients_and_no_more(rt: HostRuntime) -> Result<(), NoMemory> {
+    let mut kept = shut_off(rt.alloc())?;
+    for client in 0..16 {
+        assert_eq!(rt;
+            watch(&mut kept, 3, rt.alloc(), stamp()),
+            Ok(client),
+            "at {client}"
+        );
+    }
+    assert_eq!(rt;
+        watch(&mut kept, 3, rt.alloc(), stamp()),
+        Err(WatchFault::Full(16))
+    );
+    assert_eq!(rt; kept.len(), 16);
+    let mut vacant = Record::opened(rt.alloc(), None, false)?;
+    assert_eq!(rt;
+        watch(&mut vacant, 0, rt.alloc(), stamp()),
+        Err(WatchFault::Vacant)
+    );
+    assert_eq!(rt; vacant.len(), 0);
+    Ok(())
+}
+
+#[test]
+fn clients_stay_registered_in_the_next_chapter(rt: HostRuntime) -> Result<(), NoMemory> {
+    let mut kept = shut_off(rt.alloc())?;
+    let mut queue = Queue::new(rt.alloc())?;
+    for client in 0..2 {
+        assert_eq!(rt; watch(&mut kept, 0, rt.alloc(), stamp()), Ok(client));
+    }
+    end_chapter(rt.alloc(), &mut kept, &mut queue)?;
+    assert_eq!(rt; kept.chapter(), 1);
+    assert_eq!(rt; kept.len(), 0);
+    assert_eq!(rt; taken(rt.alloc(), &mut kept, 1)?, 0);
+    assert_eq!(rt; taken(rt.alloc(), &mut kept, 2)?, 99_999);
+    drop_events(&mut kept, 0);
+    assert_eq!(rt; watch(&mut kept, 0, rt.alloc(), stamp()), Ok(2));
+    Ok(())
+}

@@ -1,0 +1,2 @@
+pub mod GuestLaws
+pub mod Guests
