@@ -22,7 +22,7 @@ use Rattle.domain_spec.specs.Fold.{after, lost_boot, standing}
 use Rattle.domain_spec.specs.Legal.{MarksLoss}
 use Rattle.domain_spec.specs.Sequential.{asked, seq, still_asked}
 use Rattle.domain_spec.specs.Steps.{AnswersBy, IsExitOf, LetsIn}
-use Rattle.domain_spec.specs.Turns.{GoOn, GoesOnBy, MayLeave}
+use Rattle.domain_spec.specs.Turns.{GoOn, GoesOnBy, IsOwn, MayLeave}
 use Rattle.core_rules.specs.Next.{is_ask, next_of}
 use Rattle.ask_course.specs.Along.{Asked, answered}
 use Rattle.ask_course.specs.Starving.{starved}
@@ -50,20 +50,20 @@ lost_next c t s (Some boot) more e exit h = (
   h,
 )
 
-done_left : (c : Cell) (t : CoreStep ℕ) (s : Standing) (j : Option OpenJob) (n : ℕ) (a : Asked) (more : List (Mark ℕ)) → AnswersBy c t a.answers → IsDoneLawful s j n a
+done_left : (c : Cell) (t : CoreStep ℕ) (s : Standing) (j : Option OpenJob) (n : ℕ) (a : Asked) (more : List (Mark ℕ)) → IsOwn t n → AnswersBy c t a.answers → IsDoneLawful s j n a
     → GoOn c t (standing s (closing s j n a)) more → GoOn c t s (closing s j n a ++ more)
-done_left c t s None n a more answers lawful h = absurd lawful
-done_left c t s (Some j) n a more answers lawful h =
+done_left c t s None n a more own answers lawful h = absurd lawful
+done_left c t s (Some j) n a more own answers lawful h =
     let next : State = (seq s.state j.call j.boot a.answers).state in
     let there : Standing = after s (done_by s j n a) in (
-      (answers, lawful.in_order),
+      (own, answers, lawful.in_order),
       lawful.loss,
       lost_next c t there (lost_boot next j.boot a.answers) more refl
           (λ boot e. record { by = inl (e, refl); live = is_lost_live next j.boot a.answers boot e; told = refl }) h,
     )
 
 pub done_is_left : DoneIsLeft
-done_is_left c t s n a more answers lawful h = done_left c t s s.job n a more answers lawful h
+done_is_left c t s n a more own answers lawful h = done_left c t s s.job n a more own answers lawful h
 
 pub let_in_is_left : LetInIsLeft
 let_in_is_left c n who d first boot count more lost letin lawful h =
@@ -71,7 +71,7 @@ let_in_is_left c n who d first boot count more lost letin lawful h =
     let a : Asked = starved count (first_course (standing_of c).state d boot) in (
       letin,
       subst (λ (o : Option ℕ). MarksLoss o (admit_of n who d boot)) (sym lost) tt,
-      done_left c (step.Look n who d first) s s.job n a more (count, starved_find_none count (first_course (standing_of c).state d boot)) lawful h,
+      done_left c (step.Look n who d first) s s.job n a more refl (count, starved_find_none count (first_course (standing_of c).state d boot)) lawful h,
     )
 
 -- a call that is away

@@ -14,7 +14,7 @@ use Rattle.domain_spec.specs.CanTake.{WaitsForAnswer}
 use Rattle.domain_spec.specs.Cell.{Cell, standing_of}
 use Rattle.domain_spec.specs.Fold.{after, standing}
 use Rattle.domain_spec.specs.Steps.{AnswersBy, LetsIn}
-use Rattle.domain_spec.specs.Turns.{GoOn, MayLeave}
+use Rattle.domain_spec.specs.Turns.{GoOn, IsOwn, MayLeave}
 use Rattle.ask_course.specs.Along.{Asked}
 use Rattle.ask_course.specs.Starving.{starved}
 use Rattle.call_away.specs.Away.{IsAway}
@@ -29,7 +29,7 @@ StarvedFindNone = (count : ℕ) (a : Asked) → (starved count a).answers ≡ a.
 abbrev pub DoneIsLeft : Type 0
 DoneIsLeft =
     (c : Cell) (t : CoreStep ℕ) (s : Standing) (n : ℕ) (a : Asked) (more : List (Mark ℕ))
-    → AnswersBy c t a.answers → IsDoneLawful s s.job n a → GoOn c t (standing s (closing s s.job n a)) more
+    → IsOwn t n → AnswersBy c t a.answers → IsDoneLawful s s.job n a → GoOn c t (standing s (closing s s.job n a)) more
     → GoOn c t s (closing s s.job n a ++ more)
 
 -- the mark of a call that is let in

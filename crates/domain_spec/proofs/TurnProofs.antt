@@ -159,10 +159,10 @@ admits c other number w wanted e boot can counted h = absurd h
 -- the marks of a turn
 
 goes_on_lawful : (c : Cell) (t : CoreStep ℕ) (s : Standing) (m : Mark ℕ) → GoesOnBy c t s m → IsInOrder s m
-goes_on_lawful c t s (mark.Done number who d boot asks answers r events) h = h.1
-goes_on_lawful c t s (mark.Phase number who p asks answers next events) h = h.1
-goes_on_lawful c t s (mark.Start number who d boot) h = h
-goes_on_lawful c t s (mark.TakeUp number who d) h = h
+goes_on_lawful c t s (mark.Done number who d boot asks answers r events) h = h.2
+goes_on_lawful c t s (mark.Phase number who p asks answers next events) h = h.2
+goes_on_lawful c t s (mark.Start number who d boot) h = h.1
+goes_on_lawful c t s (mark.TakeUp number who d) h = h.1
 goes_on_lawful c t s (mark.Exit boot why events) h = (h.live, h.told)
 goes_on_lawful c t s (mark.Event boot e events) h = (h.1, h.2, h.3)
 goes_on_lawful c t s (mark.Cut client total taken) h = h

@@ -23,12 +23,21 @@ use Rattle.domain_spec.specs.Registrations.{HasRoom, is_numbered, registrations_
 use Rattle.domain_spec.specs.TakeUp.{is_vacant}
 use Rattle.domain_spec.specs.Steps.{AnswersBy, Occurs, IsExitOf, LetsIn, TurnsAway}
 
+-- a call, or a phase, is closed by a step of its own number alone
+abbrev pub IsOwn : CoreStep ℕ → ℕ → Type 0
+IsOwn (step.Look n who d first) number = number ≡ n
+IsOwn (step.BeginOp n who d) number = number ≡ n
+IsOwn (step.TakeUp n who d) number = number ≡ n
+IsOwn (step.Back n a) number = number ≡ n
+IsOwn (step.Phase n who) number = number ≡ n
+IsOwn other number = ⊥
+
 -- a mark by which a turn goes on, or that comes along in it: a call is closed, a boot's end, an event, a cut
 abbrev pub GoesOnBy : Cell → CoreStep ℕ → Standing → Mark ℕ → Type 0
-GoesOnBy c t s (mark.Done number who d boot asks answers r events) = AnswersBy c t answers × IsDone s s.job number who d boot asks answers r events
-GoesOnBy c t s (mark.Phase number who p asks answers next events) = AnswersBy c t answers × IsPhased s s.job s.operation number who p asks answers next events
-GoesOnBy c t s (mark.Start number who d boot) = IsStarted s s.job number who d boot
-GoesOnBy c t s (mark.TakeUp number who d) = IsTakenUp s s.job number who d
+GoesOnBy c t s (mark.Done number who d boot asks answers r events) = IsOwn t number × AnswersBy c t answers × IsDone s s.job number who d boot asks answers r events
+GoesOnBy c t s (mark.Phase number who p asks answers next events) = IsOwn t number × AnswersBy c t answers × IsPhased s s.job s.operation number who p asks answers next events
+GoesOnBy c t s (mark.Start number who d boot) = IsOwn t number × IsStarted s s.job number who d boot
+GoesOnBy c t s (mark.TakeUp number who d) = IsOwn t number × IsTakenUp s s.job number who d
 GoesOnBy c t s (mark.Exit boot why events) = IsExitOf s t boot why events
 GoesOnBy c t s (mark.Event boot e events) = Occurs c t boot e × (is_live s.state boot ≡ true) × (s.job ≡ None) × (events ≡ event_transitions s.state e)
 GoesOnBy c t s (mark.Cut client total taken) = IsInOrder s (mark.Cut client total taken)

@@ -143,7 +143,7 @@ back_done old mid done new q held ears n a x count r can away ended is applied s
     let left : List (Mark ℕ) = ended.left ++ (closed ++ applied.left) in
     let goes : Goes c t old new left =
     goes_more c t old mid new ended.left (closed ++ applied.left) ended.goes
-    (goes_more c t mid done new closed applied.left (goes_done c t mid done n b r at (answers_by old q held ears n a (answered a x) x count away refl)) applied.goes) in
+    (goes_more c t mid done new closed applied.left (goes_done c t mid done n b r at refl (answers_by old q held ears n a (answered a x) x count away refl)) applied.goes) in
     let marked = goes.marked in
     let none : (force_of new).job ≡ None = applied.open_stays.0 in
     let there : force_of new ≡ standing (force_of old) left = force_after old new left marked in

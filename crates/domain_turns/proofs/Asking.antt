@@ -33,8 +33,8 @@ own_asks : (s : Standing) (d : Call) (j : OpenJob) (answers : List Answer) → a
 own_asks s call.Suspend j answers = refl
 own_asks s other j answers = refl
 
-asks_are : (s : Standing) (j : OpenJob) (a : Asked) (x : Ask) → IsAway s.state s.operation j a → next_in a ≡ next.Ask x → asks_so_far s j.job j a.answers ≡ asks_made a.plan a.answers ++ x ∷ []
-asks_are s j a x away asks =
+asks_are : (s : Standing) (j : OpenJob) (a : Asked) → IsAway s.state s.operation j a → asks_so_far s j.job j a.answers ≡ asks_made a.plan a.answers ++ take 1 (asks_left a.plan a.answers)
+asks_are s j a away =
     let at : State = planned_at s.state j in
     let made_so : asked at j.call j.boot a.answers ≡ asks_made a.plan a.answers = sym (ap (λ (p : _). asks_made p a.answers) away.plan ∙ asked_planned at j.call j.boot a.answers) in
     let left_so : still_asked at j.call j.boot a.answers ≡ asks_left a.plan a.answers = sym (ap (λ (p : _). asks_left p a.answers) away.plan ∙ still_planned at j.call j.boot a.answers) in
@@ -42,16 +42,15 @@ asks_are s j a x away asks =
     ∙ own_asks s j.call j a.answers
     ∙ ap (λ (xs : List Ask). xs ++ take 1 (still_asked at j.call j.boot a.answers)) made_so
     ∙ ap (λ (xs : List Ask). asks_made a.plan a.answers ++ take 1 xs) left_so
-    ∙ ap (λ (xs : List Ask). asks_made a.plan a.answers ++ xs) (first_left (asks_left a.plan a.answers) x asks)
 
 asked_live : (ended : Bool) (asks : List Ask) → ended ≡ false → (if ended then [] else asks) ≡ asks
 asked_live true asks e = cc
 asked_live false asks e = refl
 
 -- the same of a phase
-phase_asks_are : (s : Standing) (j : OpenJob) (o : OpenOperation) (a : Asked) (x : Ask) → s.operation ≡ Some o → IsPhaseAway s.state o j a → next_in a ≡ next.Ask x
-    → asks_so_far s j.job j a.answers ≡ asks_made a.plan a.answers ++ x ∷ []
-phase_asks_are s j o a x op away asks =
+phase_asks_are : (s : Standing) (j : OpenJob) (o : OpenOperation) (a : Asked) → s.operation ≡ Some o → IsPhaseAway s.state o j a
+    → asks_so_far s j.job j a.answers ≡ asks_made a.plan a.answers ++ take 1 (asks_left a.plan a.answers)
+phase_asks_are s j o a op away =
     let at : State = planned_at s.state j in
     let live : carries_ended at o.boot ≡ false = is_there at o.boot away.boot away.was_live away.operated in
     let made_so : phase_asked at o a.answers ≡ asks_made a.plan a.answers =
@@ -62,17 +61,21 @@ phase_asks_are s j o a x op away asks =
     ∙ ap (λ (q : Option OpenOperation). phase_asks at q a.answers) op
     ∙ ap (λ (xs : List Ask). xs ++ take 1 (phase_still_asked at o a.answers)) made_so
     ∙ ap (λ (xs : List Ask). asks_made a.plan a.answers ++ take 1 xs) left_so
-    ∙ ap (λ (xs : List Ask). asks_made a.plan a.answers ++ xs) (first_left (asks_left a.plan a.answers) x asks)
 
-waiting_asks : (s : Standing) (j : OpenJob) (o : Option OpenOperation) (a : Asked) (x : Ask) → s.operation ≡ o → IsPhaseWaiting s.state o j a → next_in a ≡ next.Ask x
-    → asks_so_far s j.job j a.answers ≡ asks_made a.plan a.answers ++ x ∷ []
-waiting_asks s j None a x op h asks = absurd h
-waiting_asks s j (Some o) a x op h asks = phase_asks_are s j o a x op h asks
+waiting_asks : (s : Standing) (j : OpenJob) (o : Option OpenOperation) (a : Asked) → s.operation ≡ o → IsPhaseWaiting s.state o j a
+    → asks_so_far s j.job j a.answers ≡ asks_made a.plan a.answers ++ take 1 (asks_left a.plan a.answers)
+waiting_asks s j None a op h = absurd h
+waiting_asks s j (Some o) a op h = phase_asks_are s j o a op h
+
+-- what was asked so far is said by the course alone
+pub asks_along : (s : Standing) (j : OpenJob) (a : Asked) → IsAway s.state s.operation j a ⊎ IsPhaseWaiting s.state s.operation j a
+    → asks_so_far s j.job j a.answers ≡ asks_made a.plan a.answers ++ take 1 (asks_left a.plan a.answers)
+asks_along s j a (inl h) = asks_are s j a h
+asks_along s j a (inr h) = waiting_asks s j s.operation a refl h
 
 any_asks : (s : Standing) (j : OpenJob) (a : Asked) (x : Ask) → IsAway s.state s.operation j a ⊎ IsPhaseWaiting s.state s.operation j a → next_in a ≡ next.Ask x
     → asks_so_far s j.job j a.answers ≡ asks_made a.plan a.answers ++ x ∷ []
-any_asks s j a x (inl h) asks = asks_are s j a x h asks
-any_asks s j a x (inr h) asks = waiting_asks s j s.operation a x refl h asks
+any_asks s j a x h asks = asks_along s j a h ∙ ap (λ (xs : List Ask). asks_made a.plan a.answers ++ xs) (first_left (asks_left a.plan a.answers) x asks)
 
 same_number : (b : Bool) (m n : ℕ) → m ≡ n → (m == n) ≡ b → b ≡ true
 same_number true m n e f = refl

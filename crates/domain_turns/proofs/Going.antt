@@ -9,7 +9,7 @@ use Rattle.domain_spec.specs.Fold.{after, standing}
 use Rattle.domain_spec.specs.Legal.{MarksLoss}
 use Rattle.domain_spec.specs.Registrations.{with_pending}
 use Rattle.domain_spec.specs.Steps.{AnswersBy}
-use Rattle.domain_spec.specs.Turns.{GoOn, GoesOnBy}
+use Rattle.domain_spec.specs.Turns.{GoOn, GoesOnBy, IsOwn}
 use Rattle.domain_spec.proofs.LawProofs.{standing-append}
 use Rattle.ask_course.specs.Along.{Asked}
 use Rattle.call_turns.proofs.Turned.{done_is_left}
@@ -46,9 +46,9 @@ goes_one c t old new m tells by loss = record {
 }
 
 -- the call that is open is done
-pub goes_done : (c : Cell) (t : CoreStep ℕ) (old new : Recorded) (n : ℕ) (a : Asked) (r : Reply) → DoneAt old new [] (force_of old) n a r → AnswersBy c t a.answers
+pub goes_done : (c : Cell) (t : CoreStep ℕ) (old new : Recorded) (n : ℕ) (a : Asked) (r : Reply) → DoneAt old new [] (force_of old) n a r → IsOwn t n → AnswersBy c t a.answers
     → Goes c t old new (with_cuts old.listeners (closing (force_of old) (force_of old).job n a))
-goes_done c t old new n a r at answers =
+goes_done c t old new n a r at own answers =
     let s : Standing = force_of old in
     let done : List (Mark ℕ) = closing s s.job n a in
     let cuts : List (Mark ℕ) = cuts_after (registrations old.listeners) (told_last done) in
@@ -56,7 +56,7 @@ goes_done c t old new n a r at answers =
       marked = at.told.marked;
       goes = λ more go.
           subst (λ (ms : List (Mark ℕ)). GoOn c t s ms) (sym (append_assoc done cuts more))
-          (done_is_left c t s n a (cuts ++ more) answers at.lawful
+          (done_is_left c t s n a (cuts ++ more) own answers at.lawful
           (cuts_go_on c t (standing s done) (map (with_pending (told_last done)) (registrations old.listeners)) more (legal_ending s done cuts at.told.marked.legal)
           (subst (λ (x : Standing). GoOn c t x more) (standing-append s done cuts) go)));
     }

@@ -24,7 +24,7 @@ use Rattle.domain_spec.specs.Open.{IsOwnJob, MayAdmit, job_held, operation_held}
 use Rattle.domain_spec.specs.Phase.{phase_asked, phase_of, phase_still_asked, plan_in}
 use Rattle.domain_spec.specs.Reading.{carries_ended, is_live, live_boot}
 use Rattle.domain_spec.specs.Steps.{AnswersBy, IsExitOf, IsPhaseLetIn}
-use Rattle.domain_spec.specs.Turns.{GoOn}
+use Rattle.domain_spec.specs.Turns.{GoOn, IsOwn}
 use Rattle.core_rules.specs.Next.{is_ask, next_of}
 use Rattle.ask_course.specs.Along.{Asked}
 use Rattle.call_away.specs.Going.{first_course}
@@ -41,17 +41,17 @@ no_loss : (s : Standing) (m : Mark ℕ) → s.lost ≡ None → MarksLoss s.lost
 no_loss s m e = subst (λ (o : Option ℕ). MarksLoss o m) (sym e) tt
 
 pub begun_is_left : BegunIsLeft
-begun_is_left c n who d boot more lost letin lawful h = (letin, no_loss (standing_of c) (admit_of n who d boot) lost, (lawful.in_order, lawful.loss, h))
+begun_is_left c n who d boot more lost letin lawful h = (letin, no_loss (standing_of c) (admit_of n who d boot) lost, ((refl, lawful.in_order), lawful.loss, h))
 
 pub taken_up_is_left : TakenUpIsLeft
-taken_up_is_left c n who d boot more lost letin lawful h = (letin, no_loss (standing_of c) (admit_of n who d boot) lost, (lawful.in_order, lawful.loss, h))
+taken_up_is_left c n who d boot more lost letin lawful h = (letin, no_loss (standing_of c) (admit_of n who d boot) lost, ((refl, lawful.in_order), lawful.loss, h))
 
 pub refused_is_left : RefusedIsLeft
-refused_is_left c t n who d boot more lost letin answers lawful h =
+refused_is_left c t n who d boot more lost letin own answers lawful h =
     let s : Standing = after (standing_of c) (admit_of n who d boot) in (
       letin,
       no_loss (standing_of c) (admit_of n who d boot) lost,
-      done_is_left c t s n (first_course (standing_of c).state d boot) more answers lawful h,
+      done_is_left c t s n (first_course (standing_of c).state d boot) more own answers lawful h,
     )
 
 -- the end of a boot that was lost comes next
@@ -73,13 +73,13 @@ lost_after s o q n a is same = ap (λ (r : Option OpenOperation). (after_phase s
 state_after : (s : Standing) (o : OpenOperation) (n : ℕ) (a : Asked) → s.operation ≡ Some o → (after s (phased_by s o n a)).state ≡ (phase_of s.state o a.answers).state
 state_after s o n a is = ap (λ (r : Option OpenOperation). (after_phase s r a.answers (phase_of s.state o a.answers).outcome).state) is
 
-phase_left : (c : Cell) (t : CoreStep ℕ) (s : Standing) (q : Option OpenOperation) (n : ℕ) (a : Asked) (more : List (Mark ℕ)) → s.operation ≡ q → AnswersBy c t a.answers → IsPhaseLawful s q n a
+phase_left : (c : Cell) (t : CoreStep ℕ) (s : Standing) (q : Option OpenOperation) (n : ℕ) (a : Asked) (more : List (Mark ℕ)) → s.operation ≡ q → IsOwn t n → AnswersBy c t a.answers → IsPhaseLawful s q n a
     → GoOn c t (standing s (phase_closing s q n a)) more → GoOn c t s (phase_closing s q n a ++ more)
-phase_left c t s None n a more is answers lawful h = absurd lawful
-phase_left c t s (Some o) n a more is answers lawful h =
+phase_left c t s None n a more is own answers lawful h = absurd lawful
+phase_left c t s (Some o) n a more is own answers lawful h =
     let next : State = (phase_of s.state o a.answers).state in
     let there : Standing = after s (phased_by s o n a) in (
-      (answers, lawful.in_order),
+      (own, answers, lawful.in_order),
       lawful.loss,
       lost_next c t there (lost_boot next o.boot a.answers) more (lost_after s o s.operation n a refl is)
           (λ boot e. record {
@@ -90,7 +90,7 @@ phase_left c t s (Some o) n a more is answers lawful h =
     )
 
 pub phase_is_left : PhaseIsLeft
-phase_is_left c t s n a more answers lawful h = phase_left c t s s.operation n a more refl answers lawful h
+phase_is_left c t s n a more own answers lawful h = phase_left c t s s.operation n a more refl own answers lawful h
 
 -- a phase that is let in
 
@@ -121,7 +121,7 @@ phase_let_in_is_left c o n who a more is lost lawful answers phased h =
     let s : Standing = after (standing_of c) (nested_admit (standing_of c) o n who) in (
       phase_let_in (standing_of c) o n who is lawful,
       lawful.loss,
-      phase_is_left c (step.Phase n who) s n a more answers phased h,
+      phase_is_left c (step.Phase n who) s n a more refl answers phased h,
     )
 
 -- a phase that is away

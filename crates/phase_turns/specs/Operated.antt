@@ -15,7 +15,7 @@ use Rattle.domain_spec.specs.Fold.{after, lost_boot, standing}
 use Rattle.domain_spec.specs.Phase.{phase_of}
 use Rattle.domain_spec.specs.Legal.{IsLawful}
 use Rattle.domain_spec.specs.Steps.{AnswersBy, LetsIn}
-use Rattle.domain_spec.specs.Turns.{GoOn, MayLeave}
+use Rattle.domain_spec.specs.Turns.{GoOn, IsOwn, MayLeave}
 use Rattle.ask_course.specs.Along.{Asked}
 use Rattle.call_away.specs.Going.{first_course}
 use Rattle.phase_away.specs.PhaseAway.{IsPhaseAway}
@@ -45,7 +45,7 @@ TakenUpIsLeft =
 abbrev pub RefusedIsLeft : Type 0
 RefusedIsLeft =
     (c : Cell) (t : CoreStep ℕ) (n : ℕ) (who : Who) (d : Call) (boot : Option ℕ) (more : List (Mark ℕ))
-    → (standing_of c).lost ≡ None → LetsIn c t n who (job_of d) d boot → AnswersBy c t []
+    → (standing_of c).lost ≡ None → LetsIn c t n who (job_of d) d boot → IsOwn t n → AnswersBy c t []
     → (let s = after (standing_of c) (admit_of n who d boot) in
     let a = first_course (standing_of c).state d boot in
     IsDoneLawful s s.job n a → GoOn c t (standing s (closing s s.job n a)) more → MayLeave c t (admit_of n who d boot ∷ (closing s s.job n a ++ more)))
@@ -54,7 +54,7 @@ RefusedIsLeft =
 abbrev pub PhaseIsLeft : Type 0
 PhaseIsLeft =
     (c : Cell) (t : CoreStep ℕ) (s : Standing) (n : ℕ) (a : Asked) (more : List (Mark ℕ))
-    → AnswersBy c t a.answers → IsPhaseLawful s s.operation n a → GoOn c t (standing s (phase_closing s s.operation n a)) more
+    → IsOwn t n → AnswersBy c t a.answers → IsPhaseLawful s s.operation n a → GoOn c t (standing s (phase_closing s s.operation n a)) more
     → GoOn c t s (phase_closing s s.operation n a ++ more)
 
 -- a phase leaves its Admit, the marks by which it is done at once, and then more

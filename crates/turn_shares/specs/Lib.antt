@@ -1,0 +1,4 @@
+pub mod Chapters
+pub mod Operations
+pub mod Shares
+pub mod Telling
