@@ -8,5 +8,6 @@ mod laws;
 mod looking;
 
 pub use held::{HeldEvent, OneRoom};
+pub use jobs::jobs_held;
 pub use laws::{answers_are_turns, looks_are_turns};
-pub use looking::{Looked, look};
+pub use looking::{Looked, leave, look, make_room, wait};

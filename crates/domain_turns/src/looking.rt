@@ -57,9 +57,9 @@ fn boot_first(kept: &Record, first: First) -> Option<u64>
     }
 }
 
-// Room for the marks of a call and for what a boot's end tells while it is away, besides the rooms that are
-// there.
-fn make_room(kept: &mut Record, rooms: &mut Vec<OneRoom>, alloc: Global) -> Result<(), NoMemory>
+/// Room for the marks of a call, or of a phase, and for what a boot's end tells while it is away, besides the
+/// rooms that are there.
+pub fn make_room(kept: &mut Record, rooms: &mut Vec<OneRoom>, alloc: Global) -> Result<(), NoMemory>
     requires few { vec_len rooms.old ≤ 128 }
     ensures same { kept.new ≡ with_room kept.old kept.new.spare }
     ensures marks { OnOk result (5 + vec_len rooms.new ≤ kept.new.spare) }
@@ -102,8 +102,8 @@ fn enter(
     }
 }
 
-// The caller waits no more, nor the pass of this stamp.
-fn leave(queue: &mut Queue, by: Stamp, who: Who)
+/// The caller waits no more, nor the pass of this stamp.
+pub fn leave(queue: &mut Queue, by: Stamp, who: Who)
     ensures { queue.new ≡ left_queue queue.old by.number who }
 {
     leave_as(queue, &by, who);
@@ -180,8 +180,8 @@ fn turn_away(kept: &mut Record, by: Stamp, who: Who, call: Call, held: JobRecord
     kept.refuse(by, who, call, RefusalCode::TooManyWaiting, jobs);
 }
 
-// A call that is excluded waits; or it is turned away, where 32 others wait.
-fn wait(
+/// A call that is excluded waits; or it is turned away, where 32 others wait.
+pub fn wait(
     kept: &mut Record,
     queue: &mut Queue,
     rooms: usize,
