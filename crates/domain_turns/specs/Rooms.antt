@@ -1,5 +1,6 @@
 -- The room that makes later turns free of memory, and what else holds between two turns.
 use Rattle.std.specs.Prelude.{◌≤◌, ℕ, ◌+◌, List, length, Option, None, Some, if◌then◌else◌}
+use Rattle.domain_spec.specs.declared.open.OpenOperation.{OpenOperation}
 use Rattle.domain_spec.specs.Cell.{HeldEvent, LentEars}
 use Rattle.domain_spec.specs.Fold.{at_base}
 use Rattle.domain_spec.specs.Laws.{IsCounted}
@@ -16,6 +17,15 @@ marks_needed (Some a) = 2
 abbrev pub rooms_needed : Option Asked → ℕ
 rooms_needed None = 0
 rooms_needed (Some a) = 1
+
+-- the mark that an operation needs that is open, for its end
+abbrev pub ends_needed : Option OpenOperation → ℕ
+ends_needed None = 0
+ends_needed (Some o) = 1
+
+-- there is room for the marks of a call that is away, for each room of a mark of a guest, and for the end of an operation
+abbrev pub HasEnd : Recorded → ℕ → Type 0
+HasEnd r rooms = ends_needed (force_of r).operation + (marks_needed r.course + rooms) ≤ r.spare
 
 -- the room that ears need which are out, until they told something
 abbrev pub rooms_lent : Option LentEars → ℕ
