@@ -10,6 +10,7 @@ use Rattle.domain_spec.specs.declared.mark.Mark.TheVariants as mark
 use Rattle.domain_spec.specs.declared.open.OpenJob.{OpenJob}
 use Rattle.domain_spec.specs.declared.standing.Registration.{Registration}
 use Rattle.domain_spec.specs.declared.standing.Standing.{Standing}
+use Rattle.domain_spec.specs.declared.step.Outcome.{Outcome}
 use Rattle.domain_spec.specs.CanTake.{CanTake}
 use Rattle.domain_spec.specs.Cell.{Cell, HeldEvent, LentEars, Queue}
 use Rattle.domain_spec.specs.Exit.{exit_transitions}
@@ -30,6 +31,7 @@ use Rattle.domain_listeners.specs.Telling.{cuts_due, is_over, most_of}
 use Rattle.domain_record.specs.Record.{IsAsking, IsDoneWith, Recorded, force_of, with_cuts}
 use Rattle.domain_record.proofs.Joining.{force_after}
 use Rattle.domain_turns.specs.Ending.{EndsCarried, EndsFirst, EndsLive, boot_of}
+use Rattle.domain_turns.specs.Phased.{HasLedTo}
 use Rattle.domain_turns.specs.Turning.{HasDone, HasTurned, IsSettled, answers_of, cell_of, turning}
 use Rattle.domain_turns.proofs.Applied.{AreApplied, StaysOpen, cuts_stay, filter_same}
 use Rattle.domain_turns.proofs.Going.{Goes, goes_all, goes_done, goes_more, goes_one}
@@ -47,6 +49,15 @@ pub past_cuts : (rs : List Registration) (n : ℕ) (r : Reply) (more : List (Mar
 past_cuts [] n r more h = h
 past_cuts (x ∷ rs) n r more h = past_if (is_over x) x.client (x.taken + most_of x) x.taken n r (cuts_due rs) more (past_cuts rs n r more h)
 
+led_past_if : (b : Bool) (client total taken n : ℕ) (o : Outcome) (ms more : List (Mark ℕ)) → HasLedTo n o (ms ++ more) → HasLedTo n o ((if b then mark.Cut client total taken ∷ ms else ms) ++ more)
+led_past_if true client total taken n o ms more h = h
+led_past_if false client total taken n o ms more h = h
+
+-- and so does what a phase led to
+led_past_cuts : (rs : List Registration) (n : ℕ) (o : Outcome) (more : List (Mark ℕ)) → HasLedTo n o more → HasLedTo n o (cuts_due rs ++ more)
+led_past_cuts [] n o more h = h
+led_past_cuts (x ∷ rs) n o more h = led_past_if (is_over x) x.client (x.taken + most_of x) x.taken n o (cuts_due rs) more (led_past_cuts rs n o more h)
+
 -- a boot's end that was marked first
 
 pub record BootEnded (c : Cell) (t : CoreStep ℕ) (old new : Recorded) : Type 0 where
@@ -54,6 +65,8 @@ pub record BootEnded (c : Cell) (t : CoreStep ℕ) (old new : Recorded) : Type 0
   pub goes : Goes c t old new left
   pub events : events_in left ≡ []
   pub past : (n : ℕ) (r : Reply) (more : List (Mark ℕ)) → HasDone n r more → HasDone n r (left ++ more)
+  pub led_past : (n : ℕ) (o : Outcome) (more : List (Mark ℕ)) → HasLedTo n o more → HasLedTo n o (left ++ more)
+  pub operation : (force_of new).operation ≡ (force_of old).operation
   pub course : new.course ≡ old.course
   pub lost : (force_of new).lost ≡ None
 
@@ -67,6 +80,8 @@ none_ended c t old new room lost e =
       };
       events = refl;
       past = λ n r more h. h;
+      led_past = λ n o more h. h;
+      operation = refl;
       course = refl;
       lost = lost;
     })
@@ -85,6 +100,8 @@ live_ended c n j true boot why old new is carried live room lost h =
       goes = goes_one c t old new m h.0 (record { by = inr ends; live = live; told = refl }) (no_loss (force_of old) m lost);
       events = no_event_cut due;
       past = λ k r more done. past_cuts due k r more done;
+      led_past = λ k o more led. led_past_cuts due k o more led;
+      operation = there.operation;
       course = h.1;
       lost = there.lost;
     }
@@ -106,7 +123,7 @@ ended_first c n other old new room lost h = none_ended c (step.Back n other) old
 
 -- what was answered in this turn
 
-answers_by : (old : Recorded) (q : Queue) (held : List HeldEvent) (ears : Option LentEars) (n : ℕ) (a b : Asked) (x : Answer) (count : ℕ) → old.course ≡ Some a → b.answers ≡ a.answers ++ x ∷ []
+pub answers_by : (old : Recorded) (q : Queue) (held : List HeldEvent) (ears : Option LentEars) (n : ℕ) (a b : Asked) (x : Answer) (count : ℕ) → old.course ≡ Some a → b.answers ≡ a.answers ++ x ∷ []
     → AnswersBy (cell_of old q held ears) (step.Back n x) (starved count b).answers
 answers_by old q held ears n a b x count e is = (
   count,

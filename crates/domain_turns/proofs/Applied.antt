@@ -87,6 +87,10 @@ event_force old new boot e events h =
     subst (λ (s : Standing). StaysOpen (after (force_of old) (mark.Event boot e events)) s) (sym (force_after old new (with_cuts old.listeners (mark.Event boot e events ∷ [])) h.marked))
     (cuts_stay (after (force_of old) (mark.Event boot e events)) (map (with_pending (told_last (mark.Event boot e events ∷ []))) (registrations old.listeners)))
 
+-- no call is open after an event where none was before
+pub event_free : (old new : Recorded) (boot : ℕ) (e : GuestEvent) → Tells old new (mark.Event boot e (event_transitions (force_of old).state e) ∷ []) → (force_of old).job ≡ None → (force_of new).job ≡ None
+event_free old new boot e h free = (event_force old new boot e (event_transitions (force_of old).state e) h).job ∙ free
+
 -- the events that applied
 
 pub record AreApplied (c : Cell) (t : CoreStep ℕ) (hs : List HeldEvent) (old new : Recorded) : Type 0 where

@@ -1,3 +1,4 @@
+pub mod Admitting
 pub mod Answered
 pub mod Applied
 pub mod Asking
@@ -7,4 +8,9 @@ pub mod Idling
 pub mod LookedAt
 pub mod Looks
 pub mod Marks
+pub mod MayAnswer
+pub mod Refused
+pub mod Resumed
+pub mod Roomy
+pub mod Staying
 pub mod Waiting

@@ -30,7 +30,7 @@ use Rattle.domain_turns.proofs.Asking.{asks_last}
 use Rattle.domain_turns.proofs.Idling.{look_idle, look_turned}
 use Rattle.domain_turns.proofs.LookedAt.{Entering, look_away, look_done}
 
-free_by : (j : Option OpenJob) (op : Option HeldOperation) (wanted : Job) (who : Who) (held : List HeldEvent) → May (job_held j) op wanted who → FitsJob j held → held ≡ []
+pub free_by : (j : Option OpenJob) (op : Option HeldOperation) (wanted : Job) (who : Who) (held : List HeldEvent) → May (job_held j) op wanted who → FitsJob j held → held ≡ []
 free_by None op wanted who held may fits = fits
 free_by (Some j) op wanted who held may fits = absurd may
 

@@ -2,6 +2,8 @@ pub mod Answering
 pub mod Applying
 pub mod Ending
 pub mod Looking
+pub mod Phased
+pub mod Refusing
 pub mod Rooms
 pub mod TurnLaws
 pub mod Turning

@@ -2,11 +2,17 @@
 //! step of the domain, and leaves what that step may leave.
 #![tactic(auto)]
 
+mod answering;
+mod applying;
 mod held;
 mod jobs;
 mod laws;
 mod looking;
+mod refusing;
 
+pub use answering::back;
 pub use held::{HeldEvent, OneRoom};
-pub use laws::{answers_are_turns, looks_are_turns};
-pub use looking::{Looked, look};
+pub use jobs::jobs_held;
+pub use laws::{answers_are_turns, looks_are_turns, refusals_are_turns};
+pub use looking::{Looked, leave, look, make_room, wait};
+pub use refusing::{Refusable, give_up, set_aside};

@@ -10,7 +10,7 @@ ghost use Rattle.domain_spec.specs.Reading.{live_boot};
 ghost use Rattle.domain_spec.specs.declared.mark.Mark.TheVariants as mark;
 ghost use Rattle.domain_queue.specs.Waiting.{callers_in};
 ghost use Rattle.domain_record.specs.Record.{force_of};
-ghost use Rattle.domain_turns.specs.Rooms.{marks_needed};
+ghost use Rattle.domain_turns.specs.Rooms.{HasEnd};
 ghost use Rattle.domain_turns.specs.Looking.{Enters, IsTurned, LooksSo, Waits, boot_first, with_room};
 
 use crate::held::OneRoom;
@@ -57,19 +57,25 @@ fn boot_first(kept: &Record, first: First) -> Option<u64>
     }
 }
 
-// Room for the marks of a call and for what a boot's end tells while it is away, besides the rooms that are
-// there.
-fn make_room(kept: &mut Record, rooms: &mut Vec<OneRoom>, alloc: Global) -> Result<(), NoMemory>
+/// Room for the marks of a call, or of a phase, and for what a boot's end tells while it is away, besides the
+/// rooms that ears need which are out.
+pub fn make_room(
+    kept: &mut Record,
+    rooms: &mut Vec<OneRoom>,
+    alloc: Global,
+    lent: usize,
+) -> Result<(), NoMemory>
     requires few { vec_len rooms.old ≤ 128 }
+    requires lent { (lent ≤ 1) × (lent ≤ vec_len rooms.old) }
     ensures same { kept.new ≡ with_room kept.old kept.new.spare }
-    ensures marks { OnOk result (5 + vec_len rooms.new ≤ kept.new.spare) }
-    ensures rooms { OnOk result (1 ≤ vec_len rooms.new) }
+    ensures marks { OnOk result (6 + vec_len rooms.new ≤ kept.new.spare) }
+    ensures rooms { OnOk result (1 + lent ≤ vec_len rooms.new) }
     ensures grown { (vec_len rooms.old ≤ vec_len rooms.new) × (vec_len rooms.new ≤ 128) }
     ensures stays { kept.old.spare ≤ kept.new.spare }
     ensures err { OnErr result (vec_len rooms.new ≡ vec_len rooms.old) }
 {
-    kept.reserve(6 + rooms.len())?;
-    if rooms.is_empty() {
+    kept.reserve(7 + rooms.len())?;
+    if rooms.len() <= lent {
         rooms.reserve(1)?;
         rooms.push_reserved(OneRoom::new(alloc)?);
     }
@@ -102,8 +108,8 @@ fn enter(
     }
 }
 
-// The caller waits no more, nor the pass of this stamp.
-fn leave(queue: &mut Queue, by: Stamp, who: Who)
+/// The caller waits no more, nor the pass of this stamp.
+pub fn leave(queue: &mut Queue, by: Stamp, who: Who)
     ensures { queue.new ≡ left_queue queue.old by.number who }
 {
     leave_as(queue, &by, who);
@@ -152,12 +158,12 @@ fn refusal_parts(
 ) -> Result<(Call, WhoList), NoMemory>
     requires few { rooms ≤ 128 }
     ensures same { kept.new ≡ with_room kept.old kept.new.spare }
-    ensures marks { OnOk result (3 + rooms ≤ kept.new.spare) }
+    ensures marks { OnOk result (4 + rooms ≤ kept.new.spare) }
     ensures stays { kept.old.spare ≤ kept.new.spare }
     ensures call { IfOk result (λ parts. parts.0 ≡ call.now) }
     ensures waiting { IfOk result (λ parts. parts.1 ≡ callers_in queue.now) }
 {
-    kept.reserve(3 + rooms)?;
+    kept.reserve(4 + rooms)?;
     both(call.copy(), queue.callers(alloc))
 }
 
@@ -180,8 +186,8 @@ fn turn_away(kept: &mut Record, by: Stamp, who: Who, call: Call, held: JobRecord
     kept.refuse(by, who, call, RefusalCode::TooManyWaiting, jobs);
 }
 
-// A call that is excluded waits; or it is turned away, where 32 others wait.
-fn wait(
+/// A call that is excluded waits; or it is turned away, where 32 others wait.
+pub fn wait(
     kept: &mut Record,
     queue: &mut Queue,
     rooms: usize,
@@ -197,39 +203,37 @@ fn wait(
     requires excluded { Excludes held.active held.op call.now who }
     ensures waits { Waits by.number who call.now kept.old kept.new queue.old queue.new result }
     ensures course { kept.new.course ≡ kept.old.course }
-    ensures room { (kept.old.spare ≤ kept.new.spare) ⊎ (2 + rooms ≤ kept.new.spare) }
+    ensures room { ((kept.new ≡ with_room kept.old kept.new.spare) × (kept.old.spare ≤ kept.new.spare)) ⊎ (3 + rooms ≤ kept.new.spare) }
 {
-    match refusal_parts(kept, queue, rooms, alloc, call) {
-        Ok((copy, waiting)) => match join(queue, &by, who) {
-            Ok(looks) => {
-                drop(copy);
-                drop(waiting);
-                drop(by);
-                Looked::Excluded {
-                    held,
-                    boot: live_boot(kept.state()),
-                    looks,
-                }
-            }
-            Err(full) => {
+    match join(queue, &by, who) {
+        Ok(looks) => Looked::Excluded {
+            held,
+            boot: live_boot(kept.state()),
+            looks,
+        },
+        Err(full) => match refusal_parts(kept, queue, rooms, alloc, call) {
+            Ok((copy, waiting)) => {
                 kept.state();
                 turn_away(kept, by.again(), who, copy, held, waiting);
                 leave(queue, by, who);
                 Looked::WaitersFull(full.waiting as u32)
             }
+            Err(NoMemory) => {
+                leave(queue, by, who);
+                Looked::NoMemory
+            }
         },
-        Err(NoMemory) => {
-            leave(queue, by, who);
-            Looked::NoMemory
-        }
     }
 }
 
-/// A call looks: it is let in where its job may be taken, and else waits or is turned away.
+/// A call looks: it is let in where its job may be taken, and else waits or is turned away. Ears that are out need
+/// `lent` rooms.
+#[tactic(auto, using(crate::proofs::Roomy::end_fits, crate::proofs::Roomy::end_stays))]
 pub fn look(
     kept: &mut Record,
     queue: &mut Queue,
     rooms: &mut Vec<OneRoom>,
+    lent: usize,
     alloc: Global,
     by: Stamp,
     who: Who,
@@ -237,19 +241,20 @@ pub fn look(
     first: First,
 ) -> Looked
     requires few { vec_len rooms.old ≤ 128 }
-    requires marks { marks_needed kept.old.course + vec_len rooms.old ≤ kept.old.spare }
+    requires lent { (lent ≤ 1) × (lent ≤ vec_len rooms.old) }
+    requires marks { HasEnd kept.old (vec_len rooms.old) }
     requires begins { begins call.now ≡ None }
     requires takes { takes_up call.now ≡ None }
     requires lawful { May (job_held (force_of kept.old).job) (operation_held (force_of kept.old).operation) (job_of call.now) who → IsLawful (force_of kept.old) (mark.Admit by.number who (job_of call.now) call.now (boot_first first (live_boot (force_of kept.old).state))) }
     ensures looks { LooksSo by.number who call.now (boot_first first (live_boot (force_of kept.old).state)) kept.old kept.new queue.old queue.new result }
-    ensures marks { marks_needed kept.new.course + vec_len rooms.new ≤ kept.new.spare }
+    ensures marks { HasEnd kept.new (vec_len rooms.new) }
     ensures rooms { (vec_len rooms.old ≤ vec_len rooms.new) × (vec_len rooms.new ≤ 128) }
-    ensures room { (1 ≤ vec_len rooms.new) ⊎ (kept.new.course ≡ kept.old.course) }
+    ensures room { (1 + lent ≤ vec_len rooms.new) ⊎ (kept.new.course ≡ kept.old.course) }
 {
     let held = jobs_held(kept);
     if admits(&held, job_of(call), who) {
         let boot = boot_first(kept, first);
-        match make_room(kept, rooms, alloc) {
+        match make_room(kept, rooms, alloc, lent) {
             Ok(()) => enter(kept, queue, alloc, by, who, call, boot),
             Err(NoMemory) => {
                 leave(queue, by, who);
