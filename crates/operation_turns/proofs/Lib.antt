@@ -1,0 +1,6 @@
+pub mod Admitted
+pub mod Backed
+pub mod Begun
+pub mod Ended
+pub mod Phased
+pub mod Taken

@@ -1,0 +1,5 @@
+pub mod Beginning
+pub mod Ending
+pub mod OperationLaws
+pub mod Phasing
+pub mod Resting
