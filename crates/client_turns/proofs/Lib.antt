@@ -1,5 +1,6 @@
 pub mod Finding
 pub mod Keeping
+pub mod LastMark
 pub mod Resting
 pub mod Rotated
 pub mod Took

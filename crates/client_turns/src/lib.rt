@@ -2,6 +2,7 @@
 #![tactic(auto)]
 
 mod laws;
+mod places;
 mod rotating;
 mod taking;
 #[cfg(test)]
@@ -13,6 +14,7 @@ pub use laws::{
     takes_are_turns, unrotated_are_beginnings, unrotated_are_looks, unrotated_are_takings_up,
     watches_are_turns,
 };
+pub use places::last;
 pub use rotating::rotate;
 pub use taking::{drop_events, take_events};
 pub use watching::{WatchFault, unwatch, watch};

@@ -1,32 +1,16 @@
 // A chapter ends, and the next one begins.
-ghost use Rattle.std.specs.Prelude.{◌≡◌, ◌≤◌, ◌<◌, ◌^◌, ℕ, List, None, Option};
+ghost use Rattle.std.specs.Prelude.{◌≡◌, ◌≤◌, ◌<◌, ◌^◌, List, None, Option};
 ghost use Rattle.domain_spec.specs.Cell.{HeldEvent, LentEars};
-ghost use Rattle.domain_spec.specs.Kept.{left_queue};
 ghost use Rattle.domain_record.specs.Record.{force_of};
 ghost use Rattle.domain_turns.specs.Rooms.{HasEnd, IsKept};
 ghost use Rattle.client_turns.specs.Clients.{Rotates};
 
 use domain_queue::Queue;
 use domain_record::Record;
+use domain_turns::leave;
 use history_spec::Stamp;
 use std::alloc::Global;
 use virt_types::{NoMemory, Who};
-
-// The caller waits no more, nor the pass of this stamp.
-fn leave(queue: &mut Queue, by: Stamp, who: Who)
-    ensures { queue.new ≡ left_queue queue.old by.number who }
-{
-    leave_as(queue, &by, who);
-}
-
-// The number of a stamp is named in two steps, since a pick sees the callee's arguments alone.
-fn leave_as(queue: &mut Queue, by: &Stamp, who: Who)
-    ghost number: { ℕ }
-    requires { by.now.number ≡ number }
-    ensures { queue.new ≡ left_queue queue.old number who }
-{
-    queue.leave(who);
-}
 
 /// Ends the chapter, where no call is open: the next one begins with the state, the operation that is under way,
 /// and who is registered. Where there is no memory all stays, but the caller waits no more.
@@ -42,6 +26,7 @@ pub fn rotate(
     requires number { kept.old.history.chapter < 2 ^ 62 }
     requires few { rooms ≤ 128 }
     ensures rotates { Rotates by.number who kept.old kept.new queue.old queue.new result }
+    ensures course { kept.new.course ≡ kept.old.course }
     ensures kept { (held : List HeldEvent) → (ears : Option LentEars) → IsKept kept.old held ears rooms → IsKept kept.new held ears rooms }
     ensures ends { HasEnd kept.old rooms → HasEnd kept.new rooms }
 {

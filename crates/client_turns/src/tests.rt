@@ -1,3 +1,4 @@
+use crate::places::last;
 use crate::rotating::rotate;
 use crate::taking::{drop_events, take_events};
 use crate::watching::{WatchFault, watch};
@@ -7,8 +8,8 @@ use domain_record::Record;
 use history_spec::Stamp;
 use std::alloc::Global;
 use virt_types::{
-    CrashAction, DomainDef, DomainType, LifecycleAction, ListOf, Name, NoMemory, Os, Script, Text,
-    Who, both,
+    CrashAction, DomainDef, DomainType, Front, LifecycleAction, ListOf, Name, NoMemory, Os, Script,
+    Text, Who, both,
 };
 
 // The stamp of a pass, whichever it is.
@@ -128,6 +129,11 @@ fn clients_stay_registered_in_the_next_chapter(rt: HostRuntime) -> Result<(), No
     for client in 0..2 {
         assert_eq!(rt; watch(&mut kept, 0, rt.alloc(), stamp()), Ok(client));
     }
+    let place = Front {
+        chapter: 0,
+        marks: 2,
+    };
+    assert_eq!(rt; last(&kept), place);
     end_chapter(rt.alloc(), &mut kept, &mut queue)?;
     assert_eq!(rt; kept.chapter(), 1);
     assert_eq!(rt; kept.len(), 0);

@@ -38,6 +38,7 @@ fn is_vacant(kept: &Record) -> bool
 pub fn watch(kept: &mut Record, rooms: usize, alloc: Global, by: Stamp) -> Result<u32, WatchFault>
     requires few { rooms ≤ 128 }
     ensures watches { Watches by.number kept.old kept.new result }
+    ensures course { kept.new.course ≡ kept.old.course }
     ensures kept { (held : List HeldEvent) → (ears : Option LentEars) → IsKept kept.old held ears rooms → IsKept kept.new held ears rooms }
     ensures ends { HasEnd kept.old rooms → HasEnd kept.new rooms }
 {

@@ -9,6 +9,7 @@ ghost use Rattle.domain_spec.specs.Reading.{is_live};
 ghost use Rattle.domain_spec.specs.declared.mark.Mark.TheVariants as mark;
 ghost use Rattle.domain_ledger.specs.Away.{WaitsWith};
 ghost use Rattle.domain_history.specs.Closing.{reply_in};
+ghost use Rattle.domain_history.specs.Numbered.{all_numbered};
 ghost use Rattle.domain_ledger.specs.Ledger.{GoesBack, LetsIn, MayAnswer, StaysAway, now_in, with_marks};
 ghost use Rattle.domain_ledger.specs.Operations.{Begins, EntersPhase, IsToldAtEnd, MayPhase, TakesUp};
 ghost use Rattle.domain_ledger.specs.Told.{told_last, told_of};
@@ -478,6 +479,13 @@ impl Ledger {
         ensures { result ≡ length self.now.history.marks }
     {
         self.chapter.len()
+    }
+
+    /// The marks of the chapter. Contracts see them with the numbers of their stamps.
+    pub fn marks(&self) -> &[Mark<Stamp>]
+        ensures { all_numbered result.now ≡ self.now.history.marks }
+    {
+        self.chapter.marks()
     }
 
     /// Whether a call is away. Between two turns a call is open exactly where it is.

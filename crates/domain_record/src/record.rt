@@ -10,6 +10,7 @@ ghost use Rattle.domain_spec.specs.Turns.{AllHaveRoom};
 ghost use Rattle.domain_spec.specs.declared.mark.Mark.TheVariants as mark;
 ghost use Rattle.domain_ledger.specs.Away.{WaitsWith};
 ghost use Rattle.domain_history.specs.Closing.{reply_in};
+ghost use Rattle.domain_history.specs.Numbered.{all_numbered};
 ghost use Rattle.domain_ledger.specs.Ledger.{MayAnswer};
 ghost use Rattle.domain_ledger.specs.Operations.{IsToldAtEnd, MayPhase};
 ghost use Rattle.domain_listeners.specs.Listening.{AreAllTaken, AreApart, HandsOut, IsLeastFree, dropped_by, has_client, left_by, listening_of, new_listening, registrations, taken_by};
@@ -20,7 +21,7 @@ use crate::{calls, chapters, clients, ends, operations};
 use domain_history::{LetIn, Underway};
 use domain_ledger::{Back, Begun, Entry, Ledger, PhaseEntry};
 use domain_listeners::{Listeners, Taken};
-use domain_spec::HeldJobs;
+use domain_spec::{HeldJobs, Mark};
 use history_spec::Stamp;
 use std::alloc::Global;
 use std::marker::Model;
@@ -356,5 +357,12 @@ impl Record {
         ensures { result ≡ length self.now.history.marks }
     {
         self.ledger.len()
+    }
+
+    /// The marks of the chapter. Contracts see them with the numbers of their stamps.
+    pub fn marks(&self) -> &[Mark<Stamp>]
+        ensures { all_numbered result.now ≡ self.now.history.marks }
+    {
+        self.ledger.marks()
     }
 }

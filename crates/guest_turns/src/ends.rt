@@ -37,6 +37,7 @@ pub fn exit(
     requires spare { 0 < kept.old.spare }
     requires rooms { 0 < vec_len rooms.old }
     ensures exits { Exits boot why kept.old kept.new }
+    ensures course { kept.new.course ≡ kept.old.course }
     ensures ears { ears.new ≡ ears_told ears.old }
     ensures spare { kept.new.spare + one_if (is_live (force_of kept.old).state boot) ≡ kept.old.spare }
     ensures rooms { vec_len rooms.new + one_if (is_live (force_of kept.old).state boot) ≡ vec_len rooms.old }

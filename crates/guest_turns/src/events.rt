@@ -51,6 +51,7 @@ pub fn event(
     requires places { vec_len held.old + rooms_lent ears.old ≤ vec_capacity held.old }
     ensures result { result ≡ nat_lt (vec_len held.old) 64 }
     ensures happens { Happens (force_of kept.old).job (record { boot = boot; event = event }) kept.old kept.new }
+    ensures course { kept.new.course ≡ kept.old.course }
     ensures held { held.new.items ≡ held_with (force_of kept.old) (force_of kept.old).job (record { boot = boot; event = event }) held.old.items }
     ensures ears { ears.new ≡ ears_told ears.old }
     ensures spare { kept.new.spare + one_if (applies_now (force_of kept.old) (force_of kept.old).job boot) ≡ kept.old.spare }
