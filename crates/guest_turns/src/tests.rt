@@ -1,13 +1,5 @@
-use crate::ears::{lend, take_back};
 use crate::events::{MOST_HELD, hold};
-use domain_record::Record;
-use history_spec::Stamp;
 use virt_types::{GuestEvent, NoMemory};
-
-// The stamp of a pass, whichever it is.
-fn stamp() -> Stamp {
-    Stamp::named()
-}
 
 #[test]
 fn holds_64_events_and_not_one_more(rt: HostRuntime) -> Result<(), NoMemory> {
@@ -21,27 +13,5 @@ fn holds_64_events_and_not_one_more(rt: HostRuntime) -> Result<(), NoMemory> {
         let event = GuestEvent::DeviceDeleted(place as u32);
         assert_eq!(rt; held[place].event, event);
     }
-    Ok(())
-}
-
-#[test]
-#[tactic(auto, using(crate::proofs::Hearing::opened_kept))]
-fn nobody_hears_where_no_boot_is_live(rt: HostRuntime) -> Result<(), NoMemory> {
-    let mut kept = Record::opened(rt.alloc(), None, false)?;
-    let mut held = Vec::new(rt.alloc());
-    let mut rooms = Vec::new(rt.alloc());
-    let mut ears = None;
-    let lent = lend(
-        &mut kept,
-        &mut held,
-        &mut rooms,
-        &mut ears,
-        rt.alloc(),
-        stamp(),
-    )?;
-    assert_eq!(rt; lent, None);
-    assert!(rt; ears.is_none());
-    assert!(rt; !take_back(&kept, &mut ears, 1));
-    assert_eq!(rt; rooms.len(), 0);
     Ok(())
 }
