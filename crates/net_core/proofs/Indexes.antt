@@ -1,5 +1,5 @@
 -- What an index finds after a change.
-use Rattle.std.proofs.Common.{◌≡◌, ℕ, Bool, true, false, cond, List, bytes_eq, Option, None, sym, ap, ◌∙◌, subst, ⊎_elim, Vec}
+use Rattle.std.proofs.Common.{◌≡◌, ℕ, Bool, true, false, cond, List, bytes_eq, Option, None, sym, ap, ◌∙◌, subst, ⊎_elim}
 use Rattle.std.specs.Cmp.{eq_by_cmp_equiv}
 use Rattle.std.specs.Cmp.Lexicographic.{slice_cmp, bytes_decides, nat_list_cmp_total, nat_list_eq_equiv}
 use Rattle.std.specs.Ordering.{is_eq, nat_cmp}
@@ -24,18 +24,18 @@ by_bytes f g bs w here other cs =
     (λ (n : bytes_eq bs cs ≡ false). other cs n ∙ sym (cond-false (bytes_eq bs cs) w (f cs) n))
     (cases_Bool (bytes_eq bs cs))
 
-module _ {Y X : Type 0} where
+module _ {X : Type 0} where
   -- the value at these bytes
-  abbrev pub at : BTreeMap (Vec ℕ Y) X → List ℕ → Option X
-  at m bs = tree.get_by (λ k. slice_cmp nat_cmp bs k.items) m
+  abbrev pub at : BTreeMap (List ℕ) X → List ℕ → Option X
+  at m bs = tree.get_by (slice_cmp nat_cmp bs) m
 
-  pub map_updates_bytes : (bs : List ℕ) (m n : BTreeMap (Vec ℕ Y) X) (w : Option X) → tree.UpdatesBy (λ x y. slice_cmp nat_cmp x.items y.items) (λ k. slice_cmp nat_cmp bs k.items) m n w → (cs : List ℕ) → at n cs ≡ update bytes_eq (at m) bs w cs
+  pub map_updates_bytes : (bs : List ℕ) (m n : BTreeMap (List ℕ) X) (w : Option X) → tree.UpdatesBy (slice_cmp nat_cmp) (slice_cmp nat_cmp bs) m n w → (cs : List ℕ) → at n cs ≡ update bytes_eq (at m) bs w cs
   map_updates_bytes bs m n w h = by_bytes (at m) (at n) bs w h.1
-      (λ cs e. other_entries _ _ _ _ h.3 _ (λ x y. (eq_by_cmp_equiv nat_list_cmp_total).congr cs x.items y.items) (λ k. apart_in_order bs cs k.items e))
+      (λ cs e. other_entries _ _ _ _ h.3 _ (λ x y. (eq_by_cmp_equiv nat_list_cmp_total).congr cs x y) (λ k. apart_in_order bs cs k e))
 
-  pub empty_at : (m : BTreeMap (Vec ℕ Y) X) → tree.IsEmpty m → (bs : List ℕ) → at m bs ≡ None
-  empty_at m empty bs = ap (lookup (tree.is_at (λ (k : Vec ℕ Y). slice_cmp nat_cmp bs k.items))) empty
+  pub empty_at : (m : BTreeMap (List ℕ) X) → tree.IsEmpty m → (bs : List ℕ) → at m bs ≡ None
+  empty_at m empty bs = ap (lookup (tree.is_at (slice_cmp nat_cmp bs))) empty
 
   -- entries that stay are found as before
-  pub same_at : (m n : BTreeMap (Vec ℕ Y) X) → tree.IsUnchanged m n → (bs : List ℕ) → at n bs ≡ at m bs
-  same_at m n same bs = ap (lookup (tree.is_at (λ (k : Vec ℕ Y). slice_cmp nat_cmp bs k.items))) same
+  pub same_at : (m n : BTreeMap (List ℕ) X) → tree.IsUnchanged m n → (bs : List ℕ) → at n bs ≡ at m bs
+  same_at m n same bs = ap (lookup (tree.is_at (slice_cmp nat_cmp bs))) same

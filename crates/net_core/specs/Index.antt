@@ -8,7 +8,7 @@ use Rattle.net_core.specs.declared.mac_index.MacIndex.{MacIndex}
 
 -- the address of the interface of these bytes
 unfoldable pub address_at : MacIndex → List ℕ → Option ℕ
-address_at index bytes = get_by (λ k. slice_cmp nat_cmp bytes k.items) index.addresses
+address_at index bytes = get_by (slice_cmp nat_cmp bytes) index.addresses
 
 -- the interface of these bytes has this address now, or none; all others have what they had
 abbrev pub Updates : List ℕ → Option ℕ → MacIndex → MacIndex → Type 0

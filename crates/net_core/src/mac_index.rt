@@ -9,8 +9,7 @@ use virt_types::NoMemory;
 /// A map from interfaces to addresses.
 #[derive(Drop)]
 pub struct MacIndex {
-    addresses: BTreeMap<Vec<u8>, u32>,
-    alloc: Global,
+    addresses: BTreeMap<[u8; 6], u32>,
 }
 
 impl MacIndex {
@@ -20,24 +19,22 @@ impl MacIndex {
     {
         MacIndex {
             addresses: BTreeMap::new(alloc),
-            alloc,
         }
     }
 
     /// The address of the interface of these bytes.
-    pub(crate) fn get(&self, bytes: &[u8]) -> Option<u32>
+    pub(crate) fn get(&self, bytes: &[u8; 6]) -> Option<u32>
         ensures { result ≡ address_at self.now bytes.now }
     {
         self.addresses.get(bytes).copied()
     }
 
     /// Gives the interface of these bytes an address.
-    pub(crate) fn insert(&mut self, bytes: &[u8], address: u32) -> Result<(), NoMemory>
-        ensures ok { OnOk result (Updates bytes.now (Some address) self.old self.new) }
+    pub(crate) fn insert(&mut self, bytes: [u8; 6], address: u32) -> Result<(), NoMemory>
+        ensures ok { OnOk result (Updates bytes (Some address) self.old self.new) }
         ensures err { OnErr result (Stays self.old self.new) }
     {
-        let key = Vec::from_slice(self.alloc, bytes)?;
-        match self.addresses.insert(key, address) {
+        match self.addresses.insert(bytes, address) {
             Ok(_) => Ok(()),
             Err(_) => Err(NoMemory),
         }
