@@ -42,7 +42,7 @@ impl Leases {
     pub(crate) fn get(&self, mac: Mac) -> Option<u32>
         ensures { result ≡ leased_to mac self.now }
     {
-        self.by_mac.get(&mac.bytes)
+        self.by_mac.get(mac.bytes)
     }
 
     /// Leases an address to an interface that has none.
