@@ -1,7 +1,6 @@
 -- Which address is free, and how far a range is taken.
 use Rattle.std.proofs.Common.{◌≡◌, ℕ, ◌+◌, ◌-◌, ◌<◌, ◌≤◌, ◌==◌, ◌||◌, not, Bool, true, false, cond, List, [], ◌∷◌, ◌++◌, find, option_map, bytes_eq, is_some, Option, None, Some, zero, suc, refl, sym, ap, ◌∙◌, subst, ⊎_elim, eq-eqb, eqb-true, le_refl, arith}
 use Rattle.std.specs.List.{list_any, range_with_len}
-use Rattle.std.specs.Map.{update}
 use Rattle.std.specs.Cmp.Lexicographic.{bytes_decides}
 use Rattle.std.proofs.Math.Bool.{or-false, or-true}
 use Rattle.std.proofs.lemmas.Bool.{cases_Bool, cases_lt, false≢true, true≢false, not-false, not-true}
@@ -15,7 +14,7 @@ use Rattle.network_spec.specs.declared.book.Network.{Network}
 use Rattle.network_spec.specs.Leases.{same_mac, leased_to, hosted_for, is_hosted, is_leased, least_free, or_else, address_for, hosts_of, range_of}
 use Rattle.net_core.specs.declared.mac_index.MacIndex.{MacIndex}
 use Rattle.net_core.specs.Index.{address_at, Updates}
-use Rattle.net_core.specs.Entries.{IsIndexed, IsFirst, IsFirstAt, IsAhead, KeepsNext, Begins}
+use Rattle.net_core.specs.Entries.{IsIndexed, IsFirst, IsAhead, KeepsNext, Begins}
 
 or_zero : Option ℕ → ℕ
 or_zero None = 0

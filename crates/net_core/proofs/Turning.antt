@@ -1,5 +1,5 @@
 -- What a turn at the book tells the pass that had it.
-use Rattle.std.proofs.Common.{◌≡◌, ◌⊎◌, ℕ, ◌+◌, ◌<◌, ◌≤◌, List, [], ◌∷◌, ◌++◌, length, refl, sym, ap, ◌∙◌, subst, inl, inr, ⊎_elim}
+use Rattle.std.proofs.Common.{◌≡◌, ℕ, ◌+◌, ◌<◌, ◌≤◌, List, [], ◌∷◌, length, refl, sym, ap, ◌∙◌, subst, inl, inr, ⊎_elim}
 use Rattle.std.proofs.lemmas.Bool.{cases_lt}
 use Rattle.history_spec.specs.Chapter.{tagged}
 use Rattle.history_spec.proofs.Marks.{added-more, added-next}
@@ -13,7 +13,7 @@ use Rattle.network_spec.specs.Networks.{Networks}
 use Rattle.network_spec.specs.NetCalls.{answer}
 use Rattle.network_spec.specs.NetHistory.{NetHistory, networks_of, open_chapter, with_mark, HasCalled, IsCalled, LacksMemory}
 use Rattle.net_core.specs.Keeping.{meaning, no_mark_lowers, new_base_keeps}
-use Rattle.net_core.specs.Turns.{NetPassed, HasTurn, HasAsked}
+use Rattle.net_core.specs.Turns.{NetPassed, HasAsked}
 use Rattle.net_core.proofs.Chronicles.{opens_next, opens_same, networks_of-open}
 
 abbrev NetTurned : Type 0

@@ -1,5 +1,5 @@
 -- What a turn cell sees in the book.
-use Rattle.std.specs.Prelude.{◌≡◌, ℕ, ◌+◌, ◌≤◌, List, [], length, Some}
+use Rattle.std.specs.Prelude.{◌≡◌, ℕ, ◌≤◌, [], length, Some}
 use Rattle.std.proofs.Common.{le_refl}
 use Rattle.turn_cell.specs.Meaning.{Meaning, NoMarkLowers, NewBaseKeeps}
 use Rattle.network_spec.specs.declared.book.NetMark.{NetMark}

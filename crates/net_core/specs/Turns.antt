@@ -1,5 +1,5 @@
 -- What a pass knows after a turn at the book.
-use Rattle.std.specs.Prelude.{◌≡◌, ◌⊎◌, ℕ, List, [], ◌∷◌}
+use Rattle.std.specs.Prelude.{◌≡◌, ◌⊎◌, [], ◌∷◌}
 use Rattle.history_spec.specs.Chapter.{tagged}
 use Rattle.turn_cell.specs.Passes.{Passed}
 use Rattle.turn_cell.specs.Turning.{Went}

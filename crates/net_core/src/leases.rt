@@ -42,7 +42,7 @@ impl Leases {
     pub(crate) fn get(&self, mac: Mac) -> Option<u32>
         ensures { result ≡ leased_to mac self.now }
     {
-        self.by_mac.get(mac.bytes.as_slice())
+        self.by_mac.get(mac.bytes)
     }
 
     /// Leases an address to an interface that has none.
@@ -52,7 +52,7 @@ impl Leases {
         ensures err { OnErr result (self.new ≡ self.old) }
     {
         self.rows.reserve(1)?;
-        self.by_mac.insert(mac.bytes.as_slice(), address)?;
+        self.by_mac.insert(mac.bytes, address)?;
         self.rows.push_reserved(LeaseRow { mac, address });
         Ok(())
     }

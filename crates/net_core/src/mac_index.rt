@@ -1,16 +1,24 @@
 // Addresses by the bytes of the interfaces that they are leased to.
-ghost use Rattle.std.specs.Prelude.{◌≡◌, List, ℕ, OnOk, OnErr, None, Some};
+ghost use Rattle.std.specs.Prelude.{◌≡◌, List, ℕ, OnOk, OnErr, None, Some, reverse};
 ghost use Rattle.net_core.specs.Index.{address_at, Updates, Stays};
 
 use std::alloc::Global;
 use std::collections::BTreeMap;
 use virt_types::NoMemory;
 
-/// A map from interfaces to addresses.
+/// A map from interfaces to addresses. A key is the bytes of an interface in the other direction.
 #[derive(Drop)]
 pub struct MacIndex {
-    addresses: BTreeMap<Vec<u8>, u32>,
-    alloc: Global,
+    addresses: BTreeMap<[u8; 6], u32>,
+}
+
+// Interfaces of one maker share their first bytes, so the last one is looked at first.
+fn key(bytes: [u8; 6]) -> [u8; 6]
+    ensures { result ≡ reverse bytes }
+{
+    let mut key = bytes;
+    key.reverse();
+    key
 }
 
 impl MacIndex {
@@ -20,24 +28,22 @@ impl MacIndex {
     {
         MacIndex {
             addresses: BTreeMap::new(alloc),
-            alloc,
         }
     }
 
     /// The address of the interface of these bytes.
-    pub(crate) fn get(&self, bytes: &[u8]) -> Option<u32>
-        ensures { result ≡ address_at self.now bytes.now }
+    pub(crate) fn get(&self, bytes: [u8; 6]) -> Option<u32>
+        ensures { result ≡ address_at self.now bytes }
     {
-        self.addresses.get(bytes).copied()
+        self.addresses.get(&key(bytes)).copied()
     }
 
     /// Gives the interface of these bytes an address.
-    pub(crate) fn insert(&mut self, bytes: &[u8], address: u32) -> Result<(), NoMemory>
-        ensures ok { OnOk result (Updates bytes.now (Some address) self.old self.new) }
+    pub(crate) fn insert(&mut self, bytes: [u8; 6], address: u32) -> Result<(), NoMemory>
+        ensures ok { OnOk result (Updates bytes (Some address) self.old self.new) }
         ensures err { OnErr result (Stays self.old self.new) }
     {
-        let key = Vec::from_slice(self.alloc, bytes)?;
-        match self.addresses.insert(key, address) {
+        match self.addresses.insert(key(bytes), address) {
             Ok(_) => Ok(()),
             Err(_) => Err(NoMemory),
         }

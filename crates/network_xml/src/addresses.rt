@@ -89,11 +89,8 @@ fn mask_value(text: &Text) -> Result<u32, DefKind>
     ensures { result ≡ spec.mask_value text.now }
 {
     match address_of(text.as_str()) {
-        None => test_prefix(None),
-        Some(mask) => match ones_of(mask) {
-            None => test_prefix(None),
-            Some(prefix) => test_prefix(Some(u64::from(prefix))),
-        },
+        None => Err(DefKind::BadValue),
+        Some(mask) => test_prefix(ones_of(mask).map(u64::from)),
     }
 }
 

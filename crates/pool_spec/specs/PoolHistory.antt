@@ -1,5 +1,5 @@
 -- The history of the book of pools: what stood in it when the chapter began, and a mark for each call.
-use Rattle.std.specs.Prelude.{◌≡◌, ◌⊎◌, ℕ, ◌+◌, ◌<◌, ◌++◌, nat_lt, List, [], ◌∷◌, length, Result, Ok, Err, if◌then◌else◌}
+use Rattle.std.specs.Prelude.{◌≡◌, ◌⊎◌, ℕ, ◌+◌, ◌<◌, ◌++◌, nat_lt, [], ◌∷◌, length, Result, Ok, Err, if◌then◌else◌}
 use Rattle.std.specs.List.{fold}
 use Rattle.history_spec.specs.declared.history.History.{History}
 use Rattle.virt_types.specs.declared.refusal.Refusal.{Refusal}

@@ -1,5 +1,5 @@
 -- The book of storage pools. (libvirt's virStoragePoolObjList is the like: it finds an object by its name or its UUID.)
-use Rattle.std.specs.Prelude.{ℕ, Bool, false, List, [], ◌∷◌, bytes_eq, find, Option, None, Some, if◌then◌else◌}
+use Rattle.std.specs.Prelude.{ℕ, Bool, false, List, [], ◌∷◌, bytes_eq, find, Option, if◌then◌else◌}
 use Rattle.std.specs.Option.{unwrap_or}
 use Rattle.uuid.specs.Parts.{zero_bytes}
 use Rattle.virt_types.specs.declared.storage_def.PoolDef.{PoolDef}

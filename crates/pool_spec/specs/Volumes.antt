@@ -1,5 +1,5 @@
 -- The volumes of a pool, and the bytes that they take together.
-use Rattle.std.specs.Prelude.{ℕ, ◌+◌, Bool, List, [], ◌∷◌, ◌++◌, bytes_eq, find, nat_lt, Option, if◌then◌else◌}
+use Rattle.std.specs.Prelude.{ℕ, ◌+◌, Bool, List, [], ◌∷◌, ◌++◌, bytes_eq, find, Option, if◌then◌else◌}
 use Rattle.std.specs.List.{sum_by}
 use Rattle.virt_types.specs.declared.storage_def.VolDef.{VolDef}
 use Rattle.pool_spec.specs.declared.book.Pool.{Pool}

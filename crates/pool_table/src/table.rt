@@ -273,13 +273,13 @@ impl Table {
         ensures effect { TakesEffect (call.MakeVolume uuid def) result self.old self.new }
     {
         let alloc = self.alloc();
-        let Some(pool) = place_of_uuid(self.entries.as_slice(), uuid) else {
+        let Some(place) = place_of_uuid(self.entries.as_slice(), uuid) else {
             return no_pool(alloc, uuid);
         };
-        if !self.entries[pool].is_active() {
+        if !self.entries[place].is_active() {
             return is_inactive(alloc);
         }
-        self.entries[pool].make(alloc, def)
+        self.entries[place].make(alloc, def)
     }
 
     /// Deletes a volume of an active pool.

@@ -1,5 +1,4 @@
 use Rattle.std.proofs.Common.{subst}
-use Rattle.network_spec.specs.declared.book.NetCall.TheVariants as call
 use Rattle.net_core.specs.Answers.{LeaseTakesEffect}
 use Rattle.net_core.proofs.Calling.{kept-leased, book-leased}
 use Rattle.net_core.proofs.book.NetBook.lease.Goals as goal

@@ -1,5 +1,4 @@
 use Rattle.network_spec.specs.declared.book.NetCall.TheVariants as call
-use Rattle.network_spec.specs.declared.book.NetAnswer.TheVariants.{Done}
 use Rattle.net_core.specs.Answers.{tested}
 use Rattle.net_core.proofs.book.NetBook.may_autostart.Given as goal
 

@@ -1,7 +1,7 @@
 use Rattle.std.proofs.Common.{sym, subst, ◌∙◌, ◌<◌, length}
 use Rattle.network_spec.specs.declared.book.NetCall.TheVariants as call
 use Rattle.network_spec.specs.declared.book.NetAnswer.TheVariants.{Done}
-use Rattle.net_core.proofs.Calling.{kept-done, book-done, book-answer, after-undefine}
+use Rattle.net_core.proofs.Calling.{kept-done, book-done, after-undefine}
 use Rattle.net_core.proofs.book.NetBook.undefine.Goals as goal
 
 pub invariant_of-self : goal.invariant_of-self

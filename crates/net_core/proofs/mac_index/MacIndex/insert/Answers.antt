@@ -1,13 +1,17 @@
-use Rattle.std.proofs.Common.{Some}
-use Rattle.net_core.proofs.Indexes.{map_updates_bytes, same_at}
+use Rattle.std.proofs.Common.{List, ℕ, Some, reverse, subst}
+use Rattle.std.specs.BTreeMap as tree
+use Rattle.std.specs.Cmp.Lexicographic.{slice_cmp}
+use Rattle.std.specs.Ordering.{nat_cmp}
+use Rattle.net_core.proofs.Indexes.{map_updates_reversed, same_at}
 use Rattle.net_core.specs.Index.{address_at}
 use Rattle.net_core.proofs.mac_index.MacIndex.insert.Goals as goal
-use Rattle.net_core.proofs.mac_index.MacIndex.insert.Goals.{in-Ok, in-Err}
 
-pub returns-clause-ok : goal.returns-clause-ok
+pub returns-in-Ok-clause-ok : goal.returns-in-Ok-clause-ok
 unfolding address_at
-returns-clause-ok c = elim c.match-insert.branch [ in-Ok w ↦ rw w.result-is (rw (← c.in_ok-key.ensures.items) (map_updates_bytes c.in_ok-key.key.items c.args.self.now.addresses c.insert.new.self (Some c.args.address) w.in-Ok.ensures.updates)) | in-Err w ↦ rw w.result-is tt ]
+returns-in-Ok-clause-ok c =
+    map_updates_reversed c.args.bytes c.args.self.now.addresses c.insert.new.self (Some c.args.address)
+    (subst (λ (key : List ℕ). tree.UpdatesBy (slice_cmp nat_cmp) (slice_cmp nat_cmp key) c.args.self.now.addresses c.insert.new.self (Some c.args.address)) c.key.ensures c.in-Ok.ensures.updates)
 
-pub returns-clause-err : goal.returns-clause-err
+pub returns-in-Err-clause-err : goal.returns-in-Err-clause-err
 unfolding address_at
-returns-clause-err c = elim c.match-insert.branch [ in-Ok w ↦ rw w.result-is tt | in-Err w ↦ rw w.result-is (same_at c.args.self.now.addresses c.insert.new.self w.in-Err.ensures.err) ]
+returns-in-Err-clause-err c = λ other. same_at c.args.self.now.addresses c.insert.new.self c.in-Err.ensures.err (reverse other)
