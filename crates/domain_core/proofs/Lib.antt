@@ -1,0 +1,5 @@
+pub mod Looks
+pub mod Parts
+pub mod Shares
+pub mod Shown
+pub mod Whole

@@ -1,0 +1,4 @@
+pub mod Core
+pub mod Keeping
+pub mod Meaning
+pub mod Shares
