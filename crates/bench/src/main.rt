@@ -3,9 +3,11 @@
 
 mod feed;
 mod payload;
+mod reply;
 
 use feed::feed_packets;
 use payload::define;
+use reply::{list, none, one};
 use std::alloc::Global;
 use std::process::ExitCode;
 use std::{env, io};
@@ -26,6 +28,19 @@ enum Work {
         size: u32,
         rounds: u32,
     },
+    /// Replies with a list of so many domains are written and read, so many times.
+    List {
+        count: u64,
+        times: u64,
+    },
+    /// Replies with one domain.
+    One {
+        times: u64,
+    },
+    /// Replies without a payload.
+    None {
+        times: u64,
+    },
     /// No work is called so.
     Unknown,
 }
@@ -45,7 +60,32 @@ fn work_of(words: &[String]) -> Work {
             (Ok(size), Ok(rounds)) => Work::Define { size, rounds },
             _ => Work::Unknown,
         },
+        [_, name, count, times] if name.as_str() == "list" => {
+            match (count.parse(), times.parse()) {
+                (Ok(count), Ok(times)) => Work::List { count, times },
+                _ => Work::Unknown,
+            }
+        }
+        [_, name, times] if name.as_str() == "one" => match times.parse() {
+            Ok(times) => Work::One { times },
+            Err(_) => Work::Unknown,
+        },
+        [_, name, times] if name.as_str() == "none" => match times.parse() {
+            Ok(times) => Work::None { times },
+            Err(_) => Work::Unknown,
+        },
         _ => Work::Unknown,
+    }
+}
+
+/// Tells how many bytes the payloads of replies had.
+fn tell(rt: &HostRuntime, replied: Result<u64, NoMemory>) -> io::Result<ExitCode> {
+    match replied {
+        Ok(bytes) => {
+            println!(rt; "{bytes} bytes")?;
+            Ok(ExitCode::SUCCESS)
+        }
+        Err(NoMemory) => Ok(ExitCode::from(12)),
     }
 }
 
@@ -75,8 +115,13 @@ fn main(rt: HostRuntime) -> io::Result<ExitCode> {
             }
             Err(NoMemory) => Ok(ExitCode::from(12)),
         },
+        Work::List { count, times } => tell(&rt, list(alloc, count, times)),
+        Work::One { times } => tell(&rt, one(alloc, times)),
+        Work::None { times } => tell(&rt, none(alloc, times)),
         Work::Unknown => {
-            println!(rt; "bench feed SIZE PIECE TIMES or bench define SIZE ROUNDS")?;
+            println!(rt;
+                "bench feed SIZE PIECE TIMES, define SIZE ROUNDS, list COUNT TIMES, one TIMES or none TIMES"
+            )?;
             Ok(ExitCode::from(2))
         }
     }

@@ -25,7 +25,7 @@ fn definitions(alloc: Global, size: u32) -> Result<Vec<u8>, NoMemory> {
     Ok(ring)
 }
 
-fn demo(alloc: Global) -> Result<DomainRef, NoMemory> {
+pub(crate) fn demo(alloc: Global) -> Result<DomainRef, NoMemory> {
     match Name::read(alloc, b"demo") {
         Ok(name) => Ok(DomainRef {
             name,

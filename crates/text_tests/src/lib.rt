@@ -12,11 +12,15 @@ mod filled;
 #[cfg(test)]
 mod grammar;
 #[cfg(test)]
+mod live;
+#[cfg(test)]
 mod printed;
 #[cfg(test)]
 mod scripts;
 #[cfg(test)]
 mod sizes;
+#[cfg(test)]
+mod snapshots;
 #[cfg(test)]
 mod texts;
 #[cfg(test)]
