@@ -1,3 +1,4 @@
+pub mod Hearing
 pub mod Looks
 pub mod Parts
 pub mod Shares

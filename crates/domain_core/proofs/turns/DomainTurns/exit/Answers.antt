@@ -1,0 +1,10 @@
+use Rattle.std.specs.Vec.{vec_capacity, vec_len}
+use Rattle.domain_core.proofs.Hearing.{exit_goes}
+use Rattle.domain_core.proofs.turns.DomainTurns.exit.Goals as goal
+
+pub returns-clause-exits : goal.returns-clause-exits
+returns-clause-exits c =
+    let a = c.args in
+    let i = c.self.inside in
+    exit_goes a.self.now i.kept c.exit.new.kept i.queue i.held.items i.ears c.exit.new.ears i.excluded (vec_len i.rooms) (vec_capacity i.held) a.boot a.why c.self.view_is c.self.invariant
+    c.state.ensures.lost c.is_away.ensures.waits c.is_away.ensures.room c.state-2.ensures.lost c.is_away-2.ensures.waits c.exit.ensures.exits c.exit.ensures.ears
