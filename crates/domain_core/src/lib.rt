@@ -6,6 +6,7 @@ mod guests;
 mod kept;
 mod laws;
 mod looking;
+mod operations;
 mod turns;
 
 pub use kept::Share;
