@@ -5,4 +5,5 @@ pub mod Operating
 pub mod Parts
 pub mod Shares
 pub mod Shown
+pub mod Watching
 pub mod Whole

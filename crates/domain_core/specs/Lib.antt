@@ -1,3 +1,4 @@
+pub mod Clients
 pub mod Core
 pub mod Keeping
 pub mod Meaning

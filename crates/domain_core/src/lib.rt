@@ -2,6 +2,7 @@
 //! leave. It is a value that callers change in turns.
 #![tactic(auto)]
 
+mod clients;
 mod guests;
 mod kept;
 mod laws;
