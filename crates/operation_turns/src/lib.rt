@@ -7,6 +7,8 @@ mod ending;
 mod laws;
 mod phasing;
 mod resting;
+#[cfg(test)]
+mod tests;
 
 pub use beginning::{OperationLook, begin_op, take_up};
 pub use ending::end_op;
