@@ -97,3 +97,9 @@ opened_kept r stored autostart e f = record {
   counted = subst (λ (x : Chaptered). IsCounted (at_base x.base)) (sym e) (counted_first stored autostart);
   has_rooms = record { marks = no_more r.course r.spare f; enough = none_needed r.course f; few = omega arith };
 }
+
+pub opened_empty : (r : Recorded) (held : List HeldEvent) (ears : Option LentEars) (rooms : ℕ) (stored : Option DomainDef) (autostart : Bool)
+    → r.history ≡ record { chapter = 0; base = first_base stored autostart; marks = [] } → r.course ≡ None → held ≡ [] → ears ≡ None → rooms ≡ 0 → IsKept r held ears rooms
+opened_empty r held ears rooms stored autostart e f g h i =
+    subst (λ (hs : List HeldEvent). IsKept r hs ears rooms) (sym g)
+    (subst (λ (o : Option LentEars). IsKept r [] o rooms) (sym h) (subst (λ (n : ℕ). IsKept r [] None n) (sym i) (opened_kept r stored autostart e f)))
