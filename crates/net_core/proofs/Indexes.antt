@@ -1,56 +1,40 @@
 -- What an index finds after a change.
-use Rattle.std.proofs.Common.{◌≡◌, ℕ, Bool, true, false, cond, List, bytes_eq, Option, None, sym, ap, ◌∙◌, subst, ⊎_elim, reverse}
-use Rattle.std.specs.Cmp.{eq_by_cmp_equiv}
-use Rattle.std.specs.Cmp.Lexicographic.{slice_cmp, bytes_decides, nat_list_cmp_total, nat_list_eq_equiv}
-use Rattle.std.specs.Ordering.{is_eq, nat_cmp}
-use Rattle.std.specs.BTreeMap.{BTreeMap}
-use Rattle.std.specs.BTreeMap as tree
-use Rattle.std.specs.Map.{update, lookup, IsKeyTest, AreApart, KeepsOthers}
-use Rattle.std.proofs.lemmas.Bool.{cases_Bool, cond-true, cond-false}
-use Rattle.std.proofs.lemmas.Bool.Decides.{same_from_decides}
-use Rattle.std.proofs.lemmas.List.{reverse-reverse}
-use Rattle.std.proofs.lemmas.Map.Text.{is_eq-slice_cmp}
+use Rattle.std.proofs.Common.{◌≡◌, ℕ, ◌<◌, Bool, cond, List, ◌∷◌, drop, get_or, bytes_eq, nat_eq, Option, None, zero, suc, refl, sym, ap, ◌∙◌, arith}
+use Rattle.std.specs.HashMap.{HashMap, get, IsEmpty, IsUnchanged, Updates}
+use Rattle.std.specs.Cmp.Lexicographic.{bytes_decides}
+use Rattle.std.specs.Int.{w64, to_be_bytes}
+use Rattle.std.specs.Map.{update, lookup}
+use Rattle.std.proofs.lemmas.Bool.Decides.{Decides-eqb, same_from_decides}
+use Rattle.std.proofs.lemmas.Nat.{be_bytes_8}
+use Rattle.net_core.specs.Index.{IsMac, number_of}
 
-apart_in_order : (bs cs ks : List ℕ) → bytes_eq bs cs ≡ false → is_eq (slice_cmp nat_cmp bs ks) ≡ true → is_eq (slice_cmp nat_cmp cs ks) ≡ false
-apart_in_order bs cs ks n y = is_eq-slice_cmp cs ks ∙ (nat_list_eq_equiv.symm cs ks ∙ (sym (nat_list_eq_equiv.congr bs ks cs (sym (is_eq-slice_cmp bs ks) ∙ y)) ∙ n))
+-- eight bytes of which the first two are 0
+small_wide : (bytes : List ℕ) → ((i : ℕ) → get_or bytes i 0 < 256) → (i : ℕ) → get_or (0 ∷ 0 ∷ bytes) i 0 < 256
+small_wide bytes small zero = omega arith
+small_wide bytes small (suc zero) = omega arith
+small_wide bytes small (suc (suc i)) = small i
 
-other_entries : {K X : Type 0} (eq : K → K → Bool) (test : K → Bool) (old new : List (K × X)) → KeepsOthers eq test old new → (other : K → Bool) → IsKeyTest eq other → AreApart test other → lookup other new ≡ lookup other old
-unfolding KeepsOthers
-other_entries eq test old new h = h
+spelled : (bytes : List ℕ) → IsMac bytes → to_be_bytes w64 (number_of bytes) ≡ 0 ∷ 0 ∷ bytes
+spelled bytes is = be_bytes_8 (0 ∷ 0 ∷ bytes) (number_of bytes) (omega (arith, is.six)) (small_wide bytes is.small) refl
 
--- f is w at bs, and else as it was
-by_bytes : {W : Type 0} (f g : List ℕ → W) (bs : List ℕ) (w : W) → g bs ≡ w → ((cs : List ℕ) → bytes_eq bs cs ≡ false → g cs ≡ f cs) → (cs : List ℕ) → g cs ≡ cond (bytes_eq bs cs) w (f cs)
-by_bytes f g bs w here other cs =
-    ⊎_elim
-    (λ (y : bytes_eq bs cs ≡ true). subst (λ (l : List ℕ). g l ≡ w) ((bytes_decides bs cs).0 y) here ∙ sym (cond-true (bytes_eq bs cs) w (f cs) y))
-    (λ (n : bytes_eq bs cs ≡ false). other cs n ∙ sym (cond-false (bytes_eq bs cs) w (f cs) n))
-    (cases_Bool (bytes_eq bs cs))
+-- interfaces with the same number are the same
+same_bytes : (xs ys : List ℕ) → IsMac xs → IsMac ys → number_of xs ≡ number_of ys → xs ≡ ys
+same_bytes xs ys one other is = ap (drop 2) (sym (spelled xs one) ∙ (ap (to_be_bytes w64) is ∙ spelled ys other))
 
--- lists are the same where they are so in the other direction
-unreversed : (xs ys : List ℕ) → reverse xs ≡ reverse ys → xs ≡ ys
-unreversed xs ys e = sym (reverse-reverse xs) ∙ (ap reverse e ∙ reverse-reverse ys)
-
-reversed_eq : (xs ys : List ℕ) → bytes_eq (reverse xs) (reverse ys) ≡ bytes_eq xs ys
-reversed_eq xs ys =
-    same_from_decides (bytes_eq (reverse xs) (reverse ys)) (bytes_eq xs ys)
-    (λ t. unreversed xs ys ((bytes_decides (reverse xs) (reverse ys)).0 t), λ e. (bytes_decides (reverse xs) (reverse ys)).1 (ap reverse e))
+number_test : (xs ys : List ℕ) → IsMac xs → IsMac ys → nat_eq (number_of xs) (number_of ys) ≡ bytes_eq xs ys
+number_test xs ys one other = same_from_decides (nat_eq (number_of xs) (number_of ys)) (bytes_eq xs ys) (
+  λ t. same_bytes xs ys one other ((Decides-eqb (number_of xs) (number_of ys)).0 t),
+  λ e. (Decides-eqb (number_of xs) (number_of ys)).1 (ap number_of e),
+)
     (bytes_decides xs ys)
 
-module _ {X : Type 0} where
-  -- the value at these bytes
-  abbrev pub at : BTreeMap (List ℕ) X → List ℕ → Option X
-  at m bs = tree.get_by (slice_cmp nat_cmp bs) m
+module _ {X S : Type 0} where
+  pub updated_at : (bytes : List ℕ) (m n : HashMap ℕ X S) (w : Option X) → IsMac bytes → Updates nat_eq m n (number_of bytes) w → (other : List ℕ) → IsMac other → get nat_eq n (number_of other) ≡ update bytes_eq (λ bs. get nat_eq m (number_of bs)) bytes w other
+  updated_at bytes m n w is updates other is_other = updates.0 (number_of other) ∙ ap (λ (b : Bool). cond b w (get nat_eq m (number_of other))) (number_test bytes other is is_other)
 
-  pub map_updates_bytes : (bs : List ℕ) (m n : BTreeMap (List ℕ) X) (w : Option X) → tree.UpdatesBy (slice_cmp nat_cmp) (slice_cmp nat_cmp bs) m n w → (cs : List ℕ) → at n cs ≡ update bytes_eq (at m) bs w cs
-  map_updates_bytes bs m n w h = by_bytes (at m) (at n) bs w h.1
-      (λ cs e. other_entries _ _ _ _ h.3 _ (λ x y. (eq_by_cmp_equiv nat_list_cmp_total).congr cs x y) (λ k. apart_in_order bs cs k e))
-
-  pub map_updates_reversed : (bs : List ℕ) (m n : BTreeMap (List ℕ) X) (w : Option X) → tree.UpdatesBy (slice_cmp nat_cmp) (slice_cmp nat_cmp (reverse bs)) m n w → (cs : List ℕ) → at n (reverse cs) ≡ update bytes_eq (λ x. at m (reverse x)) bs w cs
-  map_updates_reversed bs m n w h cs = map_updates_bytes (reverse bs) m n w h (reverse cs) ∙ ap (λ (b : Bool). cond b w (at m (reverse cs))) (reversed_eq bs cs)
-
-  pub empty_at : (m : BTreeMap (List ℕ) X) → tree.IsEmpty m → (bs : List ℕ) → at m bs ≡ None
-  empty_at m empty bs = ap (lookup (tree.is_at (slice_cmp nat_cmp bs))) empty
+  pub empty_at : (m : HashMap ℕ X S) → IsEmpty m → (key : ℕ) → get nat_eq m key ≡ None
+  empty_at m empty key = ap (lookup (nat_eq key)) empty
 
   -- entries that stay are found as before
-  pub same_at : (m n : BTreeMap (List ℕ) X) → tree.IsUnchanged m n → (bs : List ℕ) → at n bs ≡ at m bs
-  same_at m n same bs = ap (lookup (tree.is_at (slice_cmp nat_cmp bs))) same
+  pub same_at : (m n : HashMap ℕ X S) → IsUnchanged m n → (key : ℕ) → get nat_eq n key ≡ get nat_eq m key
+  same_at m n same key = ap (lookup (nat_eq key)) same

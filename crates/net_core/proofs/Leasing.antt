@@ -173,7 +173,7 @@ address-free mac network address is none not_so = free_by (hosts_of network) (ho
 -- the index finds nothing where nothing is leased
 pub indexed-new : (index : MacIndex) → ((bytes : List ℕ) → address_at index bytes ≡ None) → IsIndexed index []
 unfolding leased_to
-indexed-new index none mac = none mac.bytes
+indexed-new index none mac is = none mac.bytes
 
 leased_to-cons : (mac : Mac) (lease : LeaseRow) (leases : List LeaseRow) → leased_to mac (lease ∷ leases) ≡ cond (same_mac lease.mac mac) (Some lease.address) (leased_to mac leases)
 unfolding leased_to
@@ -214,12 +214,8 @@ leased_to-more mac address (lease ∷ leases) none other = ⊎_elim
     (cases_Bool (same_mac lease.mac mac))
 
 pub indexed-more : (old new : MacIndex) (leases : List LeaseRow) (mac : Mac) (address : ℕ) → IsIndexed old leases → leased_to mac leases ≡ None → Updates mac.bytes (Some address) old new → IsIndexed new (more leases mac address)
-indexed-more old new leases mac address indexed none updates other =
-    updates other.bytes ∙ (ap (cond (same_mac mac other) (Some address)) (indexed other) ∙ sym (leased_to-more mac address leases none other))
-
--- an index that finds the same
-pub indexed-same : (old new : MacIndex) (leases : List LeaseRow) → IsIndexed old leases → ((bytes : List ℕ) → address_at new bytes ≡ address_at old bytes) → IsIndexed new leases
-indexed-same old new leases indexed same mac = same mac.bytes ∙ indexed mac
+indexed-more old new leases mac address indexed none updates other is =
+    updates other.bytes is ∙ (ap (cond (same_mac mac other) (Some address)) (indexed other is) ∙ sym (leased_to-more mac address leases none other))
 
 -- what an entry sees of its network
 pub least-none : (network : Network) (range : Option AddressRange) → range ≡ range_of network → range ≡ None → None ≡ least_free (range_of network) (hosts_of network) network.leases

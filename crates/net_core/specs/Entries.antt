@@ -4,13 +4,14 @@ use Rattle.virt_types.specs.declared.mac.Mac.{Mac}
 use Rattle.virt_types.specs.declared.value.LeaseRow.{LeaseRow}
 use Rattle.virt_types.specs.declared.network_def.AddressRange.{AddressRange}
 use Rattle.virt_types.specs.declared.network_def.HostLine.{HostLine}
-use Rattle.network_spec.specs.Leases.{leased_to, is_leased, is_hosted}
+use Rattle.network_spec.specs.declared.book.Network.{Network}
+use Rattle.network_spec.specs.Leases.{leased_to, is_leased, is_hosted, with_lease}
 use Rattle.net_core.specs.declared.mac_index.MacIndex.{MacIndex}
-use Rattle.net_core.specs.Index.{address_at}
+use Rattle.net_core.specs.Index.{IsMac, address_at}
 
 -- the index finds what was leased to an interface
 abbrev pub IsIndexed : MacIndex → List LeaseRow → Type 0
-IsIndexed index leases = (mac : Mac) → address_at index mac.bytes ≡ leased_to mac leases
+IsIndexed index leases = (mac : Mac) → IsMac mac.bytes → address_at index mac.bytes ≡ leased_to mac leases
 
 -- of the addresses up to the end, the first from this one on that no host line has
 pub record IsFirstAt (hosts : List HostLine) (from end address : ℕ) : Type 0 where
@@ -38,3 +39,8 @@ KeepsNext (Some range) hosts leases next = IsAhead range hosts leases next
 abbrev pub Begins : Option AddressRange → ℕ → Type 0
 Begins None next = Unit {0}
 Begins (Some range) next = next ≡ range.start
+
+-- the network once an interface has this address; where there is none, it stays as it was
+abbrev pub with_address : Mac → Option ℕ → Network → Network
+with_address mac None network = network
+with_address mac (Some address) network = with_lease mac address network

@@ -1,10 +1,10 @@
 // A network of the book.
-ghost use Rattle.std.specs.Prelude.{◌≡◌, option_copied, is_some, None, Some, OnOk, OnErr, IfOk};
+ghost use Rattle.std.specs.Prelude.{◌≡◌, option_copied, None, Some, OnOk, OnErr, IfOk};
 ghost use Rattle.network_spec.specs.Networks.{has, identifier, name_of, new_network, uuid_of};
 ghost use Rattle.network_spec.specs.Leases.{address_for, dhcp_of, hosts_of, leased_to, least_free, lines_of, range_of, bounds_of, with_lease};
 ghost use Rattle.network_spec.specs.NetCalls.{started, stopped, with_autostart, with_def};
 ghost use Rattle.network_spec.specs.NetReads.{AreLeases, row_of};
-ghost use Rattle.net_core.specs.Entries.{Begins};
+ghost use Rattle.net_core.specs.Entries.{Begins, with_address};
 
 use crate::hosts::{address_of, first_without_line, is_host_address};
 use crate::leases::Leases;
@@ -186,32 +186,46 @@ impl Entry {
         }
     }
 
-    /// The address that this interface has or gets.
-    pub(crate) fn address_for(&self, mac: Mac) -> Option<u32>
+    // The address that an interface gets which has none yet.
+    fn new_address(&self, mac: Mac) -> Option<u32>
+        requires { leased_to mac self.now.leases ≡ None }
         ensures { result ≡ address_for mac self.now }
     {
-        if let Some(address) = self.leases.get(mac) {
-            return Some(address);
-        }
         if let Some(address) = address_of(hosts(&self.def), mac) {
             return Some(address);
         }
         self.least_free()
     }
 
-    /// Leases this interface its address.
-    pub(crate) fn lease(&mut self, mac: Mac, address: u32) -> Result<(), NoMemory>
-        requires { address_for mac self.old ≡ Some address }
+    // Leases this address to an interface that has none yet.
+    fn lease_new(&mut self, mac: Mac, address: u32) -> Result<(), NoMemory>
+        requires none { leased_to mac self.old.leases ≡ None }
+        requires free { address_for mac self.old ≡ Some address }
         ensures ok { OnOk result (self.new ≡ with_lease mac address self.old) }
         ensures err { OnErr result (self.new ≡ self.old) }
     {
-        if self.leases.get(mac).is_some() {
-            return Ok(());
-        }
         self.leases.push(mac, address)?;
         if !is_host_address(hosts(&self.def), address) {
             self.next = u64::from(address) + 1;
         }
         Ok(())
+    }
+
+    /// Leases this interface its address, and says which one that is; none where no address is free.
+    pub(crate) fn lease(&mut self, mac: Mac) -> Result<Option<u32>, NoMemory>
+        ensures address { IfOk result (λ address. address ≡ address_for mac self.old) }
+        ensures ok { OnOk result (self.new ≡ with_address mac (address_for mac self.old) self.old) }
+        ensures err { OnErr result (self.new ≡ self.old) }
+    {
+        if let Some(address) = self.leases.get(mac) {
+            return Ok(Some(address));
+        }
+        match self.new_address(mac) {
+            None => Ok(None),
+            Some(address) => {
+                self.lease_new(mac, address)?;
+                Ok(Some(address))
+            }
+        }
     }
 }

@@ -1,24 +1,24 @@
-// Addresses by the bytes of the interfaces that they are leased to.
-ghost use Rattle.std.specs.Prelude.{◌≡◌, List, ℕ, OnOk, OnErr, None, Some, reverse};
-ghost use Rattle.net_core.specs.Index.{address_at, Updates, Stays};
+// Addresses by the interfaces that they are leased to.
+ghost use Rattle.std.specs.Prelude.{◌≡◌, List, ℕ, OnOk, OnErr, None, Some};
+ghost use Rattle.net_core.specs.Index.{address_at, number_of, IsMac, Updates, Stays};
 
 use std::alloc::Global;
-use std::collections::BTreeMap;
+use std::collections::HashMap;
 use virt_types::NoMemory;
 
-/// A map from interfaces to addresses. A key is the bytes of an interface in the other direction.
+/// A map from interfaces to addresses, whose keys are the numbers that the interfaces' bytes are. What
+/// one lookup costs does not grow with the leases, as it would in a tree.
 #[derive(Drop)]
 pub struct MacIndex {
-    addresses: BTreeMap<[u8; 6], u32>,
+    addresses: HashMap<u64, u32>,
 }
 
-// Interfaces of one maker share their first bytes, so the last one is looked at first.
-fn key(bytes: [u8; 6]) -> [u8; 6]
-    ensures { result ≡ reverse bytes }
+fn number(bytes: [u8; 6]) -> u64
+    ensures number { result ≡ number_of bytes }
+    ensures mac { IsMac bytes }
 {
-    let mut key = bytes;
-    key.reverse();
-    key
+    let [a, b, c, d, e, f] = bytes;
+    u64::from_be_bytes([0, 0, a, b, c, d, e, f])
 }
 
 impl MacIndex {
@@ -27,15 +27,16 @@ impl MacIndex {
         ensures { (bytes : List ℕ) → address_at result bytes ≡ None }
     {
         MacIndex {
-            addresses: BTreeMap::new(alloc),
+            addresses: HashMap::new(alloc),
         }
     }
 
     /// The address of the interface of these bytes.
     pub(crate) fn get(&self, bytes: [u8; 6]) -> Option<u32>
-        ensures { result ≡ address_at self.now bytes }
+        ensures address { result ≡ address_at self.now bytes }
+        ensures mac { IsMac bytes }
     {
-        self.addresses.get(&key(bytes)).copied()
+        self.addresses.get(&number(bytes)).copied()
     }
 
     /// Gives the interface of these bytes an address.
@@ -43,7 +44,7 @@ impl MacIndex {
         ensures ok { OnOk result (Updates bytes (Some address) self.old self.new) }
         ensures err { OnErr result (Stays self.old self.new) }
     {
-        match self.addresses.insert(key(bytes), address) {
+        match self.addresses.insert(number(bytes), address) {
             Ok(_) => Ok(()),
             Err(_) => Err(NoMemory),
         }

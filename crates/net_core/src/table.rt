@@ -273,13 +273,10 @@ impl Table {
         if !self.entries[place].is_active() {
             return Err(OrNoMemory::Fault(LeaseFault::Class(12)));
         }
-        match self.entries[place].address_for(mac) {
-            None => Err(OrNoMemory::Fault(LeaseFault::Class(13))),
-            Some(address) => {
-                self.entries[place].lease(mac, address)?;
-                Ok(address)
-            }
-        }
+        let Some(address) = self.entries[place].lease(mac)? else {
+            return Err(OrNoMemory::Fault(LeaseFault::Class(13)));
+        };
+        Ok(address)
     }
 
     /// The networks by rising name.

@@ -1,10 +1,8 @@
-use Rattle.std.proofs.Common.{List, ℕ, ◌∙◌, ap}
-use Rattle.std.specs.BTreeMap as tree
-use Rattle.std.specs.Cmp.Lexicographic.{slice_cmp}
-use Rattle.std.specs.Ordering.{nat_cmp}
+use Rattle.std.proofs.Common.{nat_eq, ◌∙◌, ap}
+use Rattle.std.specs.HashMap.{get}
 use Rattle.net_core.specs.Index.{address_at}
 use Rattle.net_core.proofs.mac_index.MacIndex.get.Goals as goal
 
-pub returns : goal.returns
+pub returns-clause-address : goal.returns-clause-address
 unfolding address_at
-returns c = c.copied.ensures ∙ (c.get.ensures.value ∙ ap (λ (key : List ℕ). tree.get_by (slice_cmp nat_cmp key) c.args.self.now.addresses) c.key.ensures)
+returns-clause-address c = c.copied.ensures ∙ (c.get.ensures.value ∙ ap (get nat_eq c.args.self.now.addresses) c.number.ensures.number)
