@@ -1,12 +1,18 @@
 /* store defines TIMES DIRECTORY: the system calls of a keeper that keeps definitions, and nothing
- * else: a draft is written and synced, renamed, and the directory is synced. It prints the count and
- * the nanoseconds. */
+ * else: a draft is written and synced, renamed, and the directory is synced.
+ * store opens TIMES DIRECTORY PARTS: the system calls of one that opens so many directories in one in
+ * turn, so many times: each is listed, its files are read into memory in the order of their names, and
+ * it is synced.
+ * It prints the count and the nanoseconds. */
+#include <dirent.h>
 #include <fcntl.h>
 #include <stdio.h>
 #include <stdlib.h>
 #include <string.h>
 #include <time.h>
 #include <unistd.h>
+
+enum { MOST_FILES = 1000, MOST_BYTES = 1024 };
 
 static int put(const char *directory, long number)
 {
@@ -36,17 +42,72 @@ static int put(const char *directory, long number)
     return (file = open(directory, O_RDONLY)) < 0 || fsync(file) || close(file);
 }
 
+static int is_definition(const struct dirent *entry)
+{
+    size_t length = strlen(entry->d_name);
+
+    return length > 4 && !strcmp(entry->d_name + length - 4, ".def");
+}
+
+/* In pieces of 512 bytes, as a keeper reads. */
+static int read_whole(const char *path, char *content)
+{
+    char *end = content + MOST_BYTES, *at = content;
+    ssize_t got;
+    int file = open(path, O_RDONLY);
+
+    if (file < 0)
+        return 1;
+    while ((got = read(file, at, end - at < 512 ? end - at : 512)) > 0)
+        at += got;
+    return got < 0 || close(file);
+}
+
+/* What is read stays in memory, one file behind the other. */
+static int open_all(const char *directory)
+{
+    static char kept[MOST_FILES][MOST_BYTES];
+    struct dirent **entries;
+    char path[8192];
+    int count = scandir(directory, &entries, is_definition, alphasort), failed, file, i;
+
+    if (count < 0)
+        return 1;
+    failed = count > MOST_FILES;
+    for (i = 0; i < count; i++) {
+        snprintf(path, sizeof path, "%s/%s", directory, entries[i]->d_name);
+        failed = failed || read_whole(path, kept[i]);
+        free(entries[i]);
+    }
+    free(entries);
+    return failed || (file = open(directory, O_RDONLY)) < 0 || fsync(file) || close(file);
+}
+
+/* The directories are called as their number. */
+static int open_parts(const char *directory, long parts)
+{
+    char path[4096];
+    long part;
+
+    for (part = 0; part < parts; part++) {
+        snprintf(path, sizeof path, "%s/%ld", directory, part);
+        if (open_all(path))
+            return 1;
+    }
+    return 0;
+}
+
 int main(int count, char **words)
 {
     struct timespec start, end;
-    long times, number;
+    long times, number, parts = count == 5 ? atol(words[4]) : 0;
 
-    if (count != 4 || strcmp(words[1], "defines"))
+    if (count < 4 || strcmp(words[1], parts ? "opens" : "defines"))
         return 2;
     times = atol(words[2]);
     clock_gettime(CLOCK_MONOTONIC, &start);
     for (number = 0; number < times; number++)
-        if (put(words[3], number))
+        if (parts ? open_parts(words[3], parts) : put(words[3], number))
             return 1;
     clock_gettime(CLOCK_MONOTONIC, &end);
     printf("%ld %lld true\n", times,

@@ -1,5 +1,5 @@
 -- Operations on files that are no definitions change nothing of what is known of a store.
-use Rattle.std.proofs.Common.{◌≡◌, ◌⊎◌, ⊎_elim, ◌≤◌, ◌+◌, ◌++◌, false, List, [], ◌∷◌, ℕ, zero, suc, Option, None, Some, Result, Ok, Err, codes, get_or, length, option_map, take, refl, sym, ◌∙◌, ap, subst, arith, length-append}
+use Rattle.std.proofs.Common.{◌≡◌, ⊎_elim, ◌+◌, ◌++◌, false, List, [], ◌∷◌, ℕ, zero, suc, Option, None, Some, Result, Ok, Err, codes, get_or, length, option_map, take, refl, sym, ◌∙◌, ap, subst, arith, length-append}
 use Rattle.std.specs.List.{AllByRecursion}
 use Rattle.std.proofs.lemmas.List.{get_or-append-add}
 use Rattle.virt_types.specs.declared.memory.Fault.{Fault}

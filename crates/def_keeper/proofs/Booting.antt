@@ -1,5 +1,5 @@
 -- A status file changes no definition.
-use Rattle.std.proofs.Common.{◌≡◌, ◌⊎◌, ⊎_elim, ◌++◌, List, [], ◌∷◌, ℕ, Option, Result, Ok, Err, codes, refl, sym, subst, take, arith}
+use Rattle.std.proofs.Common.{⊎_elim, ◌++◌, List, ℕ, Option, Result, Ok, Err, codes, refl, sym, subst, take, arith}
 use Rattle.std.specs.List.{AllByRecursion}
 use Rattle.uuid.specs.Text.{hyphenated_text, lower}
 use Rattle.virt_types.specs.declared.memory.Fault.{Fault}

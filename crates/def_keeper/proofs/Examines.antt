@@ -1,5 +1,5 @@
 -- What files are found to be, one after another.
-use Rattle.std.proofs.Common.{◌≡◌, ◌⊎◌, inl, inr, ⊎_elim, ◌<◌, ◌≤◌, ◌+◌, ◌++◌, Bool, true, false, List, [], ◌∷◌, ℕ, Option, None, Some, Result, Ok, Err, OnOk, All, bytes_eq, get_or, length, map, take, refl, sym, ◌∙◌, ap, subst, arith, append-nil, append_assoc}
+use Rattle.std.proofs.Common.{◌≡◌, ◌⊎◌, inl, inr, ⊎_elim, ◌<◌, ◌+◌, ◌++◌, Bool, true, false, List, [], ◌∷◌, ℕ, Option, None, Some, Result, Ok, Err, OnOk, All, get_or, length, take, refl, sym, ◌∙◌, ap, subst, arith, append-nil, append_assoc}
 use Rattle.std.specs.Prelude.{Contains}
 use Rattle.std.specs.Option.{IsSome, is_some}
 use Rattle.std.specs.List.Sorted.{IsStrictlySortedBy}
@@ -11,7 +11,7 @@ use Rattle.files_disk.specs.Telling.{IsListed, IsRead, Lists, Told}
 use Rattle.store_spec.specs.declared.entry.Entry.{Entry}
 use Rattle.store_spec.specs.declared.kind.BookKind.{BookKind}
 use Rattle.store_spec.specs.Directory.{Directory, directory}
-use Rattle.store_spec.specs.FileNames.{IsDefinitionName, IsStatusName, definition_name}
+use Rattle.store_spec.specs.FileNames.{IsDefinitionName, IsStatusName}
 use Rattle.store_spec.proofs.Names.{have_own_files, says_definition}
 use Rattle.store_spec.proofs.Spelling.{holds_one_entry}
 use Rattle.def_map.specs.Map.{key_of}
@@ -20,8 +20,8 @@ use Rattle.def_map.proofs.MapFinds.{key_apart, same_or_apart, update_else, updat
 use Rattle.def_keeper.specs.declared.report.Finding.{Finding}
 use Rattle.def_keeper.specs.declared.report.Finding.TheVariants as finding
 use Rattle.def_keeper.specs.declared.report.Report.{Report}
-use Rattle.def_keeper.specs.Examining.{AreReports, IsDefinitionOf, IsExamined, IsExaminedAt, IsFinding, IsNamedBefore, IsNamedSo, IsReport, files_of}
-use Rattle.def_keeper.specs.Judging.{Adds, AddsDefinition, AddsStatus, FoundBy, HasDefinitionsAt, HasStatusesAt, IsNewName, Judges, Names, TellsFound}
+use Rattle.def_keeper.specs.Examining.{AreReports, IsDefinitionOf, IsExaminedAt, IsFinding, IsNamedBefore, IsNamedSo, IsReport, files_of}
+use Rattle.def_keeper.specs.Judging.{Adds, AddsDefinition, AddsStatus, FoundBy, HasDefinitionsAt, HasStatusesAt, Judges, Names, TellsFound}
 use Rattle.def_keeper.specs.Opening.{AreRising, ComesBefore, IsInOrder, is_listed}
 use Rattle.def_keeper.proofs.Opens.{all_still, listed_cases, listed_here, listed_still, unlisted_none}
 use Rattle.def_keeper.proofs.Rising.{before_this, listed_before, rising_more}

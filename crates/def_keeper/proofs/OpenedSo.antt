@@ -1,29 +1,27 @@
 -- An opened directory.
-use Rattle.std.proofs.Common.{◌≡◌, ◌⊎◌, inl, inr, ⊎_elim, ◌<◌, ◌≤◌, ◌++◌, Bool, true, false, List, [], ◌∷◌, ℕ, suc, Option, None, Some, Result, Ok, Err, All, get_or, length, option_map, take, refl, sym, ◌∙◌, ap, subst, arith, append_assoc, append-nil}
+use Rattle.std.proofs.Common.{◌≡◌, ⊎_elim, ◌++◌, true, List, [], ◌∷◌, ℕ, suc, Option, None, Some, All, option_map, sym, ◌∙◌, ap, subst, arith, append_assoc, append-nil}
 use Rattle.std.proofs.lemmas.Bool.{cases_Bool}
 use Rattle.virt_types.specs.declared.memory.OrNoMemory.{OrNoMemory}
 use Rattle.virt_types.specs.declared.memory.OrNoMemory.TheVariants as or
-use Rattle.virt_types.specs.declared.status.Status.{Status}
 use Rattle.files_disk.specs.Telling.{IsListed, Lists, Told, more}
 use Rattle.store_spec.specs.declared.operation.Operation.{Operation}
 use Rattle.store_spec.specs.declared.operation.Operation.TheVariants as op
 use Rattle.store_spec.specs.Changes.{Definitions}
 use Rattle.store_spec.specs.Directory.{Directory, File, Files, directory, files_after}
-use Rattle.store_spec.specs.FileNames.{IsDefinitionName, IsStatusName, definition_name}
-use Rattle.store_spec.specs.Settled.{IsSettled, IsSure}
+use Rattle.store_spec.specs.FileNames.{IsDefinitionName}
+use Rattle.store_spec.specs.Settled.{IsSure}
 use Rattle.store_spec.proofs.Operating.{files_more}
 use Rattle.store_spec.proofs.Stands.{stands_alike}
-use Rattle.store_reading.specs.Status.{TellsStatus}
 use Rattle.def_keeper.specs.declared.outcome.Found.{Found}
 use Rattle.def_keeper.specs.declared.outcome.FoundDefinition.{FoundDefinition}
 use Rattle.def_keeper.specs.declared.outcome.OpenFault.{OpenFault}
 use Rattle.def_keeper.specs.declared.outcome.OpenFault.TheVariants as fault
-use Rattle.def_keeper.specs.Finding.{HasFoundAt, HasOther, IsFirstIn, IsSecond, IsWrong, IsWrongAt}
+use Rattle.def_keeper.specs.Finding.{HasFoundAt, IsFirstIn}
 use Rattle.def_map.specs.Map.{found, no_rows, MapRows}
 use Rattle.def_keeper.specs.Opened.{AreSure, HasOpened, HasTidied, IsOpened, IsRefused, IsSureAt}
-use Rattle.def_keeper.specs.Opening.{ComesNext, HasFound, IsFaultAt, IsFirstBad, IsFirstTwice, IsInOrder, IsWhole, is_listed}
+use Rattle.def_keeper.specs.Opening.{ComesNext, HasFound, IsFirstBad, IsInOrder, IsWhole, is_listed}
 use Rattle.def_keeper.specs.Safe.{IsSettledAt}
-use Rattle.def_keeper.specs.Tidying.{HasRemoved, HasRemovedAt, HasReported, HasReportedAt, IsReports, IsTidying, Tidies}
+use Rattle.def_keeper.specs.Tidying.{HasRemoved, HasReported, IsTidying}
 use Rattle.def_map.proofs.MapFinds.{found_none}
 use Rattle.def_keeper.proofs.Goings.{settled_sure}
 use Rattle.def_keeper.proofs.Opens.{found_first, found_whole, unlisted_none}

@@ -1,12 +1,12 @@
 -- What a crash in the middle of an opening leaves.
-use Rattle.std.proofs.Common.{◌≡◌, ◌⊎◌, ⊎_elim, ◌<◌, ◌≤◌, ◌+◌, ◌-◌, ◌++◌, true, false, List, [], ◌∷◌, ℕ, suc, Option, None, Some, All, length, option_map, take, refl, sym, ◌∙◌, ap, subst, arith, append_assoc, append-nil}
+use Rattle.std.proofs.Common.{◌≡◌, ⊎_elim, ◌+◌, ◌-◌, ◌++◌, true, false, List, [], ◌∷◌, ℕ, suc, Option, None, Some, All, length, option_map, take, refl, sym, ◌∙◌, ap, subst, arith, append_assoc, append-nil}
 use Rattle.std.proofs.Math.Seq.{take-append-add}
 use Rattle.std.proofs.lemmas.List.Elements.{All-take}
 use Rattle.store_spec.specs.declared.operation.Operation.{Operation}
 use Rattle.store_spec.specs.declared.operation.Operation.TheVariants as op
 use Rattle.store_spec.specs.Directory.{Directory, File, Files, directory, files_after, put}
-use Rattle.store_spec.specs.Disk.{LeftSince, Leaves, MayLeave, syncs_directory}
-use Rattle.store_spec.specs.FileNames.{IsDefinitionName, IsStatusName}
+use Rattle.store_spec.specs.Disk.{Leaves, MayLeave}
+use Rattle.store_spec.specs.FileNames.{IsDefinitionName}
 use Rattle.store_spec.specs.Laws.{IsUpToDate, SameBut}
 use Rattle.store_spec.proofs.Crashes.{images_go_on}
 use Rattle.store_spec.proofs.Operating.{files_more, put_else, put_here, same_or_not}

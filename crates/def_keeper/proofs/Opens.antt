@@ -1,7 +1,6 @@
 -- What is found of a directory, one file after another.
-use Rattle.std.proofs.Common.{◌≡◌, ◌⊎◌, inl, inr, ⊎_elim, ◌<◌, ◌≤◌, ◌+◌, ◌++◌, ◌||◌, ◌&&◌, Bool, true, false, cond, List, [], ◌∷◌, ℕ, zero, suc, Option, None, Some, All, bytes_eq, count_by, get_or, length, map, take, refl, sym, ◌∙◌, ap, subst, arith}
+use Rattle.std.proofs.Common.{◌≡◌, ◌⊎◌, inl, inr, ⊎_elim, ◌<◌, ◌+◌, ◌++◌, ◌||◌, ◌&&◌, Bool, true, false, cond, List, [], ◌∷◌, ℕ, Option, None, Some, All, bytes_eq, count_by, get_or, length, map, take, refl, sym, ◌∙◌, ap, subst, arith}
 use Rattle.std.specs.Prelude.{Contains}
-use Rattle.std.specs.List.{list_any}
 use Rattle.std.specs.List.Sorted.{IsStrictlySortedBy}
 use Rattle.std.proofs.lemmas.Bool.{cases_Bool}
 use Rattle.std.proofs.lemmas.List.{map_push}
@@ -16,17 +15,17 @@ use Rattle.store_spec.specs.declared.kind.BookKind.{BookKind}
 use Rattle.store_spec.specs.declared.version.Version.{Version}
 use Rattle.store_spec.specs.declared.version.Version.TheVariants as version
 use Rattle.store_spec.specs.Changes.{Definitions, changed, is_of, same_kind}
-use Rattle.store_spec.specs.DefinitionFile.{IsDefinitionFile, IsEntryOf, has_feed}
+use Rattle.store_spec.specs.DefinitionFile.{IsEntryOf, has_feed}
 use Rattle.store_spec.specs.Directory.{Directory, directory}
 use Rattle.store_spec.specs.FileNames.{IsDefinitionName, IsUuid, definition_name}
-use Rattle.store_spec.specs.StandsFor.{Holds, IsNamed, StandsFor}
+use Rattle.store_spec.specs.StandsFor.{Holds, IsNamed}
 use Rattle.store_spec.proofs.Names.{is_named, says_definition}
-use Rattle.store_spec.proofs.Operating.{bytes_eq_not, bytes_eq_same, same_or_not}
+use Rattle.store_spec.proofs.Operating.{bytes_eq_same}
 use Rattle.store_spec.proofs.Stands.{changed_else, changed_here, eq_of, kind_by_test, of_or_apart}
 use Rattle.def_keeper.specs.declared.outcome.FoundDefinition.{FoundDefinition}
 use Rattle.def_keeper.specs.Calls.{AllGood}
-use Rattle.def_keeper.specs.Finding.{Finds, FindsIn, HasFoundAt, Passes, Takes}
-use Rattle.def_keeper.specs.Opening.{AreRising, ComesBefore, HasFound, IsFound, IsInOrder, IsWhole, IsWholeAt, files_in, is_listed}
+use Rattle.def_keeper.specs.Finding.{Finds, HasFoundAt, Passes, Takes}
+use Rattle.def_keeper.specs.Opening.{AreRising, ComesBefore, HasFound, IsFound, IsInOrder, IsWhole, files_in, is_listed}
 use Rattle.def_keeper.proofs.Rising.{before_this, rising_more}
 
 true_false : true ≡ false → ⊥

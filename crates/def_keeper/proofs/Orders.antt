@@ -1,5 +1,5 @@
 -- The names of files in order.
-use Rattle.std.proofs.Common.{◌≡◌, ◌<◌, ◌≤◌, ◌+◌, String, cond, false, List, [], ◌∷◌, ℕ, Option, None, Some, Result, Ok, Err, IfOk, bytes_eq, get_or, length, map, refl, suc, sym, ◌∙◌, ap, subst, arith}
+use Rattle.std.proofs.Common.{◌≡◌, ◌<◌, ◌+◌, String, cond, List, [], ◌∷◌, ℕ, None, Some, Result, Ok, Err, IfOk, bytes_eq, length, map, refl, suc, ◌∙◌, ap, arith}
 use Rattle.std.specs.String.{string_bytes}
 use Rattle.std.specs.Cmp.Lexicographic.{slice_cmp}
 use Rattle.std.specs.List.Sorted.{IsPermutation, IsSorted}

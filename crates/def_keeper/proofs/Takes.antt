@@ -1,24 +1,12 @@
 -- One file is taken in.
-use Rattle.std.proofs.Common.{◌≡◌, ◌⊎◌, inl, inr, ◌<◌, ◌≤◌, ◌++◌, List, [], ◌∷◌, ℕ, Option, None, Some, Result, Ok, Err, IfErr, OnOk, get_or, length, take, refl, sym, ◌∙◌, ap, subst}
-use Rattle.outside_spec.specs.Faults.{Rose}
-use Rattle.virt_types.specs.declared.memory.OrNoMemory.{OrNoMemory}
-use Rattle.virt_types.specs.declared.memory.OrNoMemory.TheVariants as or
-use Rattle.files_disk.specs.Telling.{IsRead, Told}
+use Rattle.std.proofs.Common.{◌≡◌, List, ℕ, Result, Ok, Err, OnOk}
 use Rattle.store_spec.specs.declared.change.Change.TheVariants as change
 use Rattle.store_spec.specs.declared.entry.Entry.{Entry}
 use Rattle.store_spec.specs.declared.kind.BookKind.{BookKind}
 use Rattle.store_spec.specs.declared.version.Version.{Version}
 use Rattle.store_spec.specs.Changes.{Definitions, changed}
 use Rattle.store_spec.specs.DefinitionFile.{IsDefinitionFile}
-use Rattle.store_spec.specs.Directory.{directory}
-use Rattle.store_spec.specs.FileNames.{IsDefinitionName, IsUuid, definition_name}
-use Rattle.store_spec.specs.StandsFor.{IsNamed}
-use Rattle.def_keeper.specs.declared.outcome.FoundDefinition.{FoundDefinition}
-use Rattle.def_keeper.specs.declared.outcome.OpenFault.{OpenFault}
-use Rattle.def_keeper.specs.declared.outcome.OpenFault.TheVariants as fault
 use Rattle.def_keeper.specs.Calls.{AllGood}
-use Rattle.def_keeper.specs.Finding.{Finds, HasDeviceFault, HasFoundAt, HasOther, IsFirstIn, IsNoneFault, IsSecond, IsTwice, IsWrong, IsWrongAt, Takes}
-use Rattle.def_keeper.specs.Opening.{IsNoDefinition}
 use Rattle.def_keeper.proofs.Opens.{put_good}
 
 -- what was taken in is good

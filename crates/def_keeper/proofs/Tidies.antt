@@ -1,21 +1,19 @@
 -- Status files are reported and removed.
-use Rattle.std.proofs.Common.{◌≡◌, ◌⊎◌, inl, inr, ⊎_elim, ◌<◌, ◌≤◌, ◌+◌, ◌++◌, Bool, true, false, List, [], ◌∷◌, ℕ, Option, None, Some, Result, Ok, Err, All, bytes_eq, codes, get_or, length, option_map, take, refl, sym, ◌∙◌, ap, subst, arith, append_assoc, append-nil, length-append}
-use Rattle.std.specs.Prelude.{Contains}
+use Rattle.std.proofs.Common.{◌≡◌, ◌⊎◌, ⊎_elim, ◌<◌, ◌+◌, ◌++◌, true, false, List, [], ◌∷◌, ℕ, Option, None, Some, codes, get_or, length, option_map, take, refl, sym, ◌∙◌, ap, subst, arith, append_assoc, append-nil, length-append}
 use Rattle.std.specs.List.Sorted.{IsStrictlySortedBy}
-use Rattle.std.proofs.lemmas.Bool.{cases_Bool}
 use Rattle.std.proofs.lemmas.List.{get_or-append-add}
 use Rattle.std.proofs.lemmas.List.Elements.{All-push, Contains-append_left, Contains-append_right}
 use Rattle.virt_types.specs.declared.status.Status.{Status}
 use Rattle.files_disk.specs.Telling.{IsListed, Told, more}
 use Rattle.store_spec.specs.declared.operation.Operation.{Operation}
 use Rattle.store_spec.specs.declared.operation.Operation.TheVariants as op
-use Rattle.store_spec.specs.Directory.{Directory, File, Files, directory, files_after, put}
+use Rattle.store_spec.specs.Directory.{Directory, File, Files, directory, files_after}
 use Rattle.store_spec.specs.FileNames.{IsDefinitionName, IsStatusName}
-use Rattle.store_spec.proofs.Operating.{bytes_eq_not, files_more, put_else, put_here, same_or_not}
+use Rattle.store_spec.proofs.Operating.{files_more, put_else, put_here, same_or_not}
 use Rattle.store_spec.proofs.Settling.{IsAside}
 use Rattle.store_reading.specs.Status.{TellsStatus}
 use Rattle.def_keeper.specs.Opening.{ComesBefore, IsInOrder, is_listed}
-use Rattle.def_keeper.specs.Tidying.{HasRemoved, HasRemovedAt, HasReported, HasReportedAt, AreReported, IsReported, IsTidying, Removes, Reports, ReportsAt, Tidies}
+use Rattle.def_keeper.specs.Tidying.{HasRemoved, HasRemovedAt, HasReported, HasReportedAt, AreReported, IsReported, IsTidying, ReportsAt, Tidies}
 use Rattle.def_keeper.proofs.Opens.{all_still, listed_cases, listed_here}
 use Rattle.def_keeper.proofs.Rising.{before_this, rising_more}
 

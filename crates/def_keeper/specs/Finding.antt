@@ -1,5 +1,5 @@
 -- How the files of a directory are taken in, one after another, when a store is opened.
-use Rattle.std.specs.Prelude.{◌≡◌, ◌⊎◌, ◌<◌, ◌++◌, List, [], ◌∷◌, ℕ, Option, None, Some, Result, Ok, Err, get_or, length, take}
+use Rattle.std.specs.Prelude.{◌≡◌, ◌⊎◌, ◌<◌, ◌++◌, List, [], ◌∷◌, ℕ, Option, None, Some, Result, Err, get_or, length, take}
 use Rattle.outside_spec.specs.Faults.{Rose}
 use Rattle.virt_types.specs.declared.memory.OrNoMemory.{OrNoMemory}
 use Rattle.virt_types.specs.declared.memory.OrNoMemory.TheVariants as or

@@ -1,5 +1,5 @@
 -- What is known of a store once it was opened.
-use Rattle.std.specs.Prelude.{◌≡◌, ◌++◌, List, [], ◌∷◌, ℕ, Option, None, Some}
+use Rattle.std.specs.Prelude.{◌≡◌, List, ℕ, Option, None, Some}
 use Rattle.outside_spec.specs.Faults.{Rose}
 use Rattle.virt_types.specs.declared.memory.OrNoMemory.{OrNoMemory}
 use Rattle.virt_types.specs.declared.memory.OrNoMemory.TheVariants as or
@@ -11,11 +11,10 @@ use Rattle.store_spec.specs.Changes.{Definitions}
 use Rattle.store_spec.specs.Directory.{directory, files_after}
 use Rattle.store_spec.specs.FileNames.{IsDefinitionName, IsStatusName}
 use Rattle.store_spec.specs.Settled.{IsSettled, IsSure}
-use Rattle.store_reading.specs.Status.{TellsStatus}
 use Rattle.def_keeper.specs.declared.outcome.Found.{Found}
 use Rattle.def_keeper.specs.declared.outcome.OpenFault.{OpenFault}
 use Rattle.def_keeper.specs.declared.outcome.OpenFault.TheVariants as fault
-use Rattle.def_keeper.specs.Opening.{IsFaultAt, IsWhole, IsWholeAt}
+use Rattle.def_keeper.specs.Opening.{IsFaultAt, IsWhole}
 use Rattle.def_keeper.specs.Tidying.{HasRemovedAt, HasReportedAt, IsReports}
 
 -- each definition's file was synced since it was written

@@ -1,5 +1,5 @@
 -- What is found in a directory when a store is opened, by the names of its files in order.
-use Rattle.std.specs.Prelude.{◌≡◌, ◌<◌, Bool, true, false, List, ℕ, Option, None, Some, All, Contains, bytes_eq, get_or, length, map, take}
+use Rattle.std.specs.Prelude.{◌≡◌, ◌<◌, Bool, true, false, List, ℕ, None, Some, All, Contains, bytes_eq, get_or, length, map, take}
 use Rattle.std.specs.Cmp.Lexicographic.{slice_cmp}
 use Rattle.std.specs.List.{list_any}
 use Rattle.std.specs.List.Sorted.{IsSorted, IsStrictlySortedBy}

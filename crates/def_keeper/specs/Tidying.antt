@@ -1,5 +1,5 @@
 -- What an opening does to a directory: it removes status files, and syncs the directory.
-use Rattle.std.specs.Prelude.{◌≡◌, ◌⊎◌, ◌++◌, true, false, List, [], ◌∷◌, ℕ, Option, None, Some, Result, Ok, Err, All, Contains}
+use Rattle.std.specs.Prelude.{◌≡◌, ◌⊎◌, ◌++◌, true, List, [], ◌∷◌, ℕ, Option, None, Some, Result, Ok, Err, All, Contains}
 use Rattle.virt_types.specs.declared.status.Status.{Status}
 use Rattle.files_disk.specs.Telling.{Told, more}
 use Rattle.store_spec.specs.declared.operation.Operation.{Operation}

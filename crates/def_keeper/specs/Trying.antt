@@ -1,5 +1,5 @@
 -- What the try of a change adds to the operations that a store tells.
-use Rattle.std.specs.Prelude.{◌≡◌, ◌⊎◌, ◌≤◌, List, [], ◌∷◌, ℕ, Result, Ok, Err, take}
+use Rattle.std.specs.Prelude.{◌≡◌, ◌⊎◌, ◌≤◌, List, ℕ, Result, Ok, Err, take}
 use Rattle.virt_types.specs.declared.memory.Fault.{Fault}
 use Rattle.virt_types.specs.declared.memory.Fault.TheVariants as fault
 use Rattle.files_disk.specs.Putting.{all_more}

@@ -1,18 +1,15 @@
 -- What a map finds, by its rows.
-use Rattle.std.proofs.Common.{◌≡◌, ℕ, Bool, true, false, cond, List, [], ◌∷◌, bytes_eq, Option, None, Some, refl, sym, ap, ◌∙◌, subst, ⊎_elim, Vec, Result, Ok, Err, OnOk, OnErr}
+use Rattle.std.proofs.Common.{◌≡◌, ℕ, Bool, true, false, cond, List, [], ◌∷◌, bytes_eq, Option, None, Some, refl, sym, ap, ◌∙◌, subst, ⊎_elim, Vec}
 use Rattle.std.specs.Option.{IsSome}
-use Rattle.std.specs.Cmp.{eq_by_cmp_equiv}
-use Rattle.std.specs.Cmp.Lexicographic.{slice_cmp, bytes_decides, nat_list_cmp_total, nat_list_eq_equiv}
-use Rattle.std.specs.Ordering.{is_eq, nat_cmp}
-use Rattle.std.specs.BTreeMap.{BTreeMap}
-use Rattle.std.specs.BTreeMap as tree
+use Rattle.std.specs.Cmp.Lexicographic.{bytes_decides, nat_list_eq_equiv}
+use Rattle.std.specs.HashMap.{HashMap}
+use Rattle.std.specs.HashMap as table
 use Rattle.std.specs.Map.{update, lookup, IsKeyTest, AreApart, KeepsOthers}
 use Rattle.std.proofs.lemmas.Bool.{cases_Bool, cond-true, cond-false}
-use Rattle.std.proofs.lemmas.Map.Text.{is_eq-slice_cmp}
 use Rattle.def_map.specs.Rows.{rows_in, at, Updates, Stays}
 
-apart_in_order : (bs cs ks : List ℕ) → bytes_eq bs cs ≡ false → is_eq (slice_cmp nat_cmp bs ks) ≡ true → is_eq (slice_cmp nat_cmp cs ks) ≡ false
-apart_in_order bs cs ks n y = is_eq-slice_cmp cs ks ∙ (nat_list_eq_equiv.symm cs ks ∙ (sym (nat_list_eq_equiv.congr bs ks cs (sym (is_eq-slice_cmp bs ks) ∙ y)) ∙ n))
+apart : (bs cs ks : List ℕ) → bytes_eq bs cs ≡ false → bytes_eq bs ks ≡ true → bytes_eq cs ks ≡ false
+apart bs cs ks n y = nat_list_eq_equiv.symm cs ks ∙ (sym (nat_list_eq_equiv.congr bs ks cs y) ∙ n)
 
 other_entries : {K X : Type 0} (eq : K → K → Bool) (test : K → Bool) (old new : List (K × X)) → KeepsOthers eq test old new → (other : K → Bool) → IsKeyTest eq other → AreApart test other → lookup other new ≡ lookup other old
 unfolding KeepsOthers
@@ -27,30 +24,31 @@ by_bytes f g bs w here other cs =
     (cases_Bool (bytes_eq bs cs))
 
 module _ {Y X : Type 0} where
-  -- the value at these bytes
-  abbrev pub in_tree : BTreeMap (Vec ℕ Y) X → List ℕ → Option X
-  in_tree m bs = tree.get_by (λ k. slice_cmp nat_cmp bs k.items) m
-
-  found_in : (es : List (Vec ℕ Y × X)) (bs : List ℕ) → lookup (bytes_eq bs) (rows_in es) ≡ lookup (tree.is_at (λ (k : Vec ℕ Y). slice_cmp nat_cmp bs k.items)) es
+  found_in : (es : List (Vec ℕ Y × X)) (bs : List ℕ) → lookup (bytes_eq bs) (rows_in es) ≡ lookup (λ (k : Vec ℕ Y). bytes_eq bs k.items) es
   found_in [] bs = refl
-  found_in (e ∷ es) bs = λ i. cond (sym (is_eq-slice_cmp bs e.0.items) i) (Some e.1) (found_in es bs i)
+  found_in (e ∷ es) bs = ap (cond (bytes_eq bs e.0.items) (Some e.1)) (found_in es bs)
 
-  -- the rows say what the tree does
-  pub rows_say : (m : BTreeMap (Vec ℕ Y) X) (bs : List ℕ) → at (rows_in m.entries) bs ≡ in_tree m bs
+module _ {Y X S : Type 0} where
+  -- the value at these bytes
+  abbrev pub in_table : HashMap (Vec ℕ Y) X S → List ℕ → Option X
+  in_table m bs = table.get_by (λ k. bytes_eq bs k.items) m
+
+  -- the rows say what the table does
+  pub rows_say : (m : HashMap (Vec ℕ Y) X S) (bs : List ℕ) → at (rows_in m.entries) bs ≡ in_table m bs
   unfolding at
   rows_say m bs = found_in m.entries bs
 
-  in_tree_updates : (bs : List ℕ) (m n : BTreeMap (Vec ℕ Y) X) (w : Option X) → tree.UpdatesBy (λ x y. slice_cmp nat_cmp x.items y.items) (λ k. slice_cmp nat_cmp bs k.items) m n w → (cs : List ℕ) → in_tree n cs ≡ update bytes_eq (in_tree m) bs w cs
-  in_tree_updates bs m n w h = by_bytes (in_tree m) (in_tree n) bs w h.1
-      (λ cs e. other_entries _ _ _ _ h.3 _ (λ x y. (eq_by_cmp_equiv nat_list_cmp_total).congr cs x.items y.items) (λ k. apart_in_order bs cs k.items e))
+  in_table_updates : (bs : List ℕ) (m n : HashMap (Vec ℕ Y) X S) (w : Option X) → table.UpdatesBy (λ x y. bytes_eq x.items y.items) (λ k. bytes_eq bs k.items) m n w → (cs : List ℕ) → in_table n cs ≡ update bytes_eq (in_table m) bs w cs
+  in_table_updates bs m n w h = by_bytes (in_table m) (in_table n) bs w h.1
+      (λ cs e. other_entries _ _ _ _ h.3 _ (λ x y. nat_list_eq_equiv.congr cs x.items y.items) (λ k. apart bs cs k.items e))
 
-  pub rows_updated : (bs : List ℕ) (m n : BTreeMap (Vec ℕ Y) X) (w : Option X) → tree.UpdatesBy (λ x y. slice_cmp nat_cmp x.items y.items) (λ k. slice_cmp nat_cmp bs k.items) m n w → Updates bs w (rows_in m.entries) (rows_in n.entries)
-  rows_updated bs m n w h cs = rows_say n cs ∙ in_tree_updates bs m n w h cs ∙ ap (λ (o : Option X). cond (bytes_eq bs cs) w o) (sym (rows_say m cs))
+  pub rows_updated : (bs : List ℕ) (m n : HashMap (Vec ℕ Y) X S) (w : Option X) → table.UpdatesBy (λ x y. bytes_eq x.items y.items) (λ k. bytes_eq bs k.items) m n w → Updates bs w (rows_in m.entries) (rows_in n.entries)
+  rows_updated bs m n w h cs = rows_say n cs ∙ in_table_updates bs m n w h cs ∙ ap (λ (o : Option X). cond (bytes_eq bs cs) w o) (sym (rows_say m cs))
 
-  pub rows_same : (m n : BTreeMap (Vec ℕ Y) X) → tree.IsUnchanged m n → Stays (rows_in m.entries) (rows_in n.entries)
+  pub rows_same : (m n : HashMap (Vec ℕ Y) X S) → table.IsUnchanged m n → Stays (rows_in m.entries) (rows_in n.entries)
   rows_same m n same cs = ap (λ (es : List (Vec ℕ Y × X)). at (rows_in es) cs) same
 
-  pub rows_none : (m : BTreeMap (Vec ℕ Y) X) → tree.IsEmpty m → rows_in m.entries ≡ []
+  pub rows_none : (m : HashMap (Vec ℕ Y) X S) → table.IsEmpty m → rows_in m.entries ≡ []
   rows_none m empty = ap (λ (es : List (Vec ℕ Y × X)). rows_in es) empty
 
 -- a value that is there is not absent

@@ -4,14 +4,14 @@ ghost use Rattle.std.specs.Option.{IsSome};
 ghost use Rattle.def_map.specs.Rows.{at, Stays, Updates};
 
 use std::alloc::Global;
-use std::collections::BTreeMap;
+use std::collections::HashMap;
 use std::marker::Model;
 use virt_types::NoMemory;
 
-/// Values by bytes. Contracts see the rows in the order of the bytes.
+/// Values by bytes. Contracts see the rows. What one lookup costs does not grow with them.
 #[derive(Drop)]
 pub struct Keyed<V> {
-    rows: BTreeMap<Vec<u8>, V>,
+    rows: HashMap<Vec<u8>, V>,
 }
 
 impl<V> Model for Keyed<V> {
@@ -29,7 +29,7 @@ impl<V> Keyed<V> {
         ensures { result ≡ [] }
     {
         Keyed {
-            rows: BTreeMap::new(alloc),
+            rows: HashMap::new(alloc),
         }
     }
 

@@ -63,12 +63,27 @@ fn open(rt: &HostRuntime, directory: &str) -> io::Result<bool> {
     }
 }
 
-/// A directory is opened, so many times.
-pub fn opens(rt: &HostRuntime, count: u64, directory: &str) -> io::Result<(u128, bool)> {
+// Whether each of so many directories opens, one after the other. They are called as their number.
+fn open_parts(rt: &HostRuntime, directory: &str, parts: u64) -> io::Result<bool> {
+    let mut all = true;
+    for part in 0..parts {
+        let one = format!(in rt.alloc(); "{directory}/{part}")?;
+        all = open(rt, one.as_str())? && all;
+    }
+    Ok(all)
+}
+
+/// The directories in one are opened in turn, so many times.
+pub fn opens(
+    rt: &HostRuntime,
+    count: u64,
+    directory: &str,
+    parts: u64,
+) -> io::Result<(u128, bool)> {
     let mut all = true;
     let start = Instant::now(rt)?;
     for _ in 0..count {
-        all = open(rt, directory)? && all;
+        all = open_parts(rt, directory, parts)? && all;
     }
     Ok((start.elapsed(rt)?.as_nanos(), all))
 }

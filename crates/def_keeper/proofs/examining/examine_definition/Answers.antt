@@ -1,4 +1,4 @@
-use Rattle.std.proofs.Common.{List, ℕ, Some, subst}
+use Rattle.std.proofs.Common.{List, ℕ, subst}
 use Rattle.store_spec.specs.FileNames.{IsDefinitionName}
 use Rattle.def_keeper.specs.Judging.{Judges}
 use Rattle.def_keeper.proofs.Examines.{adds_definition}

@@ -1,7 +1,7 @@
-use Rattle.std.proofs.Common.{◌≡◌, ◌≤◌, ◌+◌, ◌++◌, List, [], ◌∷◌, ℕ, ap, arith, refl, subst, sym, take, ◌∙◌}
+use Rattle.std.proofs.Common.{◌≡◌, ◌+◌, ◌++◌, List, [], ◌∷◌, ℕ, ap, arith, refl, subst, sym, take, ◌∙◌}
 use Rattle.std.proofs.lemmas.List.{take_more}
 use Rattle.files_disk.specs.Telling.{Told}
-use Rattle.def_keeper.specs.Finding.{Finds, HasFoundAt}
+use Rattle.def_keeper.specs.Finding.{Finds}
 use Rattle.def_map.specs.Map.{found}
 use Rattle.def_keeper.proofs.Knowing.{none_good}
 use Rattle.def_keeper.proofs.OpenedSo.{first_at}

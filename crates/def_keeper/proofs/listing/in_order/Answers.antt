@@ -1,4 +1,4 @@
-use Rattle.std.proofs.Common.{◌≡◌, ◌∙◌, List, ℕ, ap, map, subst, sym}
+use Rattle.std.proofs.Common.{◌∙◌, List, ℕ, ap, map, subst, sym}
 use Rattle.std.specs.List.Sorted.{IsPermutation}
 use Rattle.std.specs.String.{string_bytes}
 use Rattle.std.proofs.lemmas.List.Sorted.{IsPermutation-map}

@@ -1,4 +1,4 @@
-use Rattle.std.proofs.Common.{◌≡◌, List, ℕ, subst}
+use Rattle.std.proofs.Common.{List, ℕ, subst}
 use Rattle.std.specs.List.Sorted.{IsPermutation}
 use Rattle.def_keeper.proofs.Orders.{listed_so}
 use Rattle.def_keeper.proofs.listing.listed.Goals as goal

@@ -1,8 +1,8 @@
-use Rattle.std.proofs.Common.{◌≡◌, List, ℕ, subst, sym, ◌∙◌}
+use Rattle.std.proofs.Common.{List, ℕ, subst, sym, ◌∙◌}
 use Rattle.files_disk.specs.Telling.{IsListed, Told}
 use Rattle.def_keeper.specs.Finding.{HasFoundAt, IsFirstIn}
 use Rattle.def_map.specs.Map.{found}
-use Rattle.def_keeper.specs.Opened.{HasTidied, IsOpened}
+use Rattle.def_keeper.specs.Opened.{HasTidied}
 use Rattle.def_keeper.specs.Opening.{IsInOrder}
 use Rattle.def_keeper.specs.Tidying.{Tidies}
 use Rattle.def_keeper.proofs.OpenedSo.{opened_at, refused_at}

@@ -1,8 +1,7 @@
-use Rattle.std.proofs.Common.{◌≡◌, ◌⊎◌, ⊎_elim, ap, subst, sym, ◌∙◌}
-use Rattle.files_disk.specs.Telling.{Told, more}
-use Rattle.store_spec.specs.declared.operation.Operation.TheVariants as op
+use Rattle.std.proofs.Common.{⊎_elim, subst, sym}
+use Rattle.files_disk.specs.Telling.{Told}
 use Rattle.def_keeper.specs.Tidying.{HasRemovedAt, Tidies}
-use Rattle.def_keeper.proofs.Tidies.{removed_tidies, tidies_none, tidies_synced}
+use Rattle.def_keeper.proofs.Tidies.{tidies_none, tidies_synced}
 use Rattle.def_keeper.proofs.open.tidy.Goals as goal
 
 pub returns-in-Ok-sync_dir-clause-ok : goal.returns-in-Ok-sync_dir-clause-ok

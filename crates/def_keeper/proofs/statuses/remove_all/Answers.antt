@@ -1,6 +1,5 @@
-use Rattle.std.proofs.Common.{◌≡◌, ◌≤◌, ◌+◌, ◌++◌, List, [], ◌∷◌, ℕ, ap, arith, refl, subst, sym, take, ◌∙◌}
-use Rattle.std.proofs.lemmas.List.{take_all, take_more}
-use Rattle.files_disk.specs.Telling.{Told}
+use Rattle.std.proofs.Common.{◌≡◌, ◌+◌, ◌++◌, List, [], ◌∷◌, ℕ, ap, arith, subst, sym, take, ◌∙◌}
+use Rattle.std.proofs.lemmas.List.{take_more}
 use Rattle.def_keeper.specs.Tidying.{HasRemovedAt}
 use Rattle.def_keeper.proofs.Tidies.{remove_first, remove_step, removed_tidies, tidies_failed}
 use Rattle.def_keeper.proofs.statuses.remove_all.Goals as goal

@@ -1,4 +1,4 @@
-use Rattle.std.proofs.Common.{◌≡◌, ◌≤◌, take}
+use Rattle.std.proofs.Common.{◌≤◌, take}
 use Rattle.def_keeper.specs.Tidying.{HasRemovedAt}
 use Rattle.def_keeper.proofs.statuses.remove_all.Given as goal
 

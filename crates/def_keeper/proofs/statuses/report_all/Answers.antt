@@ -1,7 +1,7 @@
-use Rattle.std.proofs.Common.{◌≡◌, ◌≤◌, ◌+◌, ◌++◌, List, [], ◌∷◌, ℕ, ap, arith, refl, subst, sym, take, ◌∙◌}
+use Rattle.std.proofs.Common.{◌≡◌, ◌+◌, ◌++◌, List, [], ◌∷◌, ℕ, ap, arith, refl, subst, sym, take, ◌∙◌}
 use Rattle.std.proofs.lemmas.List.{take_more}
 use Rattle.files_disk.specs.Telling.{Told}
-use Rattle.def_keeper.specs.Tidying.{HasReportedAt, ReportsAt}
+use Rattle.def_keeper.specs.Tidying.{ReportsAt}
 use Rattle.def_keeper.proofs.Tidies.{report_first, report_step}
 use Rattle.def_keeper.proofs.statuses.report_all.Goals as goal
 

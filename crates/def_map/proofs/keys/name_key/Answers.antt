@@ -1,6 +1,5 @@
 use Rattle.std.proofs.Common.{◌≡◌, ◌<◌, ◌≤◌, ◌+◌, ◌-◌, ◌++◌, List, [], ◌∷◌, ℕ, ap, arith, length, refl, slice_set, take, ◌∙◌}
 use Rattle.std.proofs.lemmas.Slice.{take-put_mid}
-use Rattle.def_map.specs.Map.{key_of, kind_byte}
 use Rattle.def_map.proofs.keys.name_key.Goals as goal
 
 take_one : (xs : List ℕ) (v : ℕ) → 0 < length xs → take 1 (slice_set xs 0 v) ≡ v ∷ []

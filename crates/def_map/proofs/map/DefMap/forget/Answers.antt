@@ -1,4 +1,4 @@
-use Rattle.std.proofs.Common.{◌≡◌, ◌∙◌, None, ap, refl, subst, sym}
+use Rattle.std.proofs.Common.{◌∙◌, None, ap, refl, subst, sym}
 use Rattle.def_map.specs.Map.{IsHolder, MapRows, found}
 use Rattle.def_map.specs.Rows.{Updates}
 use Rattle.def_map.proofs.MapFinds.{found_entries, lead_forgotten}
