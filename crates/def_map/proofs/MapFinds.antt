@@ -9,7 +9,7 @@ use Rattle.store_spec.specs.declared.kind.BookKind.{BookKind}
 use Rattle.store_spec.specs.declared.kind.BookKind.TheVariants as kind
 use Rattle.store_spec.specs.Changes.{Definitions, changed, is_of, same_kind}
 use Rattle.store_spec.proofs.Stands.{changed_else, changed_here, eq_of, kind_by_test}
-use Rattle.def_map.specs.Map.{FindsTheSame, IsFree, IsHolder, IsMade, IsNamed, IsReady, MapRows, NamesLead, entry_in, found, key_of, kind_byte, no_rows}
+use Rattle.def_map.specs.Map.{FindsTheSame, HasNoBareRow, IsFree, IsHolder, IsMade, IsNamed, IsReady, MapRows, NamesLead, entry_in, found, key_of, kind_byte, no_rows}
 use Rattle.def_map.specs.Rows.{at, Stays, Updates}
 
 -- two keys are the same where kinds and bytes are
@@ -135,6 +135,11 @@ lead_put old new k uuid e ready names updates lead l other f is = ap (λ (n : Li
 
 no_entry : (e : Entry) → None ≡ Some e → ⊥
 no_entry e is = cc
+
+-- where an object has an entry, its row is not bare
+pub not_bare : (m : MapRows) (k : BookKind) (uuid : List ℕ) (e : Entry) → Some e ≡ found m k uuid → HasNoBareRow k uuid m
+unfolding found
+not_bare m k uuid e is bare = no_entry e (sym (ap entry_in bare) ∙ sym is)
 
 -- an entry is dropped
 pub lead_dropped : (old new : MapRows) (k : BookKind) (uuid : List ℕ) → new.names ≡ old.names → Updates (key_of k uuid) None old.entries new.entries → NamesLead old → NamesLead new

@@ -61,7 +61,11 @@ pub record IsReady (k : BookKind) (uuid name : List ℕ) (m : MapRows) : Type 0 
 abbrev pub IsForgotten : BookKind → List ℕ → MapRows → Type 0
 IsForgotten k name m = (uuid : List ℕ) → at m.names (key_of k name) ≡ Some uuid → (e : Entry) × (found m k uuid ≡ Some e) × (e.name ≡ name)
 
--- and so the name of this entry, if it is one
+-- an object has a row only where it has an entry
+abbrev pub HasNoBareRow : BookKind → List ℕ → MapRows → Type 0
+HasNoBareRow k uuid m = at m.entries (key_of k uuid) ≡ Some None → ⊥
+
+-- the same of the name of this entry, if it is one
 abbrev pub HasForgotten : BookKind → Option Entry → MapRows → Type 0
 HasForgotten k None m = Unit {0}
 HasForgotten k (Some e) m = IsForgotten k e.name m

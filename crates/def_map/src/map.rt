@@ -4,7 +4,7 @@ ghost use Rattle.std.specs.Option.{IsSome};
 ghost use Rattle.store_spec.specs.declared.change.Change.TheVariants as change;
 ghost use Rattle.store_spec.specs.Changes.{changed};
 ghost use Rattle.store_spec.specs.declared.kind.BookKind.{BookKind as TheKind};
-ghost use Rattle.def_map.specs.Map.{FindsTheSame, HasForgotten, IsForgotten, IsFree, IsHolder, IsMade, IsNamed, IsReady, entry_in, found, key_of, kind_byte, no_rows};
+ghost use Rattle.def_map.specs.Map.{FindsTheSame, HasForgotten, HasNoBareRow, IsForgotten, IsFree, IsHolder, IsMade, IsNamed, IsReady, entry_in, found, key_of, kind_byte, no_rows};
 ghost use Rattle.def_map.specs.Rows.{at};
 
 use crate::keyed::Keyed;
@@ -140,6 +140,7 @@ impl DefMap {
     fn remove(&mut self, kind: BookKind, uuid: Uuid) -> Option<Entry>
         ensures dropped { (k : TheKind) (u : List ℕ) → found self.new k u ≡ changed (change.Drop kind uuid) (found self.old) k u }
         ensures old { result ≡ found self.old kind uuid }
+        ensures gone { at self.new.entries (key_of kind uuid) ≡ None }
     {
         let key = uuid_key(kind, uuid);
         flat(self.entries.remove(key.as_slice()))
@@ -149,6 +150,7 @@ impl DefMap {
     fn forget(&mut self, kind: BookKind, name: &Name)
         ensures same { FindsTheSame self.old self.new }
         ensures gone { IsForgotten kind name.now self.new }
+        ensures entries { self.new.entries ≡ self.old.entries }
     {
         match self.uuid_of(kind, name) {
             Some(_) => return,
@@ -182,7 +184,8 @@ impl DefMap {
 
     // Takes away a row that has no entry.
     fn drop_row(&mut self, kind: BookKind, uuid: Uuid)
-        ensures { FindsTheSame self.old self.new }
+        ensures same { FindsTheSame self.old self.new }
+        ensures row { HasNoBareRow kind uuid self.new }
     {
         match self.get(kind, uuid) {
             Some(_) => return,
@@ -194,6 +197,7 @@ impl DefMap {
     /// Gives the room back that was made for an entry of this name, where it was not put.
     pub fn give_up(&mut self, kind: BookKind, uuid: Uuid, name: &Name)
         ensures same { FindsTheSame self.old self.new }
+        ensures row { HasNoBareRow kind uuid self.new }
         ensures forgotten { IsForgotten kind name.now self.new }
     {
         self.drop_row(kind, uuid);
