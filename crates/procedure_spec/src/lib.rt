@@ -1,6 +1,7 @@
-//! Payloads: what each procedure's call and reply spell, and the payload of an error.
+//! Payloads: what each procedure's call and reply spell, the payload of an error, and addresses as texts.
 #![tactic(auto)]
 
+mod addresses;
 mod arguments;
 mod domain_requested;
 mod fault;
@@ -13,6 +14,7 @@ mod shape;
 mod table;
 mod words;
 
+pub use addresses::{address_of, address_text};
 pub use arguments::{Arguments, Target};
 pub use fault::ArgFault;
 pub use laws::{payload_fits_packet, procedures_have_their_lines};

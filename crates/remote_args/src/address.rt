@@ -3,15 +3,14 @@ ghost use Rattle.std.specs.Prelude.{◌≡◌, ◌++◌, length, IfOk, OnOk};
 ghost use Rattle.virt_types.specs.Mac.{mac_text as printed_mac};
 ghost use Rattle.wire_spec.specs.Xdr.{opaque};
 ghost use Rattle.text_laws.specs.Given.{AreBytes, IsMac};
-ghost use Rattle.procedure_spec.specs.LeaseText.{address_text, address_written, mac_written};
+ghost use Rattle.procedure_spec.specs.LeaseText.{address_text as printed_address, address_written, mac_written};
 ghost use Rattle.procedure_spec.specs.ResultItemsReading.{first_written};
 ghost use Rattle.remote_args.specs.Steps.{Walks};
 
 use crate::item::text;
 use definition_words::{mac_of, mac_text};
-use procedure_spec::ArgFault;
+use procedure_spec::{ArgFault, address_of, address_text};
 use std::alloc::Global;
-use std::net::Ipv4Addr;
 use virt_types::{Mac, NoMemory, OrNoMemory};
 use xdr_codec::{Reader, Writer};
 
@@ -37,9 +36,9 @@ pub(crate) fn put_mac(alloc: Global, writer: &mut Writer, mac: Mac) -> Result<()
 }
 
 pub(crate) fn put_address(alloc: Global, writer: &mut Writer, address: u32) -> Result<(), NoMemory>
-    ensures { OnOk result (writer.new ≡ writer.old ++ opaque (address_text address)) }
+    ensures { OnOk result (writer.new ≡ writer.old ++ opaque (printed_address address)) }
 {
-    let text = Ipv4Addr::from_bits(address).to_string(alloc)?;
+    let text = address_text(alloc, address)?;
     writer.put_string(text.as_bytes())
 }
 
@@ -72,22 +71,12 @@ pub(crate) fn mac(alloc: Global, reader: &mut Reader<'_>) -> Result<Mac, OrNoMem
     }
 }
 
-#[tactic(auto, using(procedure_spec::proofs::LeaseTexts::address_parsed))]
-fn written_address(text: &str) -> Option<u32>
-    ensures { result ≡ address_written text.now }
-{
-    match text.parse::<Ipv4Addr>() {
-        Ok(address) => Some(address.to_bits()),
-        Err(_) => None,
-    }
-}
-
 pub(crate) fn address(alloc: Global, reader: &mut Reader<'_>) -> Result<u32, OrNoMemory<ArgFault>>
     ensures { Walks (first_written address_written) reader.old result reader.new }
 {
     let at = reader.place();
     let text = text(alloc, reader)?;
-    match written_address(text.as_str()) {
+    match address_of(text.as_str()) {
         Some(address) => Ok(address),
         None => Err(OrNoMemory::Fault(ArgFault::Foreign { at })),
     }

@@ -1,5 +1,5 @@
 use Rattle.procedure_spec.proofs.LeaseTexts.{address_absent}
-use Rattle.remote_args.proofs.address.written_address.Goals as goal
+use Rattle.procedure_spec.proofs.addresses.address_of.Goals as goal
 
 pub returns-in-Err : goal.returns-in-Err
 returns-in-Err c = address_absent c.args.text.now c.in-Err.ensures.value
