@@ -1,36 +1,16 @@
 // Addresses as values of attributes: of the network (IPv4) and of interfaces.
-ghost use Rattle.std.specs.Prelude.{◌≡◌, IfOk, Some, None, Ok, option_map};
-ghost use Rattle.std.specs.String.{string_bytes};
-ghost use Rattle.procedure_spec.specs.LeaseText as written;
+ghost use Rattle.std.specs.Prelude.{◌≡◌, option_map};
 ghost use Rattle.virt_types.specs.Memory.{UnlessNoMemory};
 ghost use Rattle.text_rows.specs.Rows.{at, needed};
 ghost use Rattle.network_xml.specs.NetworkText as spec;
 
 use crate::subnet::ones_of;
 use definition_words::{mac_of, read_number};
+use procedure_spec::address_of;
 use std::alloc::Global;
-use std::net::Ipv4Addr;
 use text_rows::fault_at;
 use text_spec::{DefFault, DefKind};
-use virt_types::{Mac, NoMemory, OrNoMemory, Text};
-
-/// The address that a text is: four decimal numbers with dots between them.
-#[tactic(auto, using(procedure_spec::proofs::LeaseTexts::address_parsed))]
-pub(crate) fn address_of(text: &str) -> Option<u32>
-    ensures { result ≡ written.address_written text.now }
-{
-    match text.parse::<Ipv4Addr>() {
-        Ok(address) => Some(address.to_bits()),
-        Err(_) => None,
-    }
-}
-
-/// The text of an address.
-pub(crate) fn address_text(alloc: Global, address: u32) -> Result<String, NoMemory>
-    ensures { IfOk result (λ text. string_bytes text ≡ written.address_text address) }
-{
-    Ok(Ipv4Addr::from_bits(address).to_string(alloc)?)
-}
+use virt_types::{Mac, OrNoMemory, Text};
 
 /// An address that has to be there.
 ///

@@ -4,10 +4,10 @@ ghost use Rattle.text_spec.specs.Tree.{seen};
 ghost use Rattle.tree_words.specs.Spelled.{worth};
 ghost use Rattle.network_xml.specs.NetworkPrinted as spec;
 
-use crate::addresses::address_text;
 use crate::subnet::mask_of;
 use definition_print::tree_fits;
 use definition_words::mac_text;
+use procedure_spec::address_text;
 use std::alloc::Global;
 use text_rows::add_uuid;
 use text_spec::{PairList, Tree};
