@@ -1,5 +1,5 @@
 -- What is found when a store is opened, by the map of its definitions, and their files in the order of their names.
-use Rattle.std.specs.Prelude.{◌≡◌, ℕ, Bool, List, [], find, filter, flat_map, is_none, slice_get, All, Any, Contains, bytes_eq, true, Option, None, Some, option_map}
+use Rattle.std.specs.Prelude.{◌≡◌, ◌<◌, ℕ, length, slice_index_or, Bool, List, [], find, filter, flat_map, is_none, slice_get, All, Any, Contains, bytes_eq, true, Option, None, Some, option_map}
 use Rattle.std.specs.Cmp.Lexicographic.{slice_cmp}
 use Rattle.std.specs.List.Sorted.{IsStrictlySortedBy}
 use Rattle.std.specs.Option.{option_or}
@@ -96,3 +96,7 @@ pub record IsKeptOf (m : Definitions) (d : FoundDomain) : Type 0 where
   pub name : entry.name ≡ name_of d
   pub identifier : d.definition.uuid ≡ Some d.uuid
   pub flag : d.autostart ≡ entry.autostart
+
+-- no two of these domains have one key
+abbrev pub AreDistinct : (FoundDomain → List ℕ) → List FoundDomain → Type 0
+AreDistinct key ds = (i j : ℕ) (d : FoundDomain) → i < length ds → j < length ds → key (slice_index_or ds i d) ≡ key (slice_index_or ds j d) → i ≡ j

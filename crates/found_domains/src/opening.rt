@@ -1,11 +1,11 @@
 // What is found when a store is opened.
-ghost use Rattle.std.specs.Prelude.{◌≡◌, ◌≤◌, ◌++◌, [], All, IfErr, IfOk, OnOk, None, Ok, Some};
+ghost use Rattle.std.specs.Prelude.{◌≡◌, ◌≤◌, [], All, IfErr, IfOk, OnOk, None, Ok, Some, length};
 ghost use Rattle.virt_types.specs.Limits.{most_domains};
 ghost use Rattle.store_spec.specs.FileNames as name;
 ghost use Rattle.def_keeper.specs.Calls.{CanBeMade};
 ghost use Rattle.def_map.specs.Map.{found};
 ghost use Rattle.found_domains.specs.declared.found.FoundFault.TheVariants as fault;
-ghost use Rattle.found_domains.specs.Found.{IsByName, IsFault, IsKeptOf, again_in, domains_in, fault_in, file_of, first_bad};
+ghost use Rattle.found_domains.specs.Found.{AreDistinct, IsByName, IsFault, IsKeptOf, again_in, domains_in, fault_in, file_of, first_bad, name_of};
 
 use crate::files::take;
 use crate::found::{FoundDomain, FoundDomains, FoundFault};
@@ -87,6 +87,11 @@ pub fn read_found(
     ensures bad { IfErr result (IsFault (fault_in (found map.now) rows.now)) }
     ensures domains { IfOk result (λ opened. IsByName (domains_in (found map.now) rows.now) opened.domains) }
     ensures again { IfOk result (λ opened. opened.again ≡ again_in (found map.now) rows.now) }
+    ensures kept { IfOk result (λ opened. All (IsKeptOf (found map.now)) opened.domains) }
+    ensures few { IfOk result (λ opened. length opened.domains ≤ most_domains) }
+    ensures names { IfOk result (λ opened. AreDistinct name_of opened.domains) }
+    ensures uuids { IfOk result (λ opened. AreDistinct (λ d. d.uuid) opened.domains) }
+    ensures made { IfOk result (λ opened. All CanBeMade opened.again) }
 {
     let mut domains = ListOf::new(alloc);
     let mut again = ListOf::new(alloc);

@@ -13,7 +13,8 @@ fn is_same_name(one: &FoundDomain, other: &FoundDomain) -> bool
 
 /// Of these domains one of each name, by rising name.
 pub(crate) fn by_name(domains: ListOf<FoundDomain>) -> Result<ListOf<FoundDomain>, NoMemory>
-    ensures { IfOk result (λ risen. IsByName domains risen) }
+    ensures domains { IfOk result (λ risen. IsByName domains risen) }
+    ensures few { IfOk result (λ risen. length risen ≤ length domains) }
 {
     let mut all = domains.into_vec();
     all.sort_by(|one, other| {
