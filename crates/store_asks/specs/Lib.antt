@@ -1,0 +1,5 @@
+pub mod Asks
+pub mod Keeping
+pub mod Answers
+pub mod Told
+pub mod Restoring
