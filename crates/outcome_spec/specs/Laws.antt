@@ -5,12 +5,15 @@ use Rattle.virt_types.specs.Front.{is_longer}
 use Rattle.virt_types.specs.declared.call.Call.{Call}
 use Rattle.virt_types.specs.declared.call.Query.{Query}
 use Rattle.virt_types.specs.declared.caller.Front.{Front}
+use Rattle.virt_types.specs.declared.request.Request.{Request}
 use Rattle.virt_types.specs.declared.value.Reply.{Reply}
+use Rattle.outcome_spec.specs.declared.outcome.Outcome.{Outcome}
 use Rattle.outcome_spec.specs.Done.{IsDone}
 use Rattle.outcome_spec.specs.Histories.{front_of}
 use Rattle.outcome_spec.specs.Marks.{HasLeft}
 use Rattle.outcome_spec.specs.Read.{IsValue}
-use Rattle.outcome_spec.specs.Rows.{DomainPass}
+use Rattle.outcome_spec.specs.Outcomes.{HasOutcome}
+use Rattle.outcome_spec.specs.Rows.{DomainPass, HasGone, KnownRow}
 
 -- a call whose pass left no mark has no reply
 abbrev pub RepliesNeedMarks : Type 0
@@ -25,3 +28,7 @@ MarksAreOfOneRequest = (first then last : DomainPass) (m n : Mark ℕ) (one : Ha
 abbrev pub ReadsAreNotFromBefore : Type 0
 ReadsAreNotFromBefore = (before after : DomainPass) (q : Query) (front : Front) (said : Reply) → IsValue before after q front said
     → is_longer (front_of before.seen) front ≡ false
+
+-- what an answer rests on stays true of the row after further requests, and of what rows are joined to
+abbrev pub AnswersStayTrue : Type 0
+AnswersStayTrue = (before after later : KnownRow) (asked : Request) (o : Outcome) → HasOutcome before after asked o → HasGone after later → HasOutcome before later asked o

@@ -1,5 +1,5 @@
 // Laws of outcomes: each function's contract is one, and its body does nothing.
-ghost use Rattle.outcome_spec.specs.Laws.{MarksAreOfOneRequest, ReadsAreNotFromBefore, RepliesNeedMarks};
+ghost use Rattle.outcome_spec.specs.Laws.{AnswersStayTrue, MarksAreOfOneRequest, ReadsAreNotFromBefore, RepliesNeedMarks};
 
 /// A reply without a finished call is none.
 pub fn a_reply_needs_a_mark()
@@ -14,4 +14,9 @@ pub fn marks_are_of_one_request()
 /// A read is of no history from before its request.
 pub fn reads_are_not_from_before()
     ensures { ReadsAreNotFromBefore }
+{}
+
+/// What an answer rests on stays true of a row that goes on.
+pub fn answers_stay_true()
+    ensures { AnswersStayTrue }
 {}
