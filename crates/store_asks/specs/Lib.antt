@@ -3,3 +3,4 @@ pub mod Keeping
 pub mod Answers
 pub mod Told
 pub mod Restoring
+pub mod Turning

@@ -57,6 +57,11 @@ IsToldOf (Ok i) told = UnlessNoMemory told (saved_in i)
 IsToldOf (Err (or.Fault f)) told = UnlessNoMemory told (Err (unread f))
 IsToldOf (Err or.NoMemory) told = told ≡ Err or.NoMemory
 
+-- an answer that is no want of memory
+abbrev pub as_read : Result Image ImageFault → Result Image (OrNoMemory ImageFault)
+as_read (Ok i) = Ok i
+as_read (Err f) = Err (or.Fault f)
+
 -- an image was read by this number, and a restore is told this of it
 abbrev pub Reads : {F : Type 0} → (F → Told) → (F → ℕ) → ℕ → List ℕ → Keeping F → Keeping F → Result SavedGuest (OrNoMemory Refusal) → Type 0
 Reads told faults number name old new result =

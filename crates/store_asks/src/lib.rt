@@ -7,6 +7,8 @@ mod answers;
 mod images;
 mod put;
 mod restoring;
+mod turning;
 
 pub use answering::answer_in;
 pub use restoring::{SavedGuest, read_saved_in};
+pub use turning::{SavedRead, ask_store, read_saved};
