@@ -7,6 +7,8 @@ mod answers;
 mod images;
 mod put;
 mod restoring;
+#[cfg(test)]
+mod tests;
 mod turning;
 
 pub use answering::answer_in;
