@@ -1,16 +1,23 @@
 -- Why the laws of outcomes hold.
-use Rattle.std.proofs.Common.{◌≡◌, ℕ, ◌<◌, ◌≤◌, ◌||◌, ◌&&◌, ◌==◌, Bool, true, false, length, List, refl, arith, ⊎_elim, subst, sym}
+use Rattle.std.proofs.Common.{◌∙◌, ◌≡◌, ℕ, ◌<◌, ◌≤◌, ◌||◌, ◌&&◌, ◌==◌, Bool, true, false, length, List, refl, arith, ⊎_elim, subst, sym, ap}
 use Rattle.std.specs.Prelude.{nat_lt}
 use Rattle.std.proofs.lemmas.Bool.Decides.{nat_tests}
 use Rattle.std.proofs.lemmas.Option.{slice_get_within}
 use Rattle.history_spec.specs.declared.history.History.{History}
 use Rattle.history_spec.specs.Begins.{Begins, LaterChapter, SameChapter}
-use Rattle.history_spec.proofs.Beginnings.{prefix_length}
+use Rattle.history_spec.proofs.Beginnings.{prefix_length, prefix_whole}
+use Rattle.domain_spec.specs.Chapter.{rising_number}
+use Rattle.domain_spec.specs.Fold.{at_base, standing}
+use Rattle.domain_spec.specs.Read.{read}
+use Rattle.domain_spec.specs.declared.mark.Mark.{Mark}
+use Rattle.domain_spec.specs.declared.standing.Base.{Base}
 use Rattle.virt_types.specs.Front.{is_longer}
 use Rattle.virt_types.specs.declared.caller.Front.{Front}
 use Rattle.outcome_spec.specs.Histories.{front_of}
-use Rattle.outcome_spec.specs.Laws.{MarksAreOfOneRequest, ReadsAreNotFromBefore, RepliesNeedMarks}
+use Rattle.outcome_spec.specs.Laws.{MarksAreOfOneRequest, ReadsAreNotFromBefore, ReadsAreOfNow, RepliesNeedMarks}
 use Rattle.outcome_spec.specs.Marks.{HasLeft}
+use Rattle.outcome_spec.specs.Printed.{told}
+use Rattle.outcome_spec.specs.Read.{state_of}
 use Rattle.outcome_spec.specs.Rows.{Known}
 
 -- a mark of a request is among its pass's own
@@ -47,3 +54,16 @@ not_before rising a b begins = ⊎_elim
 pub reads_not_before : ReadsAreNotFromBefore
 reads_not_before before after q front said value =
     subst (λ (f : Front). is_longer (front_of before.seen) f ≡ false) (sym value.front_is) (not_before _ before.seen value.history value.between.from)
+
+same_state : (h g : History Base (Mark ℕ)) → h.base ≡ g.base → h.marks ≡ g.marks → state_of h ≡ state_of g
+same_state h g base marks = ap (λ (x : Base × List (Mark ℕ)). (standing (at_base x.0) x.1).state) (λ i. (base i, marks i))
+
+whole_state : (h g : History Base (Mark ℕ)) → Begins rising_number h g → front_of h ≡ front_of g → state_of h ≡ state_of g
+whole_state h g begins same = ⊎_elim
+    (λ (x : SameChapter h g). same_state h g x.base (let e = ap (λ (f : Front). f.marks) same in prefix_whole h.marks g.marks x.marks (omega (arith, e))))
+    (λ (x : LaterChapter rising_number h g). let e = ap (λ (f : Front). f.chapter) same in let l = x.chapter in absurd (omega (arith, e, l)))
+    begins
+
+pub reads_of_now : ReadsAreOfNow
+reads_of_now before after q front said value at =
+    value.value ∙ ap (λ s. told (read s q)) (whole_state value.history after.seen value.between.to (sym value.front_is ∙ at))

@@ -1,5 +1,6 @@
 -- Laws of outcomes, each of which a wrong body would break.
 use Rattle.std.specs.Prelude.{◌≡◌, ℕ, ◌<◌, false, length}
+use Rattle.domain_spec.specs.Read.{read}
 use Rattle.domain_spec.specs.declared.mark.Mark.{Mark}
 use Rattle.virt_types.specs.Front.{is_longer}
 use Rattle.virt_types.specs.declared.call.Call.{Call}
@@ -11,7 +12,8 @@ use Rattle.outcome_spec.specs.declared.outcome.Outcome.{Outcome}
 use Rattle.outcome_spec.specs.Done.{IsDone}
 use Rattle.outcome_spec.specs.Histories.{front_of}
 use Rattle.outcome_spec.specs.Marks.{HasLeft}
-use Rattle.outcome_spec.specs.Read.{IsValue}
+use Rattle.outcome_spec.specs.Printed.{told}
+use Rattle.outcome_spec.specs.Read.{IsValue, state_of}
 use Rattle.outcome_spec.specs.Outcomes.{HasOutcome}
 use Rattle.outcome_spec.specs.Rows.{DomainPass, HasGone, KnownRow}
 
@@ -32,3 +34,8 @@ ReadsAreNotFromBefore = (before after : DomainPass) (q : Query) (front : Front) 
 -- what an answer rests on stays true of the row after further requests, and of what rows are joined to
 abbrev pub AnswersStayTrue : Type 0
 AnswersStayTrue = (before after later : KnownRow) (asked : Request) (o : Outcome) → HasOutcome before after asked o → HasGone after later → HasOutcome before later asked o
+
+-- where a read came as far as the row has seen, it is the value in the state that the row has seen
+abbrev pub ReadsAreOfNow : Type 0
+ReadsAreOfNow = (before after : DomainPass) (q : Query) (front : Front) (said : Reply) → IsValue before after q front said → front ≡ front_of after.seen
+    → said ≡ told (read (state_of after.seen) q)

@@ -13,4 +13,5 @@ pub mod Spent
 pub mod Lists
 pub mod Titles
 pub mod Outcomes
+pub mod Now
 pub mod Laws

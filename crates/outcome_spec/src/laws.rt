@@ -1,5 +1,5 @@
 // Laws of outcomes: each function's contract is one, and its body does nothing.
-ghost use Rattle.outcome_spec.specs.Laws.{AnswersStayTrue, MarksAreOfOneRequest, ReadsAreNotFromBefore, RepliesNeedMarks};
+ghost use Rattle.outcome_spec.specs.Laws.{AnswersStayTrue, MarksAreOfOneRequest, ReadsAreNotFromBefore, ReadsAreOfNow, RepliesNeedMarks};
 
 /// A reply without a finished call is none.
 pub fn a_reply_needs_a_mark()
@@ -19,4 +19,9 @@ pub fn reads_are_not_from_before()
 /// What an answer rests on stays true of a row that goes on.
 pub fn answers_stay_true()
     ensures { AnswersStayTrue }
+{}
+
+/// A read that came as far as the row has seen is of the state there.
+pub fn reads_are_of_now()
+    ensures { ReadsAreOfNow }
 {}
