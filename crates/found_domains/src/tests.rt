@@ -4,7 +4,7 @@ use def_keeper::FoundDefinition;
 use def_map::DefMap;
 use std::alloc::Global;
 use store_spec::{BookKind, Change, Entry, Version};
-use virt_types::{Name, NoMemory, OrNoMemory, Text, Uuid};
+use virt_types::{ListOf, Name, NoMemory, OrNoMemory, Text, TryCopy, Uuid};
 
 fn uuid(last: u8) -> Uuid {
     Uuid::from_bytes([0, 0, 0, 0, 0, 0, 0x40, 0, 0x80, 0, 0, 0, 0, 0, 0, last])
@@ -82,52 +82,102 @@ fn domains_come_by_name_and_old_files_get_their_titles(rt: HostRuntime) -> Resul
     Ok(())
 }
 
+// Whether a file is bad or one too many, and its name.
+#[derive(Drop)]
+struct Stop {
+    is_bad: bool,
+    file: Text,
+}
+
+fn stop_of(fault: &FoundFault) -> Result<Stop, NoMemory> {
+    match fault {
+        FoundFault::BadText { file } => Ok(Stop {
+            is_bad: true,
+            file: file.copy()?,
+        }),
+        FoundFault::TooMany { file } => Ok(Stop {
+            is_bad: false,
+            file: file.copy()?,
+        }),
+    }
+}
+
+// Where an opening stops; an empty name where it does not.
+fn open_so(alloc: Global, map: &DefMap, rows: &[FoundDefinition]) -> Result<Stop, NoMemory> {
+    match read_found(alloc, map, rows) {
+        Ok(found) => {
+            drop(found);
+            Ok(Stop {
+                is_bad: false,
+                file: Text::copy_of(alloc, "")?,
+            })
+        }
+        Err(OrNoMemory::Fault(fault)) => stop_of(&fault),
+        Err(OrNoMemory::NoMemory) => Err(NoMemory),
+    }
+}
+
 #[test]
 fn the_first_bad_text_is_told(rt: HostRuntime) -> Result<(), NoMemory> {
     let alloc = rt.alloc();
     let mut map = DefMap::new(alloc);
     let one = put(alloc, &mut map, 1, "b", ONE, Version::Two)?;
     let two = put(alloc, &mut map, 2, "c", TWO, Version::One)?;
-    match read_found(alloc, &map, &[two, one]) {
-        Err(OrNoMemory::Fault(FoundFault::BadText { file })) => {
-            assert_eq!(rt;
-                file.as_str(),
-                "domain-00000000-0000-4000-8000-000000000002.def"
-            );
-        }
-        _ => assert!(rt; false),
-    }
-    match read_found(alloc, &map, &[one]) {
-        Err(OrNoMemory::Fault(FoundFault::BadText { file })) => {
-            assert_eq!(rt;
-                file.as_str(),
-                "domain-00000000-0000-4000-8000-000000000001.def"
-            );
-        }
-        _ => assert!(rt; false),
-    }
+    let mut rows = Vec::new(alloc);
+    rows.push(two)?;
+    rows.push(one)?;
+    let both = open_so(alloc, &map, rows.as_slice())?;
+    assert!(rt; both.is_bad, "another name");
+    assert_eq!(rt;
+        both.file.as_str(),
+        "domain-00000000-0000-4000-8000-000000000002.def"
+    );
+    let last = open_so(alloc, &map, &rows.as_slice()[1..])?;
+    assert!(rt; last.is_bad, "another title");
+    assert_eq!(rt;
+        last.file.as_str(),
+        "domain-00000000-0000-4000-8000-000000000001.def"
+    );
     Ok(())
+}
+
+// So often this row.
+fn rows_of(
+    alloc: Global,
+    row: &FoundDefinition,
+    count: u32,
+) -> Result<ListOf<FoundDefinition>, NoMemory> {
+    let mut rows = ListOf::new(alloc);
+    for _ in 0..count {
+        match rows.push(FoundDefinition {
+            kind: row.kind,
+            uuid: row.uuid,
+            version: row.version,
+        }) {
+            Ok(()) => {}
+            Err(NoMemory) => return Err(NoMemory),
+        }
+    }
+    Ok(rows)
+}
+
+// Where an opening stops that finds a domain so often.
+fn open_many(alloc: Global, count: u32) -> Result<Stop, NoMemory> {
+    let mut map = DefMap::new(alloc);
+    let one = put(alloc, &mut map, 2, "a", TWO, Version::Two)?;
+    let rows = rows_of(alloc, &one, count)?;
+    open_so(alloc, &map, rows.as_slice())
 }
 
 #[test]
 fn the_257th_domain_is_one_too_many(rt: HostRuntime) -> Result<(), NoMemory> {
-    let alloc = rt.alloc();
-    let mut map = DefMap::new(alloc);
-    let one = put(alloc, &mut map, 2, "a", TWO, Version::Two)?;
-    let mut rows = vec![in alloc; one; 256]?;
-    match read_found(alloc, &map, rows.as_slice()) {
-        Ok(found) => assert_eq!(rt; found.domains.len(), 1),
-        Err(_) => assert!(rt; false),
-    }
-    rows.push(one)?;
-    match read_found(alloc, &map, rows.as_slice()) {
-        Err(OrNoMemory::Fault(FoundFault::TooMany { file })) => {
-            assert_eq!(rt;
-                file.as_str(),
-                "domain-00000000-0000-4000-8000-000000000002.def"
-            );
-        }
-        _ => assert!(rt; false),
-    }
+    let most = open_many(rt.alloc(), 256)?;
+    assert!(rt; most.file.is_empty());
+    let more = open_many(rt.alloc(), 257)?;
+    assert!(rt; !more.is_bad);
+    assert_eq!(rt;
+        more.file.as_str(),
+        "domain-00000000-0000-4000-8000-000000000002.def"
+    );
     Ok(())
 }
