@@ -1,0 +1,5 @@
+pub mod Taken
+pub mod Named
+pub mod Kept
+pub mod Apart
+pub mod Counted

@@ -1,0 +1,3 @@
+pub mod LawProofs
+pub mod Staying
+pub mod Going

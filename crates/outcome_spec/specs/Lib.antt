@@ -1,0 +1,17 @@
+pub mod Rows
+pub mod Marks
+pub mod Histories
+pub mod Asked
+pub mod Slots
+pub mod Printed
+pub mod Done
+pub mod Read
+pub mod Shown
+pub mod Restored
+pub mod Listed
+pub mod Spent
+pub mod Lists
+pub mod Titles
+pub mod Outcomes
+pub mod Now
+pub mod Laws

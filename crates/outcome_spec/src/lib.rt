@@ -1,0 +1,8 @@
+//! What the driver's answer to a request rests on: the definitions of outcomes.
+#![tactic(auto)]
+
+mod laws;
+mod outcome;
+
+pub use laws::{a_reply_needs_a_mark, marks_are_of_one_request, reads_are_not_from_before};
+pub use outcome::Outcome;

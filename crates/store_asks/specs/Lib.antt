@@ -1,0 +1,6 @@
+pub mod Asks
+pub mod Keeping
+pub mod Answers
+pub mod Told
+pub mod Restoring
+pub mod Turning

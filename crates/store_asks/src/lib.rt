@@ -1,0 +1,16 @@
+//! What an ask of a domain asks of the store: the change, or the image, that is made of it, and what it is answered;
+//! and the image that is read for a restore.
+#![tactic(auto)]
+
+mod answering;
+mod answers;
+mod images;
+mod put;
+mod restoring;
+#[cfg(test)]
+mod tests;
+mod turning;
+
+pub use answering::answer_in;
+pub use restoring::{SavedGuest, read_saved_in};
+pub use turning::{SavedRead, ask_store, read_saved};
