@@ -1,6 +1,6 @@
 -- The boot that is made: its guest is there, with the monitor, the ears and the killer of its link.
 use Rattle.std.specs.Prelude.{◌≡◌, ◌⊎◌, ℕ, List, [], ◌∷◌, ◌++◌, Bool, true, false, Option, None, Some}
-use Rattle.domain_spec.specs.Types.{Answer, Ask, DomainDef, Phase}
+use Rattle.domain_spec.specs.Types.{Ask, DomainDef, State}
 use Rattle.domain_spec.specs.Types.ask
 use Rattle.domain_spec.specs.Types.phase
 use Rattle.domain_spec.specs.declared.core_step.CoreStep.{CoreStep}
@@ -12,9 +12,12 @@ use Rattle.domain_spec.specs.declared.standing.Standing.{Standing}
 use Rattle.domain_spec.specs.declared.step.Outcome.{Outcome}
 use Rattle.domain_spec.specs.declared.step.Outcome.TheVariants as outcome
 use Rattle.domain_spec.specs.Asks.{is_ok_answer}
+use Rattle.domain_spec.specs.Begin.{due_phase}
 use Rattle.domain_spec.specs.Cell.{Cell, asks_so_far, standing_of}
+use Rattle.domain_spec.specs.Fold.{after}
+use Rattle.domain_spec.specs.Legal.{IsLawful}
 use Rattle.domain_spec.specs.Reading.{live_boot}
-use Rattle.domain_spec.specs.Turns.{IsTurn, Leads}
+use Rattle.domain_spec.specs.Turns.{IsOpened, IsTurn, Leads}
 
 -- the phase that is due makes the guest
 abbrev pub is_make : Outcome → Bool
@@ -45,14 +48,41 @@ abbrev pub IsMakeAnswered : Cell → CoreStep ℕ → ℕ → Type 0
 IsMakeAnswered c (step.Back n x) boot = (is_ok_answer x ≡ true) × (def : DomainDef) × AsksThis c (standing_of c).job (ask.Make def boot)
 IsMakeAnswered c other boot = ⊥
 
+-- no guest is live, or this boot's one is, and the domain has still to make it
+abbrev pub HasToMake : Option ℕ → State → Type 0
+HasToMake boot s = (live_boot s ≡ None) ⊎ ((live_boot s ≡ boot) × (due_phase s ≡ phase.Make))
+
+-- where the history has still to make a guest, so has the domain: that one, and no other is live
+abbrev pub AgreesIn : State → Option OpenOperation → Type 0
+AgreesIn s None = Unit {0}
+AgreesIn s (Some o) = is_make o.outcome ≡ true → HasToMake o.boot s
+
+-- so it is with what is in force
+abbrev pub Agrees : Standing → Type 0
+Agrees s = AgreesIn s.state s.operation
+
+-- so it is in a cell as the store was opened
+abbrev pub OpenedAgrees : Type 0
+OpenedAgrees = (c : Cell) (stored : Option DomainDef) (autostart : Bool) → IsOpened c stored autostart → Agrees (standing_of c)
+
+-- and after each mark that is lawful
+abbrev pub MarksAgree : Type 0
+MarksAgree = (s : Standing) (m : Mark ℕ) → IsLawful s m → Agrees s → Agrees (after s m)
+
+-- and after each turn
+abbrev pub PhasesAgree : Type 0
+PhasesAgree = (c d : Cell) (t : CoreStep ℕ) (left : List (Mark ℕ)) → IsTurn c t left → Leads c t left d → Agrees (standing_of c) → Agrees (standing_of d)
+
 -- a boot is made by the answer to its Make alone, in the turn of that answer
 abbrev pub MadeByItsMake : Type 0
 MadeByItsMake =
-    (c d : Cell) (t : CoreStep ℕ) (left : List (Mark ℕ)) (boot : ℕ) → IsTurn c t left → Leads c t left d → made_boot (standing_of d) ≡ Some boot
+    (c d : Cell) (t : CoreStep ℕ) (left : List (Mark ℕ)) (boot : ℕ)
+    → IsTurn c t left → Leads c t left d → Agrees (standing_of c) → made_boot (standing_of d) ≡ Some boot
     → (made_boot (standing_of c) ≡ Some boot) ⊎ IsMakeAnswered c t boot
 
 -- while a call is open no boot that is made has to be made again
 abbrev pub MadeStaysMade : Type 0
 MadeStaysMade =
-    (c d : Cell) (t : CoreStep ℕ) (left : List (Mark ℕ)) (j k : OpenJob) → IsTurn c t left → Leads c t left d → (standing_of c).job ≡ Some j → (standing_of d).job ≡ Some k
+    (c d : Cell) (t : CoreStep ℕ) (left : List (Mark ℕ)) (j k : OpenJob)
+    → IsTurn c t left → Leads c t left d → (standing_of c).job ≡ Some j → (standing_of d).job ≡ Some k
     → makes (standing_of c).operation ≡ false → makes (standing_of d).operation ≡ false

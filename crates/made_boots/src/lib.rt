@@ -4,4 +4,4 @@
 
 mod laws;
 
-pub use laws::{made_by_its_make, made_stays_made};
+pub use laws::{made_by_its_make, made_stays_made, marks_agree, opened_agrees, phases_agree};
