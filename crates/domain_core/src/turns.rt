@@ -10,7 +10,7 @@ ghost use Rattle.domain_spec.specs.Types.reply;
 ghost use Rattle.domain_spec.specs.declared.core_step.CoreStep.TheVariants as step;
 ghost use Rattle.domain_core.specs.Answering.{MayGoBack};
 ghost use Rattle.domain_core.specs.Core.{excluded_by, is_occupied, new_core};
-ghost use Rattle.domain_core.specs.Meaning.{history_of};
+ghost use Rattle.turn_shares.specs.Chapters.{history_at};
 ghost use Rattle.domain_listeners.specs.Listening.{AreApart};
 ghost use Rattle.domain_turns.specs.Answering.{GoesBack, held_after};
 ghost use Rattle.domain_turns.specs.Looking.{IsKnownFirst, Looks};
@@ -202,7 +202,7 @@ impl DomainTurns {
 
     /// The history of the chapter by itself, once nothing more happens.
     pub fn into_history(self) -> Chronicle
-        ensures { result ≡ history_of self }
+        ensures { result ≡ history_at self.turning.chapter self.turning.cell }
     {
         self.kept.into_history()
     }
