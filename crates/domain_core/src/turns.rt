@@ -10,6 +10,7 @@ ghost use Rattle.domain_spec.specs.Types.reply;
 ghost use Rattle.domain_spec.specs.declared.core_step.CoreStep.TheVariants as step;
 ghost use Rattle.domain_core.specs.Answering.{MayGoBack};
 ghost use Rattle.domain_core.specs.Core.{excluded_by, is_occupied, new_core};
+ghost use Rattle.turn_shares.specs.Chapters.{history_at};
 ghost use Rattle.domain_listeners.specs.Listening.{AreApart};
 ghost use Rattle.domain_turns.specs.Answering.{GoesBack, held_after};
 ghost use Rattle.domain_turns.specs.Looking.{IsKnownFirst, Looks};
@@ -20,7 +21,7 @@ ghost use Rattle.client_turns.specs.Places.{last_place};
 
 use crate::looking::look_on;
 use client_turns::last;
-use domain_history::operation_held;
+use domain_history::{Chronicle, operation_held};
 use domain_ledger::Back;
 use domain_queue::Queue;
 use domain_record::Record;
@@ -197,6 +198,13 @@ impl DomainTurns {
         ensures { result ≡ length self.now.turning.cell.marks }
     {
         self.kept.len()
+    }
+
+    /// The history of the chapter by itself, once nothing more happens.
+    pub fn into_history(self) -> Chronicle
+        ensures { result ≡ history_at self.turning.chapter self.turning.cell }
+    {
+        self.kept.into_history()
     }
 
     /// The place of the chapter's last mark that is no boot's end, no guest's event and no cut; before all marks
