@@ -1,15 +1,18 @@
 // A domain's cell: a domain between two turns, with the link of its guest.
 ghost use Rattle.std.specs.Prelude.{◌≡◌, IfOk, length};
 ghost use Rattle.domain_spec.specs.Read.{read};
+ghost use Rattle.client_turns.specs.Places.{last_place};
 ghost use Rattle.domain_core.specs.Core.{is_occupied};
 ghost use Rattle.domain_cell.specs.Celled.{cell_in, new_cell, standing_in};
+ghost use Rattle.domain_cell.specs.Meaning.{history_of};
 
 use domain_core::DomainTurns;
+use domain_history::Chronicle;
 use guest_links::Here;
 use monitor_link::{Ears, Killer, Monitor};
 use std::alloc::Global;
 use std::marker::Model;
-use virt_types::{DomainDef, NoMemory, Query, Reply};
+use virt_types::{DomainDef, Front, NoMemory, Query, Reply};
 
 /// A domain between two turns, with the link of the guest that is there: each turn of a call, an operation, the guest
 /// or a client is one step of it. The guest's monitor goes out with the ticket of the open call; its ears with a pass
@@ -75,5 +78,26 @@ impl<M: Monitor + Drop, E: Ears + Drop, Z: Killer + Drop> DomainCell<M, E, Z> {
         ensures { result ≡ is_occupied (standing_in self.now) }
     {
         self.turns.occupied()
+    }
+
+    /// The place of the chapter's last mark that is no boot's end, no guest's event and no cut; before all marks
+    /// where there is none.
+    pub fn last(&self) -> Front
+        ensures chapter { result.chapter ≡ self.now.core.turning.chapter }
+        ensures marks { result.marks ≡ last_place (cell_in self.now).marks }
+    {
+        self.turns.last()
+    }
+
+    /// The history of the chapter by itself, once nothing more happens.
+    pub fn into_history(self) -> Chronicle
+        ensures { result ≡ history_of self }
+    {
+        let DomainCell {
+            turns,
+            link: _,
+            out: _,
+        } = self;
+        turns.into_history()
     }
 }
