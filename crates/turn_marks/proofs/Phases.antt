@@ -45,7 +45,7 @@ pub record ItsOperation (q : Option OpenOperation) (n : ℕ) (who : Who) : Type 
   pub caller : who ≡ operation.who
   pub share : operation_of q n ≡ Some operation
 
-its_share : (o : OpenOperation) (n : ℕ) → n ≡ o.number → is_rest o.outcome ≡ false → operation_of (Some o) n ≡ Some o
+pub its_share : (o : OpenOperation) (n : ℕ) → n ≡ o.number → is_rest o.outcome ≡ false → operation_of (Some o) n ≡ Some o
 its_share o n e awake =
     ap (λ (b : Bool). if b && not (is_rest o.outcome) then Some o else None) (eq-eqb o.number n (sym e))
     ∙ ap (λ (b : Bool). if not b then Some o else None) awake

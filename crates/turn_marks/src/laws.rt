@@ -1,4 +1,5 @@
 // Laws of the definitions: each function's contract is one, and its body does nothing.
+ghost use Rattle.turn_marks.specs.Answered.{AnswersLeave};
 ghost use Rattle.turn_marks.specs.Looked.{LooksLeave};
 ghost use Rattle.turn_marks.specs.Operations.{BeginningsLeave, EndsLeave, PhasesLeave, TakingsUpLeave};
 ghost use Rattle.turn_marks.specs.Own.{OthersHaveNone, OwnAreAll, RefusalsAreOwn, SomeLeaveNone};
@@ -37,6 +38,11 @@ pub fn turns_keep_sound()
 /// A look leaves its Admit and Done, its Admit, its Refused, or nothing of its own.
 pub fn looks_leave()
     ensures { LooksLeave }
+{}
+
+/// The turn of an answer leaves a Done or a Phase of its own with all that was told, or nothing.
+pub fn answers_leave()
+    ensures { AnswersLeave }
 {}
 
 /// A call that looks whether its operation may begin leaves Admit and Start, or what a look leaves.
