@@ -25,7 +25,7 @@ use Rattle.domain_ledger.specs.declared.ledger.Back.{Back}
 use Rattle.domain_ledger.specs.declared.ledger.Back.TheVariants as back
 use Rattle.domain_ledger.specs.declared.phase_out.Step.{Step}
 use Rattle.domain_turns.specs.Answering.{GoesBack}
-use Rattle.domain_turns.specs.Phased.{HasLedTo}
+use Rattle.domain_turns.specs.Phased.{HasLedTo, led_to}
 use Rattle.domain_turns.specs.Turning.{AsksLast, HasDone, Takes, Turning}
 use Rattle.turn_shares.specs.Shares.{whose}
 use Rattle.turn_shares.proofs.Jobs.{on_base}
@@ -97,7 +97,7 @@ its_number : (n k : ℕ) (y : OpenCall) → k ≡ n → (if k == n then Some y e
 its_number n k y e = ap (λ (b : Bool). if b then Some y else None) (eq-eqb k n e)
 
 back_away : (c d : Cell) (n : ℕ) (x : Answer) (z : Ask) (left : List (Mark ℕ)) (o : OpenCall) (a : IsAnswered c n o) (y : Ask) (before : List Ask) → IsTurn c (step.Back n x) left → Leads c (step.Back n x) left d → IsSound c
-    → AsksLast (share_of d n).call z → asks_so_far (standing_of c) a.job.job a.job c.answers ≡ before ++ y ∷ [] → IsAwayStill n (open_call c a.job) y x (share_of d n).call z left
+    → AsksLast (share_of d n).call z → asks_so_far (standing_of c) a.job.job a.job c.answers ≡ before ++ y ∷ [] → IsAwayStill n (open_call c a.job) y x (share_of c n) (share_of d n) z left
 back_away c d n x z left o a y before turn leads sound asks last =
     let t : CoreStep ℕ = step.Back n x in
     let j : OpenJob = a.job in
@@ -133,6 +133,7 @@ back_away c d n x z left o a y before turn leads sound asks last =
       told_is = told_grown (asks_so_far (standing_of c) j.job j c.answers) before grown.0 open_now.asks y c.answers d.answers x by.0 last a.waits more by.1;
       before = next.0;
       asks_last = next.1;
+      operation_is = ap (λ (u : Standing). operation_of u.operation n) is ∙ ap (λ (q : Option OpenOperation). operation_of q n) h.operation;
     }
 
 -- the phase is done
@@ -176,17 +177,18 @@ phase_known c n j s (Some k) (Some o) x more y before who p asks answers next ev
       told_is = phase_told c j s o x more y before asks answers h op waits by last so.nested.nested so.made;
     }
 
-back_phased : (c : Cell) (n : ℕ) (x : Answer) (st : Step) (next : Outcome) (left : List (Mark ℕ)) (o : OpenCall) (a : IsAnswered c n o) (y : Ask) (before : List Ask) → IsTurn c (step.Back n x) left → IsSound c
-    → HasLedTo n next left → st ≡ step_to next → asks_so_far (standing_of c) a.job.job a.job c.answers ≡ before ++ y ∷ [] → IsPhasedNow n (open_call c a.job) y x (share_of c n).operation st left
-back_phased c n x st next left o a y before turn sound led leads last =
+back_phased : (c v : Cell) (n : ℕ) (x : Answer) (st : Step) (next : Outcome) (left : List (Mark ℕ)) (o : OpenCall) (a : IsAnswered c n o) (y : Ask) (before : List Ask) → IsTurn c (step.Back n x) left → IsSound c
+    → HasLedTo n next left → st ≡ step_to next → (share_of v n).operation ≡ led_to next (share_of c n).operation → asks_so_far (standing_of c) a.job.job a.job c.answers ≡ before ++ y ∷ [] → IsPhasedNow n (open_call c a.job) y x (share_of c n) (share_of v n) st left
+back_phased c v n x st next left o a y before turn sound led leads on last =
     let t : CoreStep ℕ = step.Back n x in
     let j : OpenJob = a.job in
     let d : IsPhasedIn c t n refl (IsAsked c j) next left = phased_in c t n refl (IsAsked c j) (asked_keeps c n x j) next (standing_of c) left (asked_first c j a.is sound) (goes c n x left turn.left) led in
     let k : IsPhaseKnown c n j d.who d.phase y x d.asks d.answers =
     phase_known c n j d.at d.at.job d.at.operation x d.by.0 y before d.who d.phase d.asks d.answers next d.events d.holds d.holds.is refl a.waits d.by.1 last d.phased in
+    let its : (share_of c n).operation ≡ Some k.operation = ap (λ (q : Option OpenOperation). operation_of q n) k.is ∙ its_share k.operation n k.numbered (ap is_rest k.due) in
     record {
       operation = k.operation;
-      is_open = ap (λ (q : Option OpenOperation). operation_of q n) k.is ∙ its_share k.operation n k.numbered (ap is_rest k.due);
+      is_open = its;
       its_caller = k.its_caller;
       phase = d.phase;
       due = k.due;
@@ -197,6 +199,7 @@ back_phased c n x st next left o a y before turn sound led leads last =
       own_are = d.own_are ∙ ap (λ (w : Who). mark.Phase n w d.phase d.asks d.answers next d.events ∷ []) k.caller;
       told_is = k.told_is;
       leads = leads;
+      operation_is = on ∙ ap (λ (q : Option OpenOperation). led_to next q) its;
     }
 
 -- each of them
@@ -205,7 +208,7 @@ leaves : (old new : Turning) (n : ℕ) (x : Answer) (result : Back) (o : OpenCal
     → asks_so_far (standing_of old.cell) a.job.job a.job old.cell.answers ≡ before ++ y ∷ [] → Takes old new (step.Back n x) (BackLeaves n (open_call old.cell a.job) y x (share_of old.cell n) (share_of new.cell n) result)
 leaves old new n x (back.Done r) o a before y h sound last = (h.0, h.1, back_done old.cell n x r h.0 o a y before h.1.turn sound h.2 last)
 leaves old new n x (back.Away z) o a before y h sound last = (h.0, h.1, back_away old.cell new.cell n x z h.0 o a y before h.1.turn h.1.leads sound h.2.1 last)
-leaves old new n x (back.Phased st) o a before y h sound last = (h.0, h.1, back_phased old.cell n x st h.2.0 h.0 o a y before h.1.turn sound h.2.1 h.2.2 last)
+leaves old new n x (back.Phased st) o a before y h sound last = (h.0, h.1, back_phased old.cell new.cell n x st h.2.0 h.0 o a y before h.1.turn sound h.2.1 h.2.2 h.2.3 last)
 
 -- a turn of an answer can be taken
 can_answer : (old new : Turning) (n : ℕ) (x : Answer) (result : Back) → GoesBack n x old new result → (left : List (Mark ℕ)) × IsTurn old.cell (step.Back n x) left

@@ -105,6 +105,13 @@ taken_closes s (Some j) None number who d is h =
     absurd (none_rests (takes_up d) (sym (ap (λ (q : Option OpenOperation). rests_for (takes_up d) (operation_held q)) is) ∙ rests))
 taken_closes s (Some j) (Some o) number who d is h = refl
 
+pub taken_some : (s : Standing) (j : Option OpenJob) (o : Option OpenOperation) (number : ℕ) (who : Who) (d : Call) → s.operation ≡ o → IsTakenUp s j number who d → (x : OpenOperation) × (o ≡ Some x)
+taken_some s None o number who d is h = absurd h
+taken_some s (Some j) None number who d is h =
+    let rests : rests_for (takes_up d) (operation_held s.operation) ≡ true = second_of (not (meets_ended s.state d j.boot)) _ h.takes in
+    absurd (none_rests (takes_up d) (sym (ap (λ (q : Option OpenOperation). rests_for (takes_up d) (operation_held q)) is) ∙ rests))
+taken_some s (Some j) (Some o) number who d is h = (o, refl)
+
 -- a number whose call is the open one; until that is closed something holds, whatever comes along
 module _ (c : Cell) (t : CoreStep ℕ) (n : ℕ) (its : IsStepOf n t) (I : Standing → Type 0) where
   -- so it is after each mark that closes nothing

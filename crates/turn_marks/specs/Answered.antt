@@ -1,5 +1,5 @@
 -- What the turn of an answer leaves of its own, and what was asked by then.
-use Rattle.std.specs.Prelude.{◌≡◌, ℕ, List, [], ◌∷◌, ◌++◌, Option, Some}
+use Rattle.std.specs.Prelude.{◌≡◌, ℕ, List, [], ◌∷◌, ◌++◌, Some}
 use Rattle.history_spec.specs.Pass.{own}
 use Rattle.domain_spec.specs.Types.{Answer, Ask, Phase, Reply, Transition}
 use Rattle.domain_spec.specs.declared.core_step.CoreStep.TheVariants as step
@@ -14,6 +14,7 @@ use Rattle.domain_ledger.specs.declared.ledger.Back.{Back}
 use Rattle.domain_ledger.specs.declared.ledger.Back.TheVariants as back
 use Rattle.domain_ledger.specs.declared.phase_out.Step.{Step}
 use Rattle.domain_turns.specs.Answering.{GoesBack}
+use Rattle.domain_turns.specs.Phased.{led_to}
 use Rattle.domain_turns.specs.Turning.{Takes, Turning}
 use Rattle.turn_shares.specs.Shares.{whose}
 use Rattle.turn_marks.specs.Sound.{IsSound}
@@ -28,19 +29,20 @@ pub record IsDoneNow (n : ℕ) (c : OpenCall) (y : Ask) (x : Answer) (r : Reply)
   pub told_is : told asks answers ≡ told_then c y x
 
 -- it is open as it was let in, was told that answer beside what it was told before, and asks this next
-pub record IsAwayStill (n : ℕ) (c : OpenCall) (y : Ask) (x : Answer) (now : Option OpenCall) (z : Ask) (left : List (Mark ℕ)) : Type 0 where
+pub record IsAwayStill (n : ℕ) (c : OpenCall) (y : Ask) (x : Answer) (old new : Share) (z : Ask) (left : List (Mark ℕ)) : Type 0 where
   pub own_are : own whose n left ≡ []
   pub away : OpenCall
-  pub is_open : now ≡ Some away
+  pub is_open : new.call ≡ Some away
   pub job_is : away.job ≡ c.job
   pub told_is : told away.asks away.answers ≡ told_then c y x
   pub before : List Ask
   pub asks_last : away.asks ≡ before ++ z ∷ []
+  pub operation_is : new.operation ≡ old.operation
 
--- the phase that was due is done, with all that it was told, and leads on so
-pub record IsPhasedNow (n : ℕ) (c : OpenCall) (y : Ask) (x : Answer) (was : Option OpenOperation) (st : Step) (left : List (Mark ℕ)) : Type 0 where
+-- the phase that was due is done, with all that it was told, and leads on so; so does the operation
+pub record IsPhasedNow (n : ℕ) (c : OpenCall) (y : Ask) (x : Answer) (old new : Share) (st : Step) (left : List (Mark ℕ)) : Type 0 where
   pub operation : OpenOperation
-  pub is_open : was ≡ Some operation
+  pub is_open : old.operation ≡ Some operation
   pub its_caller : c.job.who ≡ operation.who
   pub phase : Phase
   pub due : operation.outcome ≡ outcome.On phase
@@ -51,12 +53,13 @@ pub record IsPhasedNow (n : ℕ) (c : OpenCall) (y : Ask) (x : Answer) (was : Op
   pub own_are : own whose n left ≡ mark.Phase n c.job.who phase asks answers next events ∷ []
   pub told_is : told asks answers ≡ told_then c y x
   pub leads : st ≡ step_to next
+  pub operation_is : new.operation ≡ led_to next (Some operation)
 
 -- what the turn of an answer leaves of its own: Done, Phase, or nothing
 abbrev pub BackLeaves : ℕ → OpenCall → Ask → Answer → Share → Share → Back → List (Mark ℕ) → Type 0
 BackLeaves n c y x old new (back.Done r) left = IsDoneNow n c y x r left
-BackLeaves n c y x old new (back.Away z) left = IsAwayStill n c y x new.call z left
-BackLeaves n c y x old new (back.Phased st) left = IsPhasedNow n c y x old.operation st left
+BackLeaves n c y x old new (back.Away z) left = IsAwayStill n c y x old new z left
+BackLeaves n c y x old new (back.Phased st) left = IsPhasedNow n c y x old new st left
 
 -- so it is with each answer, where the open call asked this last
 abbrev pub AnswersLeave : Type 0
