@@ -1,0 +1,11 @@
+pub mod Asked
+pub mod Backs
+pub mod Begins
+pub mod Entering
+pub mod Looks
+pub mod Owning
+pub mod Phases
+pub mod Plans
+pub mod Since
+pub mod Sounding
+pub mod Walking
