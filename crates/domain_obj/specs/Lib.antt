@@ -1,0 +1,4 @@
+pub mod Asking
+pub mod InTurn
+pub mod Running
+pub mod Turns

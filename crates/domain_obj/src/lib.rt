@@ -1,0 +1,16 @@
+//! Calls over a domain: each takes turns at the domain's cell, and holds none while it asks somebody.
+#![tactic(auto)]
+
+mod asking;
+mod calls;
+mod object;
+mod place;
+mod queries;
+mod turns;
+
+pub use asking::Desk;
+pub use calls::{answer_once, look_once};
+pub use object::DomainObj;
+pub use place::Seen;
+pub use queries::{Queried, query};
+pub use turns::{DomainPass, DomainTurn, back_in, look_in, occupied_in, read_in, told_legal};
