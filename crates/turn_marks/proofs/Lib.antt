@@ -3,6 +3,7 @@ pub mod Backs
 pub mod Begins
 pub mod Entering
 pub mod Looks
+pub mod Others
 pub mod Owning
 pub mod Phases
 pub mod Plans

@@ -98,7 +98,7 @@ plan_more plan xs x ys e = plan_by (asks_left plan xs) plan xs x ys refl e
 
 -- a call
 
-call_is : (s : State) (j : OpenJob) (answers : List Answer) → call_asks s j answers ≡ so_far (planned s j.call j.boot) answers
+pub call_is : (s : State) (j : OpenJob) (answers : List Answer) → call_asks s j answers ≡ so_far (planned s j.call j.boot) answers
 call_is s j answers =
     ap (λ (asks : List Ask). asks ++ take 1 (still_asked s j.call j.boot answers)) (sym (asked_planned s j.call j.boot answers))
     ∙ ap (λ (asks : List Ask). asks_made (planned s j.call j.boot) answers ++ take 1 asks) (sym (still_planned s j.call j.boot answers))
@@ -149,7 +149,7 @@ no_plan_on : (d : Domain) (op : Option Op) (c : Call) (answers : List Answer) �
 no_plan_on d None c answers e = refl
 no_plan_on d (Some op) c answers e = no_guest d d.live op c answers e
 
-no_plan : (s : State) (c : Call) (answers : List Answer) → live_boot s ≡ None → plan_in s c answers ≡ []
+pub no_plan : (s : State) (c : Call) (answers : List Answer) → live_boot s ≡ None → plan_in s c answers ≡ []
 no_plan (state.Vacant boots) c answers e = refl
 no_plan (state.Held d) c answers e = no_plan_on d d.op c answers e
 
@@ -157,7 +157,7 @@ along_none : (answers : List Answer) → made_along [] answers ≡ []
 along_none [] = refl
 along_none (a ∷ answers) = refl
 
-nothing_asked : (xs : List Answer) → length (so_far [] xs) ≡ length xs + 1 → ⊥
+pub nothing_asked : (xs : List Answer) → length (so_far [] xs) ≡ length xs + 1 → ⊥
 nothing_asked xs e =
     let h = plan_more [] xs answer.NoMemory [] e in
     let none : length (so_far [] xs ++ h.0) ≡ 0 = ap length (sym h.1 ∙ sym (made_so [] (xs ++ answer.NoMemory ∷ [])) ∙ along_none (xs ++ answer.NoMemory ∷ [])) in

@@ -3,7 +3,7 @@ ghost use Rattle.turn_marks.specs.Answered.{AnswersLeave};
 ghost use Rattle.turn_marks.specs.Looked.{LooksLeave};
 ghost use Rattle.turn_marks.specs.Operations.{BeginningsLeave, EndsLeave, PhasesLeave, TakingsUpLeave};
 ghost use Rattle.turn_marks.specs.Own.{OthersHaveNone, OwnAreAll, RefusalsAreOwn, SomeLeaveNone};
-ghost use Rattle.turn_marks.specs.Sound.{OpenedIsSound, TurnsKeepSound};
+ghost use Rattle.turn_marks.specs.Sound.{OpenedIsSound, OthersAskOn, TurnsKeepSound};
 
 /// Where each mark bears one number, all of them are its own.
 pub fn own_are_all()
@@ -33,6 +33,11 @@ pub fn opened_is_sound()
 /// Each turn keeps a cell sound.
 pub fn turns_keep_sound()
     ensures { TurnsKeepSound }
+{}
+
+/// What a call has asked and was answered stays in the turns of other numbers.
+pub fn others_ask_on()
+    ensures { OthersAskOn }
 {}
 
 /// A look leaves its Admit and Done, its Admit, its Refused, or nothing of its own.
