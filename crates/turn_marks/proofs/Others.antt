@@ -1,6 +1,6 @@
 -- What a call has asked that is open under another number stays.
-use Rattle.std.proofs.Common.{◌≡◌, ◌⊎◌, inl, inr, ℕ, ◌+◌, List, [], ◌∷◌, ◌++◌, length, Bool, true, false, not, ◌&&◌, is_none, Option, None, Some, if◌then◌else◌, unwrap_or, refl, sym, ap, ◌∙◌, subst}
-use Rattle.domain_spec.specs.Types.{Answer, Ask, Call, Domain, EndReason, Job, Live, Reply, State, Transition, Who}
+use Rattle.std.proofs.Common.{◌≡◌, inl, ℕ, ◌+◌, List, [], ◌∷◌, length, Bool, true, false, Option, None, Some, if◌then◌else◌, unwrap_or, refl, sym, ap, ◌∙◌, subst}
+use Rattle.domain_spec.specs.Types.{Answer, Call, Domain, Job, Live, Reply, State, Who}
 use Rattle.domain_spec.specs.Types.call
 use Rattle.domain_spec.specs.Types.job
 use Rattle.domain_spec.specs.Types.state
@@ -12,134 +12,24 @@ use Rattle.domain_spec.specs.declared.open.OpenJob.{OpenJob}
 use Rattle.domain_spec.specs.declared.open.OpenOperation.{OpenOperation}
 use Rattle.domain_spec.specs.declared.planned.PlannedAsk.{PlannedAsk}
 use Rattle.domain_spec.specs.declared.standing.Standing.{Standing}
-use Rattle.domain_spec.specs.Call.{guest_plan, held_plan, plan_of}
+use Rattle.domain_spec.specs.Call.{guest_plan, held_plan}
 use Rattle.domain_spec.specs.CanTake.{CanTake, IsAway, IsNotJobOf, WaitsForAnswer}
-use Rattle.domain_spec.specs.Cell.{Cell, as_let_in, asks_so_far, call_asks, planned_at, standing_of}
-use Rattle.domain_spec.specs.Fold.{after, carries, job_at_exit, standing}
+use Rattle.domain_spec.specs.Cell.{Cell, asks_so_far, planned_at, standing_of}
+use Rattle.domain_spec.specs.Fold.{after, standing}
 use Rattle.domain_spec.specs.Lawful.{IsEnded, NoneNested}
 use Rattle.domain_spec.specs.Phase.{without_operation}
-use Rattle.domain_spec.specs.Reading.{carries_ended, is_live, live_boot, live_of}
-use Rattle.domain_spec.specs.Sequential.{makes_asks, meets_ended}
-use Rattle.domain_spec.specs.Steps.{IsExitOf}
-use Rattle.domain_spec.specs.Tests.{refusal_of}
-use Rattle.domain_spec.specs.Turns.{AnswersAfter, BeginsBy, GoOn, GoesOnBy, IsTurn, Leads, MayLeave}
-use Rattle.domain_spec.proofs.EndsOnce.{live_is}
-use Rattle.call_away.proofs.Staying.{carries_it, some_none}
-use Rattle.domain_tidy.specs.Guests.{HasOwnGuest}
+use Rattle.domain_spec.specs.Sequential.{makes_asks}
+use Rattle.domain_spec.specs.Turns.{AnswersAfter, BeginsBy, GoOn, GoesOnBy, MayLeave}
 use Rattle.domain_tidy.specs.Tidy.{IsTidy, planned}
-use Rattle.domain_tidy.proofs.OwnGuests.{mark_keeps_guests}
 use Rattle.domain_tidy.proofs.TidyMarks.{every_mark}
 use Rattle.turn_shares.specs.Shares.{IsStepOf, whose}
 use Rattle.turn_shares.proofs.Jobs.{lets_in_free, on_base}
-use Rattle.turn_marks.specs.Sound.{CarriesAt, CarriesIn, CarriesLive, IsSound, OthersAskOn}
-use Rattle.turn_marks.proofs.Plans.{asks_are, asks_by, call_is, nothing_asked, so_far}
-use Rattle.turn_marks.proofs.Since.{IsSinceAt, IsSinceIn, since_after, since_in}
-use Rattle.turn_marks.proofs.Sounding.{begins_carries, guests_in, tidy_in}
-use Rattle.turn_marks.proofs.Walking.{IsNot, goes_not}
-
--- a Destroy that asks something carries the live boot
-
-ended_if : (ended refused : Bool) (plan : List PlannedAsk) → ended ≡ true → (if not ended && refused then plan else []) ≡ []
-ended_if true refused plan e = refl
-ended_if false refused plan e = cc
-
-no_boot : (s : State) → planned s call.Destroy None ≡ []
-no_boot (state.Vacant boots) = refl
-no_boot (state.Held d) = refl
-
-no_live : (s : State) (k : ℕ) → is_live s k ≡ false → planned s call.Destroy (Some k) ≡ []
-no_live s k e = ended_if (meets_ended s call.Destroy (Some k)) (is_none (refusal_of s (Some k) call.Destroy)) (plan_of s call.Destroy) (ap not e)
-
-not_asked : (plan : List PlannedAsk) (xs : List Answer) → plan ≡ [] → length (so_far plan xs) ≡ length xs + 1 → ⊥
-not_asked plan xs e waits = nothing_asked xs (sym (ap (λ (p : List PlannedAsk). length (so_far p xs)) e) ∙ waits)
-
-live_or_not : (s : State) (boot k : ℕ) (b : Bool) (xs : List Answer) → is_live s k ≡ b → live_boot s ≡ Some boot → length (so_far (planned s call.Destroy (Some k)) xs) ≡ length xs + 1 → Some k ≡ Some boot
-live_or_not s boot k true xs e live waits = sym (live_is (live_of s) k e) ∙ live
-live_or_not s boot k false xs e live waits = absurd (not_asked (planned s call.Destroy (Some k)) xs (no_live s k e) waits)
-
-destroy_by : (s : State) (boot : ℕ) (carried : Option ℕ) (xs : List Answer) → live_boot s ≡ Some boot → length (so_far (planned s call.Destroy carried) xs) ≡ length xs + 1 → carried ≡ Some boot
-destroy_by s boot None xs live waits = absurd (not_asked (planned s call.Destroy None) xs (no_boot s) waits)
-destroy_by s boot (Some k) xs live waits = live_or_not s boot k (is_live s k) xs refl live waits
-
--- the open call's boot is the one that ends
-
-pub record IsOther (c : Cell) (j : OpenJob) (s : Standing) : Type 0 where
-  pub job : OpenJob
-  pub is : s.job ≡ Some job
-  pub same : as_let_in job ≡ as_let_in j
-  pub asks : asks_so_far s job.job job c.answers ≡ asks_so_far (standing_of c) j.job j c.answers
-  pub since : IsSinceAt s.state s.operation job job.before
-  pub carried : CarriesAt s.state job job.before
-  pub tidy : IsTidy s.state
-  pub guests : HasOwnGuest s.state s.operation
-
-none_before : (s : State) (before : Option State) (j : OpenJob) (q : Option OpenOperation) (boot : ℕ) → IsSinceAt s q j before → live_boot s ≡ Some boot → before ≡ None
-none_before s None j q boot h live = refl
-none_before s (Some b) j q boot h live = absurd (some_none boot (sym live ∙ h.gone))
-
-destroy_asks : (s : Standing) (j : OpenJob) (xs : List Answer) → j.before ≡ None → j.job ≡ job.Destroy → j.call ≡ call.Destroy → asks_so_far s j.job j xs ≡ so_far (planned s.state call.Destroy j.boot) xs
-destroy_asks s j xs none own same =
-    ap (λ (w : Job). asks_so_far s w j xs) own
-    ∙ call_is (planned_at s.state j) j xs
-    ∙ ap (λ (b : Option State). so_far (planned (unwrap_or b s.state) j.call j.boot) xs) none
-    ∙ ap (λ (d : Call). so_far (planned s.state d j.boot) xs) same
-
-carried_by : (s : Standing) (j : OpenJob) (boot : ℕ) (xs : List Answer) → j.before ≡ None → live_boot s.state ≡ Some boot → length (asks_so_far s j.job j xs) ≡ length xs + 1 → CarriesLive s.state j → j.boot ≡ Some boot
-carried_by s j boot xs none live waits (inr h) = h ∙ live
-carried_by s j boot xs none live waits (inl h) = destroy_by s.state boot j.boot xs live (sym (ap length (destroy_asks s j xs none h.0 h.1)) ∙ waits)
-
-exit_other : (c : Cell) (j : OpenJob) (s : Standing) (boot : ℕ) (why : EndReason) (events : List Transition) → length (asks_so_far (standing_of c) j.job j c.answers) ≡ length c.answers + 1 → is_live s.state boot ≡ true → IsOther c j s
-    → IsOther c j (after s (mark.Exit boot why events))
-exit_other c j s boot why events waits lives h =
-    let live : live_boot s.state ≡ Some boot = live_is (live_of s.state) boot lives in
-    let none : h.job.before ≡ None = none_before s.state h.job.before h.job s.operation boot h.since live in
-    let own : CarriesLive s.state h.job = subst (λ (b : Option State). CarriesAt s.state h.job b) none h.carried in
-    let boots : h.job.boot ≡ Some boot = carried_by s h.job boot c.answers none live (ap length h.asks ∙ waits) own in
-    let k : OpenJob = record h.job { before = Some s.state } in
-    let next : Standing = after s (mark.Exit boot why events) in
-    let is : next.job ≡ Some k = ap (λ (y : Option OpenJob). job_at_exit s.state boot y) h.is ∙ ap (λ (b : Bool). Some (if b then k else h.job)) (carries_it h.job.boot boot boots) in
-    let since : IsSinceIn s.state s.operation s.job = subst (λ (y : Option OpenJob). IsSinceIn s.state s.operation y) (sym h.is) h.since in
-    record {
-      job = k;
-      is = is;
-      same = h.same;
-      asks =
-          asks_are next k.job k c.answers
-          ∙ ap (λ (b : Option State). asks_by (unwrap_or b s.state) s.operation h.job.job (as_let_in h.job) c.answers) (sym none)
-          ∙ sym (asks_are s h.job.job h.job c.answers)
-          ∙ h.asks;
-      since = subst (λ (y : Option OpenJob). IsSinceIn next.state next.operation y) is (since_after s (mark.Exit boot why events) h.tidy h.guests since);
-      carried = tt;
-      tidy = every_mark s (mark.Exit boot why events) h.tidy;
-      guests = mark_keeps_guests s (mark.Exit boot why events) h.guests;
-    }
-
-none_open : (j : OpenJob) (k : Option OpenJob) → k ≡ Some j → k ≡ None → ⊥
-none_open j k is none = cc
-
-not_its : (c : Cell) (j : OpenJob) (n : ℕ) (s : Standing) → (j.number ≡ n → ⊥) → IsOther c j s → IsNotJobOf s.job n
-not_its c j n s unlike h = subst (λ (k : Option OpenJob). IsNotJobOf k n) (sym h.is) (λ e. unlike (sym (ap (λ (z : OpenJob). z.number) h.same) ∙ sym e))
-
-goes_other : (c : Cell) (t : CoreStep ℕ) (n : ℕ) (j : OpenJob) (s : Standing) (m : Mark ℕ) → IsStepOf n t → (j.number ≡ n → ⊥) → length (asks_so_far (standing_of c) j.job j c.answers) ≡ length c.answers + 1
-    → GoesOnBy c t s m → IsOther c j s → IsOther c j (after s m)
-goes_other c t n j s (mark.Done number who d boot asks answers r events) its unlike waits goes h =
-    let none : whose (mark.Done number who d boot asks answers r events) ≡ None = (goes_not c t n s (mark.Done number who d boot asks answers r events) its (not_its c j n s unlike h) goes).nobody in cc
-goes_other c t n j s (mark.Phase number who p asks answers next events) its unlike waits goes h =
-    let none : whose (mark.Phase number who p asks answers next events) ≡ None = (goes_not c t n s (mark.Phase number who p asks answers next events) its (not_its c j n s unlike h) goes).nobody in cc
-goes_other c t n j s (mark.Start number who d boot) its unlike waits goes h =
-    let none : whose (mark.Start number who d boot) ≡ None = (goes_not c t n s (mark.Start number who d boot) its (not_its c j n s unlike h) goes).nobody in cc
-goes_other c t n j s (mark.TakeUp number who d) its unlike waits goes h =
-    let none : whose (mark.TakeUp number who d) ≡ None = (goes_not c t n s (mark.TakeUp number who d) its (not_its c j n s unlike h) goes).nobody in cc
-goes_other c t n j s (mark.Exit boot why events) its unlike waits goes h = exit_other c j s boot why events waits goes.live h
-goes_other c t n j s (mark.Event boot g events) its unlike waits goes h = absurd (none_open h.job s.job h.is goes.2)
-goes_other c t n j s (mark.Cut client total taken) its unlike waits goes h =
-    record { job = h.job; is = h.is; same = h.same; asks = asks_are s h.job.job h.job c.answers ∙ sym (asks_are s h.job.job h.job c.answers) ∙ h.asks; since = h.since; carried = h.carried; tidy = h.tidy; guests = h.guests }
-goes_other c t n j s other its unlike waits goes h = absurd goes
-
-on_other : (c : Cell) (t : CoreStep ℕ) (n : ℕ) (j : OpenJob) (s : Standing) (marks : List (Mark ℕ)) → IsStepOf n t → (j.number ≡ n → ⊥) → length (asks_so_far (standing_of c) j.job j c.answers) ≡ length c.answers + 1
-    → GoOn c t s marks → IsOther c j s → IsOther c j (standing s marks)
-on_other c t n j s [] its unlike waits go h = h
-on_other c t n j s (m ∷ marks) its unlike waits go h = on_other c t n j (after s m) marks its unlike waits go.2 (goes_other c t n j s m its unlike waits go.0 h)
+use Rattle.turn_marks.specs.Tidied.{BeginsTidy, OthersAskOn}
+use Rattle.turn_marks.proofs.Asked.{IsAsked, IsPlanOf, asked_first, asks_still, cut_asked, exit_asked, none_open, same_plan}
+use Rattle.turn_marks.proofs.Plans.{asks_are}
+use Rattle.turn_marks.proofs.Since.{IsSinceIn, since_after, since_in}
+use Rattle.turn_marks.proofs.Tidying.{tidy_in}
+use Rattle.turn_marks.proofs.Walking.{goes_not}
 
 -- the end of an operation changes no plan
 
@@ -177,86 +67,79 @@ end_plan : (s : State) (c : Call) (boot : Option ℕ) → planned (without_opera
 end_plan (state.Vacant boots) c boot = refl
 end_plan (state.Held d) c boot = without_plan d c boot
 
-end_at : (s : State) (j : OpenJob) (before : Option State) (xs : List Answer) → call_asks (unwrap_or before (without_operation s)) j xs ≡ call_asks (unwrap_or before s) j xs
-end_at s j None xs = call_is (without_operation s) j xs ∙ ap (λ (plan : List PlannedAsk). so_far plan xs) (end_plan s j.call j.boot) ∙ sym (call_is s j xs)
-end_at s j (Some b) xs = refl
-
-end_asked : (s : Standing) (w : Job) (j : OpenJob) (xs : List Answer) (number : ℕ) (who : Who) (r : Reply) → (w ≡ job.Nested → ⊥) → asks_so_far (after s (mark.End number who r)) w j xs ≡ asks_so_far s w j xs
-end_asked s job.Nested j xs number who r unlike = absurd (unlike refl)
-end_asked s other j xs number who r unlike = end_at s.state j j.before xs
+end_at : (s at : State) (w : Job) (j : OpenJob) (before : Option State) → (w ≡ job.Nested → ⊥) → unwrap_or before s ≡ at → IsPlanOf (unwrap_or before (without_operation s)) at w j.call j.boot
+end_at s at w j None unlike e =
+    let same : planned (without_operation s) j.call j.boot ≡ planned at j.call j.boot = end_plan s j.call j.boot ∙ ap (λ (x : State). planned x j.call j.boot) e in
+    record { call = inl same; stored = λ on. same; phase = λ nested. absurd (unlike nested) }
+end_at s at w j (Some b) unlike e = subst (λ (x : State). IsPlanOf b x w j.call j.boot) e (same_plan b w j.call j.boot)
 
 no_nested : (s : Standing) (q : Option OpenOperation) (j : OpenJob) (number : ℕ) (who : Who) (r : Reply) → s.job ≡ Some j → IsEnded s q number who r → j.job ≡ job.Nested → ⊥
 no_nested s None j number who r is h = absurd h
 no_nested s (Some o) j number who r is h = subst (λ (k : Option OpenJob). NoneNested k) is h.no_nested
 
--- the first mark
-
-first_other : (c : Cell) (j : OpenJob) → (standing_of c).job ≡ Some j → IsSound c → IsOther c j (standing_of c)
-first_other c j is sound = record {
-  job = j;
-  is = is;
-  same = refl;
-  asks = refl;
-  since = subst (λ (x : Option OpenJob). IsSinceIn (standing_of c).state (standing_of c).operation x) is (since_in c sound);
-  carried = subst (λ (x : Option OpenJob). CarriesIn (standing_of c).state x) is sound.carries;
-  tidy = tidy_in c sound;
-  guests = guests_in c sound;
-}
-
--- a mark that leaves the state, the open call and the operation
-stays_other : (c : Cell) (j : OpenJob) (s next : Standing) → next.state ≡ s.state → next.job ≡ s.job → next.operation ≡ s.operation → IsOther c j s → IsOther c j next
-stays_other c j s next st jo op h = record {
-  job = h.job;
-  is = jo ∙ h.is;
-  same = h.same;
-  asks =
-      asks_are next h.job.job h.job c.answers
-      ∙ ap (λ (x : State). asks_by (planned_at x h.job) next.operation h.job.job (as_let_in h.job) c.answers) st
-      ∙ ap (λ (x : Option OpenOperation). asks_by (planned_at s.state h.job) x h.job.job (as_let_in h.job) c.answers) op
-      ∙ sym (asks_are s h.job.job h.job c.answers)
-      ∙ h.asks;
-  since =
-      subst (λ (x : State). IsSinceAt x next.operation h.job h.job.before) (sym st)
-      (subst (λ (x : Option OpenOperation). IsSinceAt s.state x h.job h.job.before) (sym op) h.since);
-  carried = subst (λ (x : State). CarriesAt x h.job h.job.before) (sym st) h.carried;
-  tidy = subst (λ (x : State). IsTidy x) (sym st) h.tidy;
-  guests = subst (λ (x : State). HasOwnGuest x next.operation) (sym st) (subst (λ (x : Option OpenOperation). HasOwnGuest s.state x) (sym op) h.guests);
-}
-
-end_other : (c : Cell) (t : CoreStep ℕ) (j : OpenJob) (number : ℕ) (who : Who) (r : Reply) → (standing_of c).job ≡ Some j → IsSound c → CanTake c t → BeginsBy c t (standing_of c) (mark.End number who r)
-    → IsEnded (standing_of c) (standing_of c).operation number who r → IsOther c j (after (standing_of c) (mark.End number who r))
-end_other c t j number who r is sound can begins ended =
+end_asked : (c : Cell) (j : OpenJob) (number : ℕ) (who : Who) (r : Reply) → (standing_of c).job ≡ Some j → BeginsTidy c → IsEnded (standing_of c) (standing_of c).operation number who r → IsAsked c j (after (standing_of c) (mark.End number who r))
+end_asked c j number who r is begins ended =
     let s : Standing = standing_of c in
     let next : Standing = after s (mark.End number who r) in
+    let unlike : j.job ≡ job.Nested → ⊥ = no_nested s s.operation j number who r is ended in
     record {
-      job = j;
+      now = j;
       is = is;
       same = refl;
-      asks = end_asked s j.job j c.answers number who r (no_nested s s.operation j number who r is ended);
-      since = subst (λ (x : Option OpenJob). IsSinceIn next.state next.operation x) is (since_after s (mark.End number who r) (tidy_in c sound) (guests_in c sound) (since_in c sound));
-      carried = subst (λ (x : Option OpenJob). CarriesIn next.state x) is (begins_carries c t (mark.End number who r) can begins sound.carries);
-      tidy = every_mark s (mark.End number who r) (tidy_in c sound);
-      guests = mark_keeps_guests s (mark.End number who r) (guests_in c sound);
+      operation = λ nested. absurd (unlike nested);
+      plan = end_at s.state (planned_at s.state j) j.job j j.before unlike refl;
+      since = subst (λ (x : Option OpenJob). IsSinceIn next.state x) is (since_after s (mark.End number who r) (tidy_in c begins) (since_in c begins));
+      tidy = every_mark s (mark.End number who r) (tidy_in c begins);
     }
 
-begins_other : (c : Cell) (t : CoreStep ℕ) (n : ℕ) (j : OpenJob) (m : Mark ℕ) → IsStepOf n t → (j.number ≡ n → ⊥) → (standing_of c).job ≡ Some j → length (asks_so_far (standing_of c) j.job j c.answers) ≡ length c.answers + 1
-    → IsSound c → CanTake c t → BeginsBy c t (standing_of c) m → IsOther c j (after (standing_of c) m)
-begins_other c t n j (mark.Admit number who wanted d boot) its unlike is waits sound can begins = absurd (none_open j (standing_of c).job is (lets_in_free c t number who wanted d boot begins))
-begins_other c t n j (mark.Refused number who d why held) its unlike is waits sound can begins =
-    stays_other c j (standing_of c) (after (standing_of c) (mark.Refused number who d why held)) refl refl refl (first_other c j is sound)
-begins_other c (step.EndOp k w) n j (mark.End number who r) its unlike is waits sound can begins = end_other c (step.EndOp k w) j number who r is sound can begins begins.2
-begins_other c t n j (mark.End number who r) its unlike is waits sound can begins = absurd begins
-begins_other c t n j (mark.Watch number client) its unlike is waits sound can begins =
-    stays_other c j (standing_of c) (after (standing_of c) (mark.Watch number client)) refl refl refl (first_other c j is sound)
-begins_other c t n j (mark.Unwatch number client) its unlike is waits sound can begins =
-    stays_other c j (standing_of c) (after (standing_of c) (mark.Unwatch number client)) refl refl refl (first_other c j is sound)
-begins_other c t n j m its unlike is waits sound can begins = goes_other c t n j (standing_of c) m its unlike waits begins (first_other c j is sound)
+-- mark by mark
 
-left_other : (c : Cell) (t : CoreStep ℕ) (n : ℕ) (j : OpenJob) (left : List (Mark ℕ)) → IsStepOf n t → (j.number ≡ n → ⊥) → (standing_of c).job ≡ Some j → length (asks_so_far (standing_of c) j.job j c.answers) ≡ length c.answers + 1
-    → IsSound c → CanTake c t → MayLeave c t left → IsOther c j (standing (standing_of c) left)
-left_other c t n j [] its unlike is waits sound can may = first_other c j is sound
-left_other c t n j (m ∷ left) its unlike is waits sound can may =
-    on_other c t n j (after (standing_of c) m) left its unlike waits may.2 (begins_other c t n j m its unlike is waits sound can may.0)
+not_its : (c : Cell) (j : OpenJob) (n : ℕ) (s : Standing) → (j.number ≡ n → ⊥) → IsAsked c j s → IsNotJobOf s.job n
+not_its c j n s unlike h = subst (λ (k : Option OpenJob). IsNotJobOf k n) (sym h.is) (λ e. unlike (sym (ap (λ (z : OpenJob). z.number) h.same) ∙ sym e))
+
+not_closed : (c : Cell) (t : CoreStep ℕ) (n : ℕ) (j : OpenJob) (s : Standing) (m : Mark ℕ) → IsStepOf n t → (j.number ≡ n → ⊥) → GoesOnBy c t s m → IsAsked c j s → whose m ≡ None
+not_closed c t n j s m its unlike goes h = (goes_not c t n s m its (not_its c j n s unlike h) goes).nobody
+
+goes_other : (c : Cell) (t : CoreStep ℕ) (n : ℕ) (j : OpenJob) (s : Standing) (m : Mark ℕ) → IsStepOf n t → (j.number ≡ n → ⊥) → GoesOnBy c t s m → IsAsked c j s → IsAsked c j (after s m)
+goes_other c t n j s (mark.Done number who d boot asks answers r events) its unlike goes h =
+    let none : whose (mark.Done number who d boot asks answers r events) ≡ None = not_closed c t n j s (mark.Done number who d boot asks answers r events) its unlike goes h in cc
+goes_other c t n j s (mark.Phase number who p asks answers next events) its unlike goes h =
+    let none : whose (mark.Phase number who p asks answers next events) ≡ None = not_closed c t n j s (mark.Phase number who p asks answers next events) its unlike goes h in cc
+goes_other c t n j s (mark.Start number who d boot) its unlike goes h = let none : whose (mark.Start number who d boot) ≡ None = not_closed c t n j s (mark.Start number who d boot) its unlike goes h in cc
+goes_other c t n j s (mark.TakeUp number who d) its unlike goes h = let none : whose (mark.TakeUp number who d) ≡ None = not_closed c t n j s (mark.TakeUp number who d) its unlike goes h in cc
+goes_other c t n j s (mark.Exit boot why events) its unlike goes h = exit_asked c j s boot why events h
+goes_other c t n j s (mark.Event boot g events) its unlike goes h = absurd (none_open h.now s.job h.is goes.2)
+goes_other c t n j s (mark.Cut client total taken) its unlike goes h = cut_asked c j s client total taken h
+goes_other c t n j s other its unlike goes h = absurd goes
+
+on_other : (c : Cell) (t : CoreStep ℕ) (n : ℕ) (j : OpenJob) (s : Standing) (marks : List (Mark ℕ)) → IsStepOf n t → (j.number ≡ n → ⊥) → GoOn c t s marks → IsAsked c j s → IsAsked c j (standing s marks)
+on_other c t n j s [] its unlike go h = h
+on_other c t n j s (m ∷ marks) its unlike go h = on_other c t n j (after s m) marks its unlike go.2 (goes_other c t n j s m its unlike go.0 h)
+
+-- a mark that leaves the state, the open call and the operation
+stays_asked : (c : Cell) (j : OpenJob) (next : Standing) → next.state ≡ (standing_of c).state → next.job ≡ (standing_of c).job → next.operation ≡ (standing_of c).operation → (standing_of c).job ≡ Some j → BeginsTidy c → IsAsked c j next
+stays_asked c j next st jo op is begins = record {
+  now = j;
+  is = jo ∙ is;
+  same = refl;
+  operation = λ nested. op;
+  plan = subst (λ (x : State). IsPlanOf (planned_at x j) (planned_at (standing_of c).state j) j.job j.call j.boot) (sym st) (same_plan (planned_at (standing_of c).state j) j.job j.call j.boot);
+  since = subst (λ (x : State). IsSinceIn x (Some j)) (sym st) (subst (λ (x : Option OpenJob). IsSinceIn (standing_of c).state x) is (since_in c begins));
+  tidy = subst (λ (x : State). IsTidy x) (sym st) (tidy_in c begins);
+}
+
+begins_other : (c : Cell) (t : CoreStep ℕ) (n : ℕ) (j : OpenJob) (m : Mark ℕ) → IsStepOf n t → (j.number ≡ n → ⊥) → (standing_of c).job ≡ Some j → BeginsTidy c → BeginsBy c t (standing_of c) m → IsAsked c j (after (standing_of c) m)
+begins_other c t n j (mark.Admit number who wanted d boot) its unlike is tidy begins = absurd (none_open j (standing_of c).job is (lets_in_free c t number who wanted d boot begins))
+begins_other c t n j (mark.Refused number who d why held) its unlike is tidy begins = stays_asked c j (after (standing_of c) (mark.Refused number who d why held)) refl refl refl is tidy
+begins_other c (step.EndOp k w) n j (mark.End number who r) its unlike is tidy begins = end_asked c j number who r is tidy begins.2
+begins_other c t n j (mark.End number who r) its unlike is tidy begins = absurd begins
+begins_other c t n j (mark.Watch number client) its unlike is tidy begins = stays_asked c j (after (standing_of c) (mark.Watch number client)) refl refl refl is tidy
+begins_other c t n j (mark.Unwatch number client) its unlike is tidy begins = stays_asked c j (after (standing_of c) (mark.Unwatch number client)) refl refl refl is tidy
+begins_other c t n j m its unlike is tidy begins = goes_other c t n j (standing_of c) m its unlike begins (asked_first c j is tidy)
+
+left_other : (c : Cell) (t : CoreStep ℕ) (n : ℕ) (j : OpenJob) (left : List (Mark ℕ)) → IsStepOf n t → (j.number ≡ n → ⊥) → (standing_of c).job ≡ Some j → BeginsTidy c → MayLeave c t left → IsAsked c j (standing (standing_of c) left)
+left_other c t n j [] its unlike is tidy may = asked_first c j is tidy
+left_other c t n j (m ∷ left) its unlike is tidy may = on_other c t n j (after (standing_of c) m) left its unlike may.2 (begins_other c t n j m its unlike is tidy may.0)
 
 -- no answer comes
 
@@ -271,17 +154,21 @@ answers_stay c t n j k (mark.Admit number who wanted d boot ∷ left) answers it
 answers_stay c t n j k left answers its unlike is can may h = h
 
 pub others_ask_on : OthersAskOn
-others_ask_on c d (step.Rotate number who) n left its turn leads sound j k was now same unlike = absurd (none_open j (standing_of c).job was turn.can.1)
-others_ask_on c d t n left its turn leads sound j k was now same unlike =
-    let waits : WaitsForAnswer c (Some j) = subst (λ (x : Option OpenJob). WaitsForAnswer c x) was sound.waits in
-    let h : IsOther c j (standing (standing_of c) left) = left_other c t n j left its unlike was waits sound turn.can turn.left in
-    let is : standing_of d ≡ standing (standing_of c) left = on_base c d left leads.base leads.marks in
-    let its_job : (standing_of d).job ≡ Some h.job = ap (λ (s : Standing). s.job) is ∙ h.is in
-    let here : k ≡ h.job = cc in
-    let answers : d.answers ≡ c.answers = answers_stay c t n j k left d.answers its unlike was turn.can turn.left (subst (λ (x : Option OpenJob). AnswersAfter c t left x d.answers) now leads.answers) in (
+others_ask_on c d (step.Rotate number who) n left its turn leads tidy j k was now same unlike = absurd (none_open j (standing_of c).job was turn.can.1)
+others_ask_on c d t n left its turn leads tidy j k was now same unlike =
+    let s : Standing = standing (standing_of c) left in
+    let h : IsAsked c j s = left_other c t n j left its unlike was tidy turn.left in
+    let is : standing_of d ≡ s = on_base c d left leads.base leads.marks in
+    let its_job : (standing_of d).job ≡ Some h.now = ap (λ (x : Standing). x.job) is ∙ h.is in
+    let here : k ≡ h.now = cc in
+    let answers : d.answers ≡ c.answers = answers_stay c t n j k left d.answers its unlike was turn.can turn.left (subst (λ (x : Option OpenJob). AnswersAfter c t left x d.answers) now leads.answers) in
+    let at : asks_so_far (standing_of d) k.job k d.answers ≡ asks_so_far s h.now.job h.now c.answers =
+    ap (λ (xs : List Answer). asks_so_far (standing_of d) k.job k xs) answers
+    ∙ ap (λ (x : OpenJob). asks_so_far (standing_of d) x.job x c.answers) here
+    ∙ ap (λ (x : Standing). asks_so_far x h.now.job h.now c.answers) is in
+    let waits : length (asks_so_far (standing_of d) k.job k d.answers) ≡ length d.answers + 1 = subst (λ (x : Option OpenJob). WaitsForAnswer d x) now leads.away in (
       answers,
-      ap (λ (xs : List Answer). asks_so_far (standing_of d) k.job k xs) answers
-          ∙ ap (λ (x : OpenJob). asks_so_far (standing_of d) x.job x c.answers) here
-          ∙ ap (λ (s : Standing). asks_so_far s h.job.job h.job c.answers) is
-          ∙ h.asks,
+      at
+          ∙ asks_still c j s h c.answers (ap length (sym at) ∙ waits ∙ ap (λ (xs : List Answer). length xs + 1) answers)
+          ∙ sym (asks_are (standing_of c) j.job j c.answers),
     )

@@ -1,7 +1,6 @@
 -- Which marks bear a number.
-use Rattle.std.proofs.Common.{◌≡◌, ℕ, ◌==◌, List, [], ◌∷◌, Bool, true, false, Option, None, Some, if◌then◌else◌, refl, sym, ap, ◌∙◌, eq-eqb, arith}
-use Rattle.std.proofs.lemmas.Bool.Decides.{nat_tests}
-use Rattle.history_spec.specs.Pass.{AreOf, IsOf, bears, own}
+use Rattle.std.proofs.Common.{◌≡◌, ℕ, ◌==◌, List, [], ◌∷◌, Bool, true, false, Option, None, Some, if◌then◌else◌, refl, sym, ap, ◌∙◌, eq-eqb}
+use Rattle.history_spec.specs.Pass.{IsOf, bears, own}
 use Rattle.domain_spec.specs.Types.{Call, RefusalCode, Reply, Who}
 use Rattle.domain_spec.specs.declared.core_step.CoreStep.{CoreStep}
 use Rattle.domain_spec.specs.declared.core_step.CoreStep.TheVariants as step
@@ -13,11 +12,10 @@ use Rattle.domain_spec.specs.Cell.{Cell, standing_of}
 use Rattle.domain_spec.specs.Fold.{after}
 use Rattle.domain_spec.specs.Turns.{BeginsBy, GoOn, GoesOnBy, MayLeave}
 use Rattle.domain_turns.specs.Phased.{HasLedTo}
-use Rattle.domain_turns.specs.Refusing.{HasRefused}
 use Rattle.domain_turns.specs.Turning.{HasDone}
 use Rattle.turn_shares.specs.Shares.{whose}
 use Rattle.turn_shares.proofs.Jobs.{differ}
-use Rattle.turn_marks.specs.Own.{AllBear, IsTurnedAway, LeavesNoOwn, OthersHaveNone, OwnAreAll, RefusalsAreOwn, SomeLeaveNone}
+use Rattle.turn_marks.specs.Own.{LeavesNoOwn, OthersHaveNone, OwnAreAll, RefusalsAreOwn, SomeLeaveNone}
 
 -- the marks with one more that bears a number, or none
 abbrev with_one : ℕ → Mark ℕ → Option ℕ → List (Mark ℕ) → List (Mark ℕ)
