@@ -76,5 +76,5 @@ pub looks_leave : LooksLeave
 looks_leave old new n who d f (looked.Done r) h = (h.0, h.1, look_done old.cell n who d f r h.0 h.1.turn h.2)
 looks_leave old new n who d f (looked.Away x) h = (h.0, h.1, look_away old.cell new.cell n who d f x h.0 h.1.turn h.1.leads h.2.0 h.2.1)
 looks_leave old new n who d f (looked.Excluded held boot looks) h = (h.0, h.1, ap (λ (ms : List (Mark ℕ)). own whose n ms) h.2.0)
-looks_leave old new n who d f (looked.WaitersFull w) h = (h.0, h.1, refusals_are_own n who d code.TooManyWaiting h.0 h.2.0)
+looks_leave old new n who d f (looked.WaitersFull w) h = (h.0, h.1, refusals_are_own old.cell (step.Look n who d f) n who d code.TooManyWaiting h.0 h.1.turn h.2.0)
 looks_leave old new n who d f looked.NoMemory h = (h.0, h.1, ap (λ (ms : List (Mark ℕ)). own whose n ms) h.2)
