@@ -1,7 +1,9 @@
 pub mod Begins
 pub mod Hearing
+pub mod LastAsk
 pub mod Looks
 pub mod Operating
+pub mod Others
 pub mod Parts
 pub mod Shares
 pub mod Shown

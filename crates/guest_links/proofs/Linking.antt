@@ -225,7 +225,7 @@ asks_if : (s : Standing) (j : OpenJob) (answers : List Answer) (n : ℕ) (x : As
 asks_if s j answers n x true e k = same_by j.number n true e refl
 asks_if s j answers n x false e k = absurd k
 
-asks_job : (s : Standing) (o : Option OpenJob) (answers : List Answer) (n : ℕ) (x : Ask) → AsksLast (call_of s o answers n) x → (j : OpenJob) × (o ≡ Some j) × (j.number ≡ n)
+pub asks_job : (s : Standing) (o : Option OpenJob) (answers : List Answer) (n : ℕ) (x : Ask) → AsksLast (call_of s o answers n) x → (j : OpenJob) × (o ≡ Some j) × (j.number ≡ n)
 asks_job s None answers n x h = absurd h
 asks_job s (Some j) answers n x h = (j, refl, asks_if s j answers n x (j.number == n) refl h)
 
@@ -271,7 +271,7 @@ stays_hands old new out link h = record { linked = h; monitor = λ e. cc }
 
 -- a look
 
-not_job : (o : Option OpenJob) (n : ℕ) (j : OpenJob) → IsNotJobOf o n → o ≡ Some j → j.number ≡ n → ⊥
+pub not_job : (o : Option OpenJob) (n : ℕ) (j : OpenJob) → IsNotJobOf o n → o ≡ Some j → j.number ≡ n → ⊥
 not_job None n j h is e = cc
 not_job (Some i) n j h is e = h (sym (ap (λ (o : OpenJob). o.number) (some_job i j is) ∙ e)) where
   some_job : (i j : OpenJob) → Some i ≡ Some j → i ≡ j
