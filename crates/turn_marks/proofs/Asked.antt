@@ -28,11 +28,10 @@ use Rattle.domain_tidy.specs.Tidy.{IsTidy, planned}
 use Rattle.domain_tidy.proofs.StoredPlans.{stored_plans}
 use Rattle.domain_tidy.proofs.TidyMarks.{every_mark}
 use Rattle.turn_shares.specs.Shares.{IsStepOf}
-use Rattle.turn_marks.specs.Tidied.{BeginsTidy}
+use Rattle.turn_marks.specs.Steady.{IsSinceAt, IsSinceIn, IsSteady}
 use Rattle.turn_marks.specs.Told.{told}
 use Rattle.turn_marks.proofs.Plans.{asks_are, asks_by, call_is, call_more, made_none, no_answers, no_phase, no_plan, nothing_asked, phase_more, so_far, told_more}
-use Rattle.turn_marks.proofs.Since.{IsSinceAt, IsSinceIn, since_after, since_in}
-use Rattle.turn_marks.proofs.Tidying.{tidy_in}
+use Rattle.turn_marks.proofs.Since.{since_after}
 use Rattle.turn_marks.proofs.Walking.{Keeps}
 
 -- the open call that is answered
@@ -109,15 +108,15 @@ pub record IsAsked (c : Cell) (j : OpenJob) (s : Standing) : Type 0 where
   pub since : IsSinceAt s.state now now.before
   pub tidy : IsTidy s.state
 
-pub asked_first : (c : Cell) (j : OpenJob) → (standing_of c).job ≡ Some j → BeginsTidy c → IsAsked c j (standing_of c)
+pub asked_first : (c : Cell) (j : OpenJob) → (standing_of c).job ≡ Some j → IsSteady (standing_of c) → IsAsked c j (standing_of c)
 asked_first c j is begins = record {
   now = j;
   is = is;
   same = refl;
   operation = λ nested. refl;
   plan = same_plan (planned_at (standing_of c).state j) j.job j.call j.boot;
-  since = subst (λ (x : Option OpenJob). IsSinceIn (standing_of c).state x) is (since_in c begins);
-  tidy = tidy_in c begins;
+  since = subst (λ (x : Option OpenJob). IsSinceIn (standing_of c).state x) is begins.since;
+  tidy = begins.tidy;
 }
 
 exit_plan : (s at : State) (w : Job) (j : OpenJob) (why : EndReason) (before : Option State) → IsTidy s → IsSinceAt s j before → IsPlanOf (unwrap_or before s) at w j.call j.boot

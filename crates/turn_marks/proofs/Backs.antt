@@ -30,7 +30,7 @@ use Rattle.domain_turns.specs.Turning.{AsksLast, HasDone, Takes, Turning}
 use Rattle.turn_shares.specs.Shares.{IsStepOf}
 use Rattle.turn_shares.proofs.Jobs.{on_base}
 use Rattle.turn_marks.specs.Answered.{AnswersLeave, BackLeaves, IsAwayStill, IsDoneNow, IsPhasedNow}
-use Rattle.turn_marks.specs.Tidied.{BeginsTidy}
+use Rattle.turn_marks.specs.Steady.{IsSteady}
 use Rattle.turn_marks.specs.Told.{told, told_then}
 use Rattle.turn_marks.proofs.Asked.{IsAnswered, IsAsked, answered_by, asks_still, asked_first, asked_keeps, call_asked, open_call, phase_made, phase_starved, told_grown}
 use Rattle.turn_marks.proofs.Entering.{open_its, same_done}
@@ -70,7 +70,7 @@ done_told c n j s (Some k) x more y before who d boot asks answers r events h is
       told_grown (asks_so_far (standing_of c) j.job j c.answers) before grown.0 asks y c.answers answers x more last waits grown.1 by,
     )
 
-back_done : (c : Cell) (n : ℕ) (x : Answer) (r : Reply) (left : List (Mark ℕ)) (o : OpenCall) (a : IsAnswered c n o) (y : Ask) (before : List Ask) → IsTurn c (step.Back n x) left → BeginsTidy c → HasDone n r left
+back_done : (c : Cell) (n : ℕ) (x : Answer) (r : Reply) (left : List (Mark ℕ)) (o : OpenCall) (a : IsAnswered c n o) (y : Ask) (before : List Ask) → IsTurn c (step.Back n x) left → IsSteady (standing_of c) → HasDone n r left
     → asks_so_far (standing_of c) a.job.job a.job c.answers ≡ before ++ y ∷ [] → IsDoneNow n (open_call c a.job) y x r left
 back_done c n x r left o a y before turn begins done last =
     let t : CoreStep ℕ = step.Back n x in
@@ -102,7 +102,7 @@ beside_keeps c t n its j = let k : Keeps c t n its (IsAsked c j) = asked_keeps c
 its_number : (n k : ℕ) (y : OpenCall) → k ≡ n → (if k == n then Some y else None) ≡ Some y
 its_number n k y e = ap (λ (b : Bool). if b then Some y else None) (eq-eqb k n e)
 
-back_away : (c d : Cell) (n : ℕ) (x : Answer) (z : Ask) (left : List (Mark ℕ)) (o : OpenCall) (a : IsAnswered c n o) (y : Ask) (before : List Ask) → IsTurn c (step.Back n x) left → Leads c (step.Back n x) left d → BeginsTidy c
+back_away : (c d : Cell) (n : ℕ) (x : Answer) (z : Ask) (left : List (Mark ℕ)) (o : OpenCall) (a : IsAnswered c n o) (y : Ask) (before : List Ask) → IsTurn c (step.Back n x) left → Leads c (step.Back n x) left d → IsSteady (standing_of c)
     → AsksLast (share_of d n).call z → asks_so_far (standing_of c) a.job.job a.job c.answers ≡ before ++ y ∷ [] → IsAwayStill n (open_call c a.job) y x (share_of c n) (share_of d n) z left
 back_away c d n x z left o a y before turn leads begins asks last =
     let t : CoreStep ℕ = step.Back n x in
@@ -182,7 +182,7 @@ phase_known c n j s (Some k) (Some o) x more y before who p asks answers next ev
       told_is = phase_told c j s o x more y before asks answers h op waits by last so.nested.nested so.made;
     }
 
-back_phased : (c v : Cell) (n : ℕ) (x : Answer) (st : Step) (next : Outcome) (left : List (Mark ℕ)) (o : OpenCall) (a : IsAnswered c n o) (y : Ask) (before : List Ask) → IsTurn c (step.Back n x) left → BeginsTidy c
+back_phased : (c v : Cell) (n : ℕ) (x : Answer) (st : Step) (next : Outcome) (left : List (Mark ℕ)) (o : OpenCall) (a : IsAnswered c n o) (y : Ask) (before : List Ask) → IsTurn c (step.Back n x) left → IsSteady (standing_of c)
     → HasLedTo n next left → st ≡ step_to next → (share_of v n).operation ≡ led_to next (share_of c n).operation → asks_so_far (standing_of c) a.job.job a.job c.answers ≡ before ++ y ∷ [] → IsPhasedNow n (open_call c a.job) y x (share_of c n) (share_of v n) st left
 back_phased c v n x st next left o a y before turn begins led leads on last =
     let t : CoreStep ℕ = step.Back n x in
@@ -209,7 +209,7 @@ back_phased c v n x st next left o a y before turn begins led leads on last =
 
 -- each of them
 
-leaves : (old new : Turning) (n : ℕ) (x : Answer) (result : Back) (o : OpenCall) (a : IsAnswered old.cell n o) (before : List Ask) (y : Ask) → GoesBack n x old new result → BeginsTidy old.cell
+leaves : (old new : Turning) (n : ℕ) (x : Answer) (result : Back) (o : OpenCall) (a : IsAnswered old.cell n o) (before : List Ask) (y : Ask) → GoesBack n x old new result → IsSteady (standing_of old.cell)
     → asks_so_far (standing_of old.cell) a.job.job a.job old.cell.answers ≡ before ++ y ∷ [] → Takes old new (step.Back n x) (BackLeaves n (open_call old.cell a.job) y x (share_of old.cell n) (share_of new.cell n) result)
 leaves old new n x (back.Done r) o a before y h begins last = (h.0, h.1, back_done old.cell n x r h.0 o a y before h.1.turn begins h.2 last)
 leaves old new n x (back.Away z) o a before y h begins last = (h.0, h.1, back_away old.cell new.cell n x z h.0 o a y before h.1.turn h.1.leads begins h.2.1 last)

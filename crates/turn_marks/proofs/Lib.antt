@@ -8,5 +8,5 @@ pub mod Owning
 pub mod Phases
 pub mod Plans
 pub mod Since
-pub mod Tidying
+pub mod Steadying
 pub mod Walking

@@ -24,11 +24,10 @@ use Rattle.domain_tidy.specs.Tidy.{IsTidy, planned}
 use Rattle.domain_tidy.proofs.TidyMarks.{every_mark}
 use Rattle.turn_shares.specs.Shares.{IsStepOf, whose}
 use Rattle.turn_shares.proofs.Jobs.{lets_in_free, on_base}
-use Rattle.turn_marks.specs.Tidied.{BeginsTidy, OthersAskOn}
+use Rattle.turn_marks.specs.Steady.{IsSinceIn, IsSteady, OthersAskOn}
 use Rattle.turn_marks.proofs.Asked.{IsAsked, IsPlanOf, asked_first, asks_still, cut_asked, exit_asked, none_open, same_plan}
 use Rattle.turn_marks.proofs.Plans.{asks_are}
-use Rattle.turn_marks.proofs.Since.{IsSinceIn, since_after, since_in}
-use Rattle.turn_marks.proofs.Tidying.{tidy_in}
+use Rattle.turn_marks.proofs.Since.{since_after}
 use Rattle.turn_marks.proofs.Walking.{goes_not}
 
 -- the end of an operation changes no plan
@@ -77,7 +76,7 @@ no_nested : (s : Standing) (q : Option OpenOperation) (j : OpenJob) (number : �
 no_nested s None j number who r is h = absurd h
 no_nested s (Some o) j number who r is h = subst (λ (k : Option OpenJob). NoneNested k) is h.no_nested
 
-end_asked : (c : Cell) (j : OpenJob) (number : ℕ) (who : Who) (r : Reply) → (standing_of c).job ≡ Some j → BeginsTidy c → IsEnded (standing_of c) (standing_of c).operation number who r → IsAsked c j (after (standing_of c) (mark.End number who r))
+end_asked : (c : Cell) (j : OpenJob) (number : ℕ) (who : Who) (r : Reply) → (standing_of c).job ≡ Some j → IsSteady (standing_of c) → IsEnded (standing_of c) (standing_of c).operation number who r → IsAsked c j (after (standing_of c) (mark.End number who r))
 end_asked c j number who r is begins ended =
     let s : Standing = standing_of c in
     let next : Standing = after s (mark.End number who r) in
@@ -88,8 +87,8 @@ end_asked c j number who r is begins ended =
       same = refl;
       operation = λ nested. absurd (unlike nested);
       plan = end_at s.state (planned_at s.state j) j.job j j.before unlike refl;
-      since = subst (λ (x : Option OpenJob). IsSinceIn next.state x) is (since_after s (mark.End number who r) (tidy_in c begins) (since_in c begins));
-      tidy = every_mark s (mark.End number who r) (tidy_in c begins);
+      since = subst (λ (x : Option OpenJob). IsSinceIn next.state x) is (since_after s (mark.End number who r) begins.tidy begins.since);
+      tidy = every_mark s (mark.End number who r) begins.tidy;
     }
 
 -- mark by mark
@@ -117,18 +116,18 @@ on_other c t n j s [] its unlike go h = h
 on_other c t n j s (m ∷ marks) its unlike go h = on_other c t n j (after s m) marks its unlike go.2 (goes_other c t n j s m its unlike go.0 h)
 
 -- a mark that leaves the state, the open call and the operation
-stays_asked : (c : Cell) (j : OpenJob) (next : Standing) → next.state ≡ (standing_of c).state → next.job ≡ (standing_of c).job → next.operation ≡ (standing_of c).operation → (standing_of c).job ≡ Some j → BeginsTidy c → IsAsked c j next
+stays_asked : (c : Cell) (j : OpenJob) (next : Standing) → next.state ≡ (standing_of c).state → next.job ≡ (standing_of c).job → next.operation ≡ (standing_of c).operation → (standing_of c).job ≡ Some j → IsSteady (standing_of c) → IsAsked c j next
 stays_asked c j next st jo op is begins = record {
   now = j;
   is = jo ∙ is;
   same = refl;
   operation = λ nested. op;
   plan = subst (λ (x : State). IsPlanOf (planned_at x j) (planned_at (standing_of c).state j) j.job j.call j.boot) (sym st) (same_plan (planned_at (standing_of c).state j) j.job j.call j.boot);
-  since = subst (λ (x : State). IsSinceIn x (Some j)) (sym st) (subst (λ (x : Option OpenJob). IsSinceIn (standing_of c).state x) is (since_in c begins));
-  tidy = subst (λ (x : State). IsTidy x) (sym st) (tidy_in c begins);
+  since = subst (λ (x : State). IsSinceIn x (Some j)) (sym st) (subst (λ (x : Option OpenJob). IsSinceIn (standing_of c).state x) is begins.since);
+  tidy = subst (λ (x : State). IsTidy x) (sym st) begins.tidy;
 }
 
-begins_other : (c : Cell) (t : CoreStep ℕ) (n : ℕ) (j : OpenJob) (m : Mark ℕ) → IsStepOf n t → (j.number ≡ n → ⊥) → (standing_of c).job ≡ Some j → BeginsTidy c → BeginsBy c t (standing_of c) m → IsAsked c j (after (standing_of c) m)
+begins_other : (c : Cell) (t : CoreStep ℕ) (n : ℕ) (j : OpenJob) (m : Mark ℕ) → IsStepOf n t → (j.number ≡ n → ⊥) → (standing_of c).job ≡ Some j → IsSteady (standing_of c) → BeginsBy c t (standing_of c) m → IsAsked c j (after (standing_of c) m)
 begins_other c t n j (mark.Admit number who wanted d boot) its unlike is tidy begins = absurd (none_open j (standing_of c).job is (lets_in_free c t number who wanted d boot begins))
 begins_other c t n j (mark.Refused number who d why held) its unlike is tidy begins = stays_asked c j (after (standing_of c) (mark.Refused number who d why held)) refl refl refl is tidy
 begins_other c (step.EndOp k w) n j (mark.End number who r) its unlike is tidy begins = end_asked c j number who r is tidy begins.2
@@ -137,7 +136,7 @@ begins_other c t n j (mark.Watch number client) its unlike is tidy begins = stay
 begins_other c t n j (mark.Unwatch number client) its unlike is tidy begins = stays_asked c j (after (standing_of c) (mark.Unwatch number client)) refl refl refl is tidy
 begins_other c t n j m its unlike is tidy begins = goes_other c t n j (standing_of c) m its unlike begins (asked_first c j is tidy)
 
-left_other : (c : Cell) (t : CoreStep ℕ) (n : ℕ) (j : OpenJob) (left : List (Mark ℕ)) → IsStepOf n t → (j.number ≡ n → ⊥) → (standing_of c).job ≡ Some j → BeginsTidy c → MayLeave c t left → IsAsked c j (standing (standing_of c) left)
+left_other : (c : Cell) (t : CoreStep ℕ) (n : ℕ) (j : OpenJob) (left : List (Mark ℕ)) → IsStepOf n t → (j.number ≡ n → ⊥) → (standing_of c).job ≡ Some j → IsSteady (standing_of c) → MayLeave c t left → IsAsked c j (standing (standing_of c) left)
 left_other c t n j [] its unlike is tidy may = asked_first c j is tidy
 left_other c t n j (m ∷ left) its unlike is tidy may = on_other c t n j (after (standing_of c) m) left its unlike may.2 (begins_other c t n j m its unlike is tidy may.0)
 

@@ -1,5 +1,5 @@
 -- What is known of an open call whose boot has ended since it was let in.
-use Rattle.std.proofs.Common.{◌≡◌, ℕ, List, [], ◌∷◌, Bool, true, false, Option, None, Some, if◌then◌else◌, refl, sym, ◌∙◌, subst}
+use Rattle.std.proofs.Common.{◌≡◌, ℕ, List, Bool, true, false, Option, None, Some, if◌then◌else◌, refl, sym, ◌∙◌, subst}
 use Rattle.domain_spec.specs.Types.{Answer, Call, Domain, EndReason, GuestEvent, Live, State, Who}
 use Rattle.domain_spec.specs.Types.call
 use Rattle.domain_spec.specs.Types.state
@@ -10,31 +10,15 @@ use Rattle.domain_spec.specs.declared.open.OpenOperation.{OpenOperation}
 use Rattle.domain_spec.specs.declared.standing.Standing.{Standing}
 use Rattle.domain_spec.specs.declared.step.Outcome.{Outcome}
 use Rattle.domain_spec.specs.Call.{is_on_stored}
-use Rattle.domain_spec.specs.Cell.{Cell, standing_of}
 use Rattle.domain_spec.specs.Exit.{event_held, event_state, exit_state}
-use Rattle.domain_spec.specs.Fold.{after, after_phase, after_take_up, at_base, carries, job_at_exit, standing}
+use Rattle.domain_spec.specs.Fold.{after, after_phase, after_take_up, carries, job_at_exit}
 use Rattle.domain_spec.specs.Phase.{without_operation}
 use Rattle.domain_spec.specs.Reading.{boot_in, live_boot}
 use Rattle.domain_spec.proofs.ExitProofs.{live_boot-exit}
 use Rattle.domain_spec.proofs.PhaseExits.{live_boot-without}
 use Rattle.domain_tidy.specs.Tidy.{IsTidy, planned}
 use Rattle.domain_tidy.proofs.StoredPlans.{stored_plans}
-use Rattle.domain_tidy.proofs.TidyMarks.{every_mark}
-use Rattle.turn_marks.specs.Tidied.{BeginsTidy}
-
--- no guest is live, and a call on the stored definition plans what it planned then
-pub record IsSince (s : State) (j : OpenJob) (b : State) : Type 0 where
-  pub gone : live_boot s ≡ None
-  pub stored : is_on_stored j.call ≡ true → planned s j.call j.boot ≡ planned b j.call j.boot
-
--- so it is where its boot has ended
-abbrev pub IsSinceAt : State → OpenJob → Option State → Type 0
-IsSinceAt s j None = Unit {0}
-IsSinceAt s j (Some b) = IsSince s j b
-
-abbrev pub IsSinceIn : State → Option OpenJob → Type 0
-IsSinceIn s None = Unit {0}
-IsSinceIn s (Some j) = IsSinceAt s j j.before
+use Rattle.turn_marks.specs.Steady.{IsSince, IsSinceAt, IsSinceIn}
 
 -- mark by mark
 
@@ -111,11 +95,3 @@ since_after s (mark.End number who r) tidy h = end_since s.state s.job h
 since_after s (mark.Exit boot why events) tidy h = exit_since s.state s.job boot why tidy h
 since_after s (mark.Event boot g events) tidy h = event_since s.state s.job g h
 since_after s other tidy h = h
-
-since_on : (s : Standing) (marks : List (Mark ℕ)) → IsTidy s.state → IsSinceIn s.state s.job
-    → IsSinceIn (standing s marks).state (standing s marks).job
-since_on s [] tidy h = h
-since_on s (m ∷ marks) tidy h = since_on (after s m) marks (every_mark s m tidy) (since_after s m tidy h)
-
-pub since_in : (c : Cell) → BeginsTidy c → IsSinceIn (standing_of c).state (standing_of c).job
-since_in c h = since_on (at_base c.base) c.marks h tt

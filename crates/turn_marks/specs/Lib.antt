@@ -2,5 +2,5 @@ pub mod Answered
 pub mod Looked
 pub mod Operations
 pub mod Own
-pub mod Tidied
+pub mod Steady
 pub mod Told
