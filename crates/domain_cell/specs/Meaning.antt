@@ -11,7 +11,7 @@ use Rattle.turn_shares.specs.Shares.{whose}
 
 -- nothing is kept
 abbrev pub nothing_kept : CellShare
-nothing_kept = record { kept = record { waits = None; call = None; operation = None; registrations = []; ears = None }; monitor = None }
+nothing_kept = record { kept = record { waits = None; call = None; operation = None; registrations = []; ears = None }; monitor = None; chapter = None }
 
 -- the number of the chapter, its base and its marks
 abbrev pub history_of : Celled → History Base (Mark ℕ)

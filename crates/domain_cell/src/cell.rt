@@ -1,10 +1,14 @@
 // A domain's cell: a domain between two turns, with the link of its guest.
 ghost use Rattle.std.specs.Prelude.{◌≡◌, IfOk, length};
+ghost use Rattle.domain_spec.specs.Fold.{at_base};
+ghost use Rattle.domain_spec.specs.Legal.{IsLegal};
 ghost use Rattle.domain_spec.specs.Read.{read};
 ghost use Rattle.client_turns.specs.Places.{last_place};
 ghost use Rattle.domain_core.specs.Core.{is_occupied};
 ghost use Rattle.domain_cell.specs.Celled.{cell_in, new_cell, standing_in};
 ghost use Rattle.domain_cell.specs.Meaning.{history_of};
+ghost use Rattle.guest_links.specs.Held.{IsOutWith};
+ghost use Rattle.turn_marks.specs.Sound.{IsSound};
 
 use domain_core::DomainTurns;
 use domain_history::Chronicle;
@@ -25,14 +29,13 @@ pub struct DomainCell<M, E, Z> {
 }
 
 impl<M, E, Z> Model for DomainCell<M, E, Z> {
-    ghost use Rattle.domain_cell.specs.Celled.{Celled};
-    ghost use Rattle.guest_links.specs.Held.{IsLinked};
+    ghost use Rattle.domain_cell.specs.Celled.{Celled, IsCell};
 
     ghost Value = { Celled };
 
     ghost view = { λ c. record { core = c.turns; out = c.out } };
 
-    ghost invariant = { λ c. IsLinked c.turns.turning c.out c.link };
+    ghost invariant = { λ c. IsCell c.turns.turning c.out c.link };
 }
 
 impl<M: Monitor + Drop, E: Ears + Drop, Z: Killer + Drop> DomainCell<M, E, Z> {
@@ -99,5 +102,15 @@ impl<M: Monitor + Drop, E: Ears + Drop, Z: Killer + Drop> DomainCell<M, E, Z> {
             out: _,
         } = self;
         turns.into_history()
+    }
+
+    /// The history is legal, what was asked stays what is asked, and a monitor is out only while a call is open. It does
+    /// nothing.
+    pub fn holds(&self)
+        ensures legal { IsLegal (at_base (cell_in self.now).base) (cell_in self.now).marks }
+        ensures sound { IsSound (cell_in self.now) }
+        ensures out { IsOutWith (standing_in self.now) self.now.out }
+    {
+        let _out = self.out;
     }
 }

@@ -302,7 +302,7 @@ look_hands old new n who d f look.NoMemory out link can h looks =
 
 -- calls that begin an operation, or take one up
 
-operation_turned : (t : CoreStep ℕ) (marks : List (Mark ℕ)) (n : ℕ) (who : Who) (d : Call) (old new : Turning) (r : OperationLook) → OperationLooks t marks n who d old new r → (left : List (Mark ℕ)) × HasTurned old new t left
+pub operation_turned : (t : CoreStep ℕ) (marks : List (Mark ℕ)) (n : ℕ) (who : Who) (d : Call) (old new : Turning) (r : OperationLook) → OperationLooks t marks n who d old new r → (left : List (Mark ℕ)) × HasTurned old new t left
 operation_turned t marks n who d old new operation.Begun h = (h.0, h.1)
 operation_turned t marks n who d old new (operation.Done r) h = (h.0, h.1)
 operation_turned t marks n who d old new (operation.Excluded held boot count) h = (h.0, h.1)

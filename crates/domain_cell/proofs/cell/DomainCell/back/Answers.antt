@@ -19,7 +19,7 @@ invariant_of-self g c =
     let l = c.back-left in
     let h = c.hand_back in
     (back_handed i.turns.turning l.new.self.turning a.by.number a.answer (is_some a.ticket.monitor) (is_some a.made) l.result h.result i.out h.new.out c.made-now.result c.heard.result i.link c.put_monitor.new.link c.keep_or_take.new.link h.new.link
-    (subst (λ (v : Celled). IsAnswered (cell_in v) (is_some a.ticket.monitor) a.answer (is_some a.made)) (sym c.self.view_is) c.requires.answered) c.self.invariant l.ensures.back h.ensures.same c.made-now.ensures c.heard.ensures c.put_monitor.ensures c.keep_or_take.ensures h.ensures.link h.ensures.out).linked
+    (subst (λ (v : Celled). IsAnswered (cell_in v) (is_some a.ticket.monitor) a.answer (is_some a.made)) (sym c.self.view_is) c.requires.answered) c.self.invariant l.ensures.back h.ensures.same c.made-now.ensures c.heard.ensures c.put_monitor.ensures c.keep_or_take.ensures h.ensures.link h.ensures.out).cell
 
 pub returns-clause-ticket : goal.returns-clause-ticket
 returns-clause-ticket g c =

@@ -13,7 +13,7 @@ invariant_of-self g c =
     let l = c.look-looked in
     let h = c.hand_look in
     (look_handed i.turns.turning l.new.self.turning a.by.number a.who a.call.now a.first l.result h.result i.out h.new.out c.made-made.result i.link c.keep.new.link h.new.link
-    (subst (λ (v : Celled). CanLook (cell_in v) a.by.number a.who a.call.now a.first) (sym c.self.view_is) c.requires.can) c.self.invariant l.ensures.looks h.ensures.same c.made-made.ensures c.keep.ensures h.ensures.link h.ensures.out).linked
+    (subst (λ (v : Celled). CanLook (cell_in v) a.by.number a.who a.call.now a.first) (sym c.self.view_is) c.requires.can) c.self.invariant l.ensures.looks h.ensures.same c.made-made.ensures c.keep.ensures h.ensures.link h.ensures.out).cell
 
 pub returns-clause-ticket : goal.returns-clause-ticket
 returns-clause-ticket g c =

@@ -11,7 +11,7 @@ invariant_of-self g c =
     let l = c.phase-looked in
     let h = c.hand_phase in
     (phase_handed i.turns.turning l.new.self.turning a.by.number a.who l.result h.result i.out h.new.out c.made-made.result i.link c.keep.new.link h.new.link
-    c.self.invariant l.ensures.phases h.ensures.same c.made-made.ensures c.keep.ensures h.ensures.link h.ensures.out).linked
+    c.self.invariant l.ensures.phases h.ensures.same c.made-made.ensures c.keep.ensures h.ensures.link h.ensures.out).cell
 
 pub returns-clause-ticket : goal.returns-clause-ticket
 returns-clause-ticket g c =
