@@ -28,7 +28,8 @@ use Rattle.guest_links.specs.declared.ticket.PhaseLook.{PhaseLook}
 use Rattle.guest_links.specs.declared.ticket.Ticket.{Ticket}
 use Rattle.guest_links.proofs.Linking.{Hands, IsAside, same_keeps, aside_linked, back_hands, begin_linked, look_hands, operation_turned, phase_hands, take_up_linked}
 use Rattle.domain_spec.proofs.TurnProofs.{holds_after, holds_led}
-use Rattle.turn_marks.proofs.Sounding.{turns_keep_sound}
+use Rattle.turn_marks.specs.Steady.{IsSteady}
+use Rattle.turn_marks.proofs.Steadying.{turns_keep_steady}
 use Rattle.domain_core.proofs.Whole.{looks_turned}
 use Rattle.domain_core.proofs.Operating.{phase_turned}
 use Rattle.domain_cell.specs.Celled.{IsCell}
@@ -36,8 +37,6 @@ use Rattle.domain_spec.specs.declared.standing.Base.{Base}
 use Rattle.domain_spec.specs.Fold.{at_base, standing}
 use Rattle.domain_spec.specs.Laws.{IsCounted}
 use Rattle.domain_spec.specs.Legal.{IsLegal}
-use Rattle.domain_tidy.specs.Guests.{HasOwnGuest}
-use Rattle.domain_tidy.specs.Tidy.{IsTidy}
 use Rattle.operation_turns.specs.Beginning.{Looks as OperationLooks}
 use Rattle.operation_turns.specs.declared.beginning.OperationLook.{OperationLook}
 use Rattle.made_boots.specs.Made.{AsksThis, made_boot, makes}
@@ -49,17 +48,14 @@ use Rattle.operation_turns.specs.declared.phasing.PhaseLook.{PhaseLook as CorePh
 pub cell_after : (old new : Turning) (t : CoreStep ℕ) (left : List (Mark ℕ)) (out out_now : Option ℕ) (link now : Option Linked) → HasTurned old new t left → IsCell old out link → IsLinked new out_now now → IsCell new out_now now
 cell_after old new t left out out_now link now turned h linked =
     let holds = holds_led old.cell new.cell t left turned.leads (holds_after old.cell t left turned.turn (h.counted, h.legal)) in
-    record { linked = linked; sound = turns_keep_sound old.cell new.cell t left turned.turn turned.leads h.sound; counted = holds.0; legal = holds.1 }
+    record { linked = linked; steady = turns_keep_steady old.cell new.cell t left turned.turn turned.leads h.steady; counted = holds.0; legal = holds.1 }
 
 pub cell_still : (old new : Turning) (out out_now : Option ℕ) (link now : Option Linked) → new.cell.base ≡ old.cell.base → new.cell.marks ≡ old.cell.marks → IsCell old out link → IsLinked new out_now now → IsCell new out_now now
 cell_still old new out out_now link now base marks h linked = record {
   linked = linked;
-  sound = record {
-    tidy = subst (λ (b : Base). IsTidy b.state) (sym base) h.sound.tidy;
-    guests = subst (λ (b : Base). HasOwnGuest b.state b.operation) (sym base) h.sound.guests;
-    lost =
-        ap (λ (b : Base). (standing (at_base b) new.cell.marks).lost) base ∙ ap (λ (ms : List (Mark ℕ)). (standing (at_base old.cell.base) ms).lost) marks ∙ h.sound.lost;
-  };
+  steady =
+      subst (λ (b : Base). IsSteady (standing (at_base b) new.cell.marks)) (sym base)
+      (subst (λ (ms : List (Mark ℕ)). IsSteady (standing (at_base old.cell.base) ms)) (sym marks) h.steady);
   counted = subst (λ (b : Base). IsCounted (at_base b)) (sym base) h.counted;
   legal =
       subst (λ (b : Base). IsLegal (at_base b) new.cell.marks) (sym base) (subst (λ (ms : List (Mark ℕ)). IsLegal (at_base old.cell.base) ms) (sym marks) h.legal);

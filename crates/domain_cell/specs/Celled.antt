@@ -11,7 +11,7 @@ use Rattle.domain_turns.specs.Turning.{Turning}
 use Rattle.guest_links.specs.Held.{IsLinked}
 use Rattle.guest_links.specs.Linked.{Linked}
 use Rattle.made_boots.specs.Made.{made_boot}
-use Rattle.turn_marks.specs.Sound.{IsSound}
+use Rattle.turn_marks.specs.Steady.{IsSteady}
 
 -- the domain between two turns, and the boot whose monitor is out with the ticket of the open call
 pub record Celled : Type 0 where
@@ -71,6 +71,6 @@ boot_to_lend c = lendable (made_boot (standing_in c)) (cell_in c).held (cell_in 
 -- boots are counted, and what was asked stays what is asked
 pub record IsCell (t : Turning) (out : Option ℕ) (link : Option Linked) : Type 0 where
   pub linked : IsLinked t out link
-  pub sound : IsSound t.cell
+  pub steady : IsSteady (standing_of t.cell)
   pub counted : IsCounted (at_base t.cell.base)
   pub legal : IsLegal (at_base t.cell.base) t.cell.marks

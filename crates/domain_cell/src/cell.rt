@@ -8,7 +8,7 @@ ghost use Rattle.domain_core.specs.Core.{is_occupied};
 ghost use Rattle.domain_cell.specs.Celled.{cell_in, new_cell, standing_in};
 ghost use Rattle.domain_cell.specs.Meaning.{history_of};
 ghost use Rattle.guest_links.specs.Held.{IsOutWith};
-ghost use Rattle.turn_marks.specs.Sound.{IsSound};
+ghost use Rattle.turn_marks.specs.Steady.{IsSteady};
 
 use domain_core::DomainTurns;
 use domain_history::Chronicle;
@@ -108,7 +108,7 @@ impl<M: Monitor + Drop, E: Ears + Drop, Z: Killer + Drop> DomainCell<M, E, Z> {
     /// nothing.
     pub fn holds(&self)
         ensures legal { IsLegal (at_base (cell_in self.now).base) (cell_in self.now).marks }
-        ensures sound { IsSound (cell_in self.now) }
+        ensures steady { IsSteady (standing_in self.now) }
         ensures out { IsOutWith (standing_in self.now) self.now.out }
     {
         let _out = self.out;

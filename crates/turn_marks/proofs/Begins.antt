@@ -58,7 +58,7 @@ pub beginnings_leave : BeginningsLeave
 beginnings_leave old new n who d look.Begun h = (h.0, h.1, begun_leaves old.cell new.cell n who d h.0 h.2.0 h.1.leads)
 beginnings_leave old new n who d (look.Done r) h = (h.0, h.1, begun_done old.cell n who d r h.0 h.1.turn h.2)
 beginnings_leave old new n who d (look.Excluded held boot looks) h = (h.0, h.1, ap (λ (ms : List (Mark ℕ)). own whose n ms) h.2.0)
-beginnings_leave old new n who d (look.WaitersFull w) h = (h.0, h.1, refusals_are_own n who d code.TooManyWaiting h.0 h.2.0)
+beginnings_leave old new n who d (look.WaitersFull w) h = (h.0, h.1, refusals_are_own old.cell (step.BeginOp n who d) n who d code.TooManyWaiting h.0 h.1.turn h.2.0)
 beginnings_leave old new n who d look.NoMemory h = (h.0, h.1, ap (λ (ms : List (Mark ℕ)). own whose n ms) h.2)
 
 taken_done : (c : Cell) (n : ℕ) (who : Who) (d : Call) (r : Reply) (left : List (Mark ℕ)) → IsTurn c (step.TakeUp n who d) left → HasDone n r left → IsDoneAtOnce n who d (live_in c) r left
@@ -94,5 +94,5 @@ pub takings_up_leave : TakingsUpLeave
 takings_up_leave old new n who d look.Begun h = (h.0, h.1, taken_leaves old.cell new.cell n who d h.0 h.2.0 h.1.turn h.1.leads)
 takings_up_leave old new n who d (look.Done r) h = (h.0, h.1, taken_done old.cell n who d r h.0 h.1.turn h.2)
 takings_up_leave old new n who d (look.Excluded held boot looks) h = (h.0, h.1, ap (λ (ms : List (Mark ℕ)). own whose n ms) h.2.0)
-takings_up_leave old new n who d (look.WaitersFull w) h = (h.0, h.1, refusals_are_own n who d code.TooManyWaiting h.0 h.2.0)
+takings_up_leave old new n who d (look.WaitersFull w) h = (h.0, h.1, refusals_are_own old.cell (step.TakeUp n who d) n who d code.TooManyWaiting h.0 h.1.turn h.2.0)
 takings_up_leave old new n who d look.NoMemory h = (h.0, h.1, ap (λ (ms : List (Mark ℕ)). own whose n ms) h.2)

@@ -1,12 +1,10 @@
 -- The first mark of a turn in which a call may be let in.
-use Rattle.std.proofs.Common.{◌≡◌, ◌⊎◌, inl, inr, ℕ, zero, suc, ◌==◌, List, [], ◌∷◌, ◌++◌, filter, length, replicate, not, Bool, true, false, Option, None, Some, if◌then◌else◌, refl, sym, ap, ◌∙◌, subst, eq-eqb}
-use Rattle.std.specs.Prelude.{zip}
+use Rattle.std.proofs.Common.{◌≡◌, ℕ, zero, suc, ◌==◌, List, [], ◌∷◌, length, replicate, not, Bool, true, false, Option, None, Some, if◌then◌else◌, refl, sym, ap, ◌∙◌, subst, eq-eqb}
 use Rattle.history_spec.specs.Pass.{own}
-use Rattle.domain_spec.specs.Types.{Answer, Ask, Call, Job, RefusalCode, Reply, Transition, Who}
+use Rattle.domain_spec.specs.Types.{Answer, Ask, Call, Job, Reply, Transition, Who}
 use Rattle.domain_spec.specs.Types.answer
 use Rattle.domain_spec.specs.declared.core_step.CoreStep.{CoreStep}
 use Rattle.domain_spec.specs.declared.core_step.CoreStep.TheVariants as step
-use Rattle.domain_spec.specs.declared.mark.HeldJobs.{HeldJobs}
 use Rattle.domain_spec.specs.declared.mark.Mark.{Mark}
 use Rattle.domain_spec.specs.declared.mark.Mark.TheVariants as mark
 use Rattle.domain_spec.specs.declared.open.OpenJob.{OpenJob}
@@ -19,15 +17,15 @@ use Rattle.domain_spec.specs.Cell.{Cell, OpenCall, as_let_in, asks_so_far, call_
 use Rattle.domain_spec.specs.Fold.{after, standing}
 use Rattle.domain_spec.specs.Lawful.{IsDone}
 use Rattle.domain_spec.specs.Steps.{AnswersBy, LetsIn}
-use Rattle.domain_spec.specs.Turns.{BeginsBy, GoOn, GoesOnBy, Leads, MayLeave}
+use Rattle.domain_spec.specs.Turns.{BeginsBy, GoesOnBy, MayLeave}
 use Rattle.domain_turns.specs.Phased.{HasLedTo}
 use Rattle.domain_turns.specs.Turning.{AsksLast, HasDone}
 use Rattle.turn_shares.specs.Shares.{IsStepOf, whose}
 use Rattle.turn_shares.proofs.Jobs.{differ}
 use Rattle.turn_marks.specs.Looked.{IsDoneAtOnce, IsLetIn}
-use Rattle.turn_marks.specs.Told.{is_no_memory, told}
-use Rattle.turn_marks.proofs.Owning.{done_owned, led_owned, own_here, own_nobody}
-use Rattle.turn_marks.proofs.Walking.{IsDoneIn, IsNot, IsOpenAs, IsPhasedIn, IsWithOperation, done_in, goes_not, none_of, open_keeps, phased_in, with_keeps}
+use Rattle.turn_marks.specs.Told.{told}
+use Rattle.turn_marks.proofs.Owning.{done_owned, led_owned, own_here}
+use Rattle.turn_marks.proofs.Walking.{IsDoneIn, IsOpenAs, IsPhasedIn, IsWithOperation, done_in, goes_not, none_of, open_keeps, phased_in, with_keeps}
 
 -- asks for which there was no memory are not told
 pub starved_told : (asks : List Ask) (more : ℕ) → told asks (replicate more answer.NoMemory) ≡ []

@@ -3,9 +3,10 @@ pub mod Backs
 pub mod Begins
 pub mod Entering
 pub mod Looks
+pub mod Others
 pub mod Owning
 pub mod Phases
 pub mod Plans
 pub mod Since
-pub mod Sounding
+pub mod Steadying
 pub mod Walking

@@ -1,8 +1,7 @@
 -- What a look leaves of its own.
-use Rattle.std.proofs.Common.{◌≡◌, ℕ, List, [], ◌∷◌, length, replicate, Option, None, Some, refl, sym, ap, ◌∙◌, subst}
+use Rattle.std.proofs.Common.{◌≡◌, ℕ, List, [], ◌∷◌, length, Option, Some, refl, ap, ◌∙◌, subst}
 use Rattle.history_spec.specs.Pass.{own}
-use Rattle.domain_spec.specs.Types.{Answer, Ask, Call, Job, Reply, Who}
-use Rattle.domain_spec.specs.Types.answer
+use Rattle.domain_spec.specs.Types.{Ask, Call, Job, Reply, Who}
 use Rattle.domain_spec.specs.Types.code
 use Rattle.domain_spec.specs.declared.core_step.CoreStep.{CoreStep}
 use Rattle.domain_spec.specs.declared.core_step.CoreStep.TheVariants as step
@@ -19,13 +18,12 @@ use Rattle.domain_spec.specs.Fold.{standing}
 use Rattle.domain_spec.specs.Reading.{live_boot}
 use Rattle.domain_spec.specs.Steps.{AnswersBy, IsAdmitOf}
 use Rattle.domain_spec.specs.Turns.{AnswersAfter, IsTurn, Leads}
-use Rattle.domain_turns.specs.declared.looking.Looked.{Looked}
 use Rattle.domain_turns.specs.declared.looking.Looked.TheVariants as looked
-use Rattle.domain_turns.specs.Looking.{Looks, boot_first}
-use Rattle.domain_turns.specs.Turning.{AsksLast, HasDone, Turning}
+use Rattle.domain_turns.specs.Looking.{boot_first}
+use Rattle.domain_turns.specs.Turning.{AsksLast, HasDone}
 use Rattle.turn_shares.specs.Shares.{whose}
 use Rattle.turn_shares.proofs.Jobs.{on_base}
-use Rattle.turn_marks.specs.Looked.{IsDoneAtOnce, IsLetIn, LookLeaves, LooksLeave}
+use Rattle.turn_marks.specs.Looked.{IsDoneAtOnce, IsLetIn, LooksLeave}
 use Rattle.turn_marks.proofs.Entering.{IsEntered, IsEnteredDone, done_at_once, entered, entered_done, let_in, opened}
 use Rattle.turn_marks.proofs.Owning.{refusals_are_own}
 
@@ -78,5 +76,5 @@ pub looks_leave : LooksLeave
 looks_leave old new n who d f (looked.Done r) h = (h.0, h.1, look_done old.cell n who d f r h.0 h.1.turn h.2)
 looks_leave old new n who d f (looked.Away x) h = (h.0, h.1, look_away old.cell new.cell n who d f x h.0 h.1.turn h.1.leads h.2.0 h.2.1)
 looks_leave old new n who d f (looked.Excluded held boot looks) h = (h.0, h.1, ap (λ (ms : List (Mark ℕ)). own whose n ms) h.2.0)
-looks_leave old new n who d f (looked.WaitersFull w) h = (h.0, h.1, refusals_are_own n who d code.TooManyWaiting h.0 h.2.0)
+looks_leave old new n who d f (looked.WaitersFull w) h = (h.0, h.1, refusals_are_own old.cell (step.Look n who d f) n who d code.TooManyWaiting h.0 h.1.turn h.2.0)
 looks_leave old new n who d f looked.NoMemory h = (h.0, h.1, ap (λ (ms : List (Mark ℕ)). own whose n ms) h.2)

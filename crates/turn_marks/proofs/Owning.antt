@@ -1,23 +1,25 @@
 -- Which marks bear a number.
-use Rattle.std.proofs.Common.{◌≡◌, ℕ, ◌==◌, List, [], ◌∷◌, Bool, true, false, Option, None, Some, if◌then◌else◌, refl, sym, ap, ◌∙◌, eq-eqb, arith}
-use Rattle.std.proofs.lemmas.Bool.Decides.{nat_tests}
-use Rattle.history_spec.specs.Pass.{AreOf, IsOf, bears, own}
-use Rattle.domain_spec.specs.Types.{Call, RefusalCode, Reply, Who}
+use Rattle.std.proofs.Common.{◌≡◌, ℕ, ◌==◌, List, [], ◌∷◌, map, Bool, true, false, Option, None, Some, if◌then◌else◌, refl, sym, ap, ◌∙◌, eq-eqb}
+use Rattle.history_spec.specs.Pass.{IsOf, bears, own}
+use Rattle.domain_spec.specs.Types.{Call, Job, RefusalCode, Reply, Who}
 use Rattle.domain_spec.specs.declared.core_step.CoreStep.{CoreStep}
 use Rattle.domain_spec.specs.declared.core_step.CoreStep.TheVariants as step
+use Rattle.domain_spec.specs.declared.mark.HeldJobs.{HeldJobs}
+use Rattle.domain_spec.specs.declared.mark.HeldOperation.{HeldOperation}
 use Rattle.domain_spec.specs.declared.mark.Mark.{Mark}
 use Rattle.domain_spec.specs.declared.mark.Mark.TheVariants as mark
 use Rattle.domain_spec.specs.declared.standing.Standing.{Standing}
 use Rattle.domain_spec.specs.declared.step.Outcome.{Outcome}
 use Rattle.domain_spec.specs.Cell.{Cell, standing_of}
 use Rattle.domain_spec.specs.Fold.{after}
+use Rattle.domain_spec.specs.Open.{job_held, operation_held}
+use Rattle.domain_spec.specs.Steps.{TurnsAway}
 use Rattle.domain_spec.specs.Turns.{BeginsBy, GoOn, GoesOnBy, MayLeave}
 use Rattle.domain_turns.specs.Phased.{HasLedTo}
-use Rattle.domain_turns.specs.Refusing.{HasRefused}
 use Rattle.domain_turns.specs.Turning.{HasDone}
 use Rattle.turn_shares.specs.Shares.{whose}
 use Rattle.turn_shares.proofs.Jobs.{differ}
-use Rattle.turn_marks.specs.Own.{AllBear, IsTurnedAway, LeavesNoOwn, OthersHaveNone, OwnAreAll, RefusalsAreOwn, SomeLeaveNone}
+use Rattle.turn_marks.specs.Own.{LeavesNoOwn, OthersHaveNone, OwnAreAll, RefusalsAreOwn, SomeLeaveNone, jobs_in}
 
 -- the marks with one more that bears a number, or none
 abbrev with_one : ℕ → Mark ℕ → Option ℕ → List (Mark ℕ) → List (Mark ℕ)
@@ -72,18 +74,37 @@ pub others_have_none : OthersHaveNone
 others_have_none n m [] h unlike = refl
 others_have_none n m (k ∷ left) h unlike = other_by n m k left (whose k) refl h.0 unlike ∙ others_have_none n m left h.1 unlike
 
+held_by : (c : Cell) (t : CoreStep ℕ) (number : ℕ) (w : Who) (e : Call) (why : RefusalCode) (held : HeldJobs) → TurnsAway c t number w e why held → held.waiting ≡ map (λ w. w.who) c.queue.callers
+held_by c (step.Look n who d first) number w e why held h = h.0.waiting
+held_by c (step.BeginOp n who d) number w e why held h = h.0.waiting
+held_by c (step.TakeUp n who d) number w e why held h = h.0.waiting
+held_by c (step.GiveUp n who d) number w e why held h = h.0.waiting
+held_by c t number w e why held h = absurd h
+
+held_is : (c : Cell) (held : HeldJobs) → held.active ≡ job_held (standing_of c).job → held.op ≡ operation_held (standing_of c).operation → held.waiting ≡ map (λ w. w.who) c.queue.callers → held ≡ jobs_in c
+held_is c held active op waiting =
+    ap (λ (x : Option (Job × Who)). record { active = x; op = held.op; waiting = held.waiting }) active
+    ∙ ap (λ (x : Option HeldOperation). record { active = job_held (standing_of c).job; op = x; waiting = held.waiting }) op
+    ∙ ap (λ (x : List Who). record { active = job_held (standing_of c).job; op = operation_held (standing_of c).operation; waiting = x }) waiting
+
+refused_is : (c : Cell) (n number : ℕ) (who w : Who) (d e : Call) (why code : RefusalCode) (held : HeldJobs) → number ≡ n → w ≡ who → e ≡ d → code ≡ why → held ≡ jobs_in c
+    → own whose n (mark.Refused number w e code held ∷ []) ≡ mark.Refused n who d why (jobs_in c) ∷ []
+refused_is c n number who w d e why code held p q r s h =
+    own_here n (mark.Refused number w e code held) [] (ap (λ (k : ℕ). Some k) p)
+    ∙ ap (λ (k : ℕ). mark.Refused k w e code held ∷ []) p
+    ∙ ap (λ (x : Who). mark.Refused n x e code held ∷ []) q
+    ∙ ap (λ (x : Call). mark.Refused n who x code held ∷ []) r
+    ∙ ap (λ (x : RefusalCode). mark.Refused n who d x held ∷ []) s
+    ∙ ap (λ (x : HeldJobs). mark.Refused n who d why x ∷ []) h
+
 pub refusals_are_own : RefusalsAreOwn
-refusals_are_own n who d why [] h = absurd h
-refusals_are_own n who d why (mark.Refused number w e code held ∷ []) h = (
-  held,
-  own_here n (mark.Refused number w e code held) [] (ap (λ (k : ℕ). Some k) h.0)
-      ∙ ap (λ (k : ℕ). mark.Refused k w e code held ∷ []) h.0
-      ∙ ap (λ (x : Who). mark.Refused n x e code held ∷ []) h.1
-      ∙ ap (λ (x : Call). mark.Refused n who x code held ∷ []) h.2
-      ∙ ap (λ (x : RefusalCode). mark.Refused n who d x held ∷ []) h.3,
-)
-refusals_are_own n who d why (mark.Refused number w e code held ∷ k ∷ ms) h = absurd h
-refusals_are_own n who d why (m ∷ ms) h = absurd h
+refusals_are_own c t n who d why [] turn h = absurd h
+refusals_are_own c t n who d why (mark.Refused number w e code held ∷ []) turn h =
+    let begins = turn.left.0 in
+    let jobs : held ≡ jobs_in c = held_is c held begins.1.held_then.active begins.1.held_then.op (held_by c t number w e code held begins.0) in
+    refused_is c n number who w d e why code held h.0 h.1 h.2 h.3 jobs
+refusals_are_own c t n who d why (mark.Refused number w e code held ∷ k ∷ ms) turn h = absurd h
+refusals_are_own c t n who d why (m ∷ ms) turn h = absurd h
 
 -- steps that leave none
 

@@ -1,8 +1,7 @@
 -- What the turn of a due phase leaves of its own.
-use Rattle.std.proofs.Common.{◌≡◌, ℕ, ◌==◌, List, [], ◌∷◌, length, replicate, Bool, true, false, not, ◌&&◌, Option, None, Some, if◌then◌else◌, refl, sym, ap, ◌∙◌, subst, eq-eqb}
+use Rattle.std.proofs.Common.{◌≡◌, ℕ, List, [], ◌∷◌, length, Bool, false, not, ◌&&◌, Option, None, Some, if◌then◌else◌, refl, sym, ap, ◌∙◌, subst, eq-eqb}
 use Rattle.history_spec.specs.Pass.{own}
 use Rattle.domain_spec.specs.Types.{Answer, Ask, Call, Job, Phase, Reply, Transition, Who}
-use Rattle.domain_spec.specs.Types.answer
 use Rattle.domain_spec.specs.Types.job
 use Rattle.domain_spec.specs.declared.core_step.CoreStep.{CoreStep}
 use Rattle.domain_spec.specs.declared.core_step.CoreStep.TheVariants as step
@@ -16,10 +15,10 @@ use Rattle.domain_spec.specs.declared.step.Outcome.TheVariants as outcome
 use Rattle.domain_spec.specs.CanTake.{IsNotJobOf, IsOperationOf}
 use Rattle.domain_spec.specs.Cell.{Cell, operation_of, share_of, standing_of}
 use Rattle.domain_spec.specs.Fold.{after, standing}
-use Rattle.domain_spec.specs.Lawful.{IsEnded, IsPhaseOf, IsPhased}
+use Rattle.domain_spec.specs.Lawful.{IsEnded, IsPhased}
 use Rattle.domain_spec.specs.Open.{is_rest}
 use Rattle.domain_spec.specs.Reading.{live_boot}
-use Rattle.domain_spec.specs.Steps.{AnswersBy, IsPhaseAdmit, IsPhaseLetIn}
+use Rattle.domain_spec.specs.Steps.{AnswersBy, IsPhaseLetIn}
 use Rattle.domain_spec.specs.Turns.{IsTurn, Leads, MayLeave}
 use Rattle.domain_history.specs.Closing.{reply_in}
 use Rattle.domain_ledger.specs.Operations.{IsToldAtEnd}
@@ -32,11 +31,9 @@ use Rattle.turn_shares.specs.Shares.{whose}
 use Rattle.turn_shares.proofs.Jobs.{on_base}
 use Rattle.turn_marks.specs.Looked.{IsLetIn}
 use Rattle.turn_marks.specs.Operations.{EndsLeave, IsEndedNow, IsPhasedAtOnce, PhasesLeave, live_in}
-use Rattle.turn_marks.specs.Told.{told}
 use Rattle.turn_marks.proofs.Entering.{IsEntered, IsEnteredPhased, entered, entered_phased, none_told, opened, starved_by}
 use Rattle.turn_marks.proofs.Looks.{starved_after}
 use Rattle.turn_marks.proofs.Owning.{own_here}
-use Rattle.turn_marks.proofs.Walking.{IsPhasedIn}
 
 -- the operation of a number
 

@@ -1,6 +1,5 @@
 -- What was asked by some answers is the beginning of what was asked by more.
-use Rattle.std.proofs.Common.{◌≡◌, ℕ, zero, suc, ◌+◌, ◌≤◌, List, [], ◌∷◌, ◌++◌, filter, length, take, drop, replicate, not, Bool, true, false, Option, None, Some, if◌then◌else◌, refl, sym, ap, ◌∙◌, subst, arith}
-use Rattle.std.specs.Prelude.{zip}
+use Rattle.std.proofs.Common.{◌≡◌, ℕ, ◌+◌, ◌≤◌, List, [], ◌∷◌, ◌++◌, length, take, drop, replicate, not, Bool, true, false, Option, None, Some, if◌then◌else◌, refl, sym, ap, ◌∙◌, arith}
 use Rattle.std.proofs.lemmas.List.{append_assoc, length-append, length-take}
 use Rattle.domain_spec.specs.Types.{Answer, Ask, Call, Domain, Job, Live, Op, State}
 use Rattle.domain_spec.specs.Types.answer
@@ -17,7 +16,6 @@ use Rattle.domain_spec.specs.PhaseAsks.{copied_bytes, phase_plan}
 use Rattle.domain_spec.specs.Reading.{boot_in, carries_ended, live_boot}
 use Rattle.domain_spec.specs.Sequential.{asked, still_asked}
 use Rattle.core_rules.specs.Next.{next_of}
-use Rattle.core_rules.specs.declared.next.Next.TheVariants as next
 use Rattle.ask_course.specs.Along.{made_along}
 use Rattle.ask_course.specs.Copying.{written}
 use Rattle.ask_course.proofs.Courses.{made_more, made_so}
@@ -98,7 +96,7 @@ plan_more plan xs x ys e = plan_by (asks_left plan xs) plan xs x ys refl e
 
 -- a call
 
-call_is : (s : State) (j : OpenJob) (answers : List Answer) → call_asks s j answers ≡ so_far (planned s j.call j.boot) answers
+pub call_is : (s : State) (j : OpenJob) (answers : List Answer) → call_asks s j answers ≡ so_far (planned s j.call j.boot) answers
 call_is s j answers =
     ap (λ (asks : List Ask). asks ++ take 1 (still_asked s j.call j.boot answers)) (sym (asked_planned s j.call j.boot answers))
     ∙ ap (λ (asks : List Ask). asks_made (planned s j.call j.boot) answers ++ take 1 asks) (sym (still_planned s j.call j.boot answers))
@@ -149,7 +147,7 @@ no_plan_on : (d : Domain) (op : Option Op) (c : Call) (answers : List Answer) �
 no_plan_on d None c answers e = refl
 no_plan_on d (Some op) c answers e = no_guest d d.live op c answers e
 
-no_plan : (s : State) (c : Call) (answers : List Answer) → live_boot s ≡ None → plan_in s c answers ≡ []
+pub no_plan : (s : State) (c : Call) (answers : List Answer) → live_boot s ≡ None → plan_in s c answers ≡ []
 no_plan (state.Vacant boots) c answers e = refl
 no_plan (state.Held d) c answers e = no_plan_on d d.op c answers e
 
@@ -157,10 +155,13 @@ along_none : (answers : List Answer) → made_along [] answers ≡ []
 along_none [] = refl
 along_none (a ∷ answers) = refl
 
-nothing_asked : (xs : List Answer) → length (so_far [] xs) ≡ length xs + 1 → ⊥
+pub made_none : (answers : List Answer) → asks_made [] answers ≡ []
+made_none answers = sym (made_so [] answers) ∙ along_none answers
+
+pub nothing_asked : (xs : List Answer) → length (so_far [] xs) ≡ length xs + 1 → ⊥
 nothing_asked xs e =
     let h = plan_more [] xs answer.NoMemory [] e in
-    let none : length (so_far [] xs ++ h.0) ≡ 0 = ap length (sym h.1 ∙ sym (made_so [] (xs ++ answer.NoMemory ∷ [])) ∙ along_none (xs ++ answer.NoMemory ∷ [])) in
+    let none : length (so_far [] xs ++ h.0) ≡ 0 = ap length (sym h.1 ∙ made_none (xs ++ answer.NoMemory ∷ [])) in
     let long : length (so_far [] xs ++ h.0) ≡ length (so_far [] xs) + length h.0 = length-append (so_far [] xs) h.0 in
     omega (arith, e, none, long)
 

@@ -1,6 +1,6 @@
 -- How the open call of a number fares in a turn: nothing is left of the number's own until its call is closed, and
 -- nothing after that.
-use Rattle.std.proofs.Common.{◌≡◌, ◌⊎◌, inl, inr, ℕ, List, [], ◌∷◌, Bool, true, false, not, ◌&&◌, Option, None, Some, if◌then◌else◌, refl, sym, ap, ◌∙◌, subst}
+use Rattle.std.proofs.Common.{◌≡◌, ℕ, List, [], ◌∷◌, Bool, true, false, not, ◌&&◌, Option, None, Some, if◌then◌else◌, refl, sym, ap, ◌∙◌, subst}
 use Rattle.history_spec.specs.Pass.{own}
 use Rattle.domain_spec.specs.Types.{Answer, Ask, Call, EndReason, GuestEvent, OpKind, Phase, Reply, State, Transition, Who}
 use Rattle.domain_spec.specs.declared.core_step.CoreStep.{CoreStep}

@@ -8,7 +8,7 @@ use Rattle.domain_spec.specs.declared.mark.Mark.TheVariants as mark
 use Rattle.domain_spec.specs.declared.open.OpenOperation.{OpenOperation}
 use Rattle.domain_spec.specs.declared.step.Outcome.{Outcome}
 use Rattle.domain_spec.specs.declared.step.Outcome.TheVariants as outcome
-use Rattle.domain_spec.specs.Cell.{OpenCall, Share, share_of}
+use Rattle.domain_spec.specs.Cell.{OpenCall, Share, share_of, standing_of}
 use Rattle.domain_ledger.specs.Ledger.{step_to}
 use Rattle.domain_ledger.specs.declared.ledger.Back.{Back}
 use Rattle.domain_ledger.specs.declared.ledger.Back.TheVariants as back
@@ -17,7 +17,7 @@ use Rattle.domain_turns.specs.Answering.{GoesBack}
 use Rattle.domain_turns.specs.Phased.{led_to}
 use Rattle.domain_turns.specs.Turning.{Takes, Turning}
 use Rattle.turn_shares.specs.Shares.{whose}
-use Rattle.turn_marks.specs.Sound.{IsSound}
+use Rattle.turn_marks.specs.Steady.{IsSteady}
 use Rattle.turn_marks.specs.Told.{told, told_then}
 
 -- the open call, which asked this last and was answered so, is done with this reply, and with all that it was told
@@ -65,5 +65,5 @@ BackLeaves n c y x old new (back.Phased st) left = IsPhasedNow n c y x old new s
 abbrev pub AnswersLeave : Type 0
 AnswersLeave =
     (old new : Turning) (n : ℕ) (x : Answer) (result : Back) (c : OpenCall) (before : List Ask) (y : Ask) → GoesBack n x old new result
-    → IsSound old.cell → (share_of old.cell n).call ≡ Some c → c.asks ≡ before ++ y ∷ []
+    → IsSteady (standing_of old.cell) → (share_of old.cell n).call ≡ Some c → c.asks ≡ before ++ y ∷ []
     → Takes old new (step.Back n x) (BackLeaves n c y x (share_of old.cell n) (share_of new.cell n) result)

@@ -2,5 +2,5 @@ pub mod Answered
 pub mod Looked
 pub mod Operations
 pub mod Own
-pub mod Sound
+pub mod Steady
 pub mod Told

@@ -40,7 +40,7 @@ pub record IsLetIn (n : ℕ) (who : Who) (wanted : Job) (d : Call) (boot : Optio
 abbrev pub LookLeaves : ℕ → Who → Call → First → Cell → Cell → Looked → List (Mark ℕ) → Type 0
 LookLeaves n who d f old new (looked.Done r) left = IsDoneAtOnce n who d (boot_first f (live_boot (standing_of old).state)) r left
 LookLeaves n who d f old new (looked.Away x) left = IsLetIn n who (job_of d) d (boot_first f (live_boot (standing_of old).state)) (share_of new n).call x left
-LookLeaves n who d f old new (looked.WaitersFull waiting) left = IsTurnedAway n who d code.TooManyWaiting left
+LookLeaves n who d f old new (looked.WaitersFull waiting) left = IsTurnedAway n who d code.TooManyWaiting old left
 LookLeaves n who d f old new other left = own whose n left ≡ []
 
 -- so it is with each look

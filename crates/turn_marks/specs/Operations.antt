@@ -31,17 +31,17 @@ use Rattle.turn_marks.specs.Looked.{IsDoneAtOnce, IsLetIn}
 use Rattle.turn_marks.specs.Own.{IsTurnedAway}
 use Rattle.turn_marks.specs.Told.{told}
 
--- what a call leaves of its own that looks whether its operation may begin or be taken up, where it carries this boot:
--- Admit and this mark, and the operation; Admit and Done; Refused; or nothing
-abbrev pub OperationLeaves : ℕ → Who → Call → Option ℕ → Mark ℕ → Type 0 → OperationLook → List (Mark ℕ) → Type 0
-OperationLeaves n who d boot first IsThere look.Begun left = (own whose n left ≡ mark.Admit n who (job_of d) d boot ∷ first ∷ []) × IsThere
-OperationLeaves n who d boot first IsThere (look.Done r) left = IsDoneAtOnce n who d boot r left
-OperationLeaves n who d boot first IsThere (look.WaitersFull waiting) left = IsTurnedAway n who d code.TooManyWaiting left
-OperationLeaves n who d boot first IsThere other left = own whose n left ≡ []
-
 -- the boot that is live
 abbrev pub live_in : Cell → Option ℕ
 live_in c = live_boot (standing_of c).state
+
+-- what a call leaves of its own that looks whether its operation may begin or be taken up: Admit and this mark, and the
+-- operation; Admit and Done; Refused; or nothing
+abbrev pub OperationLeaves : ℕ → Who → Call → Cell → Mark ℕ → Type 0 → OperationLook → List (Mark ℕ) → Type 0
+OperationLeaves n who d old first IsThere look.Begun left = (own whose n left ≡ mark.Admit n who (job_of d) d (live_in old) ∷ first ∷ []) × IsThere
+OperationLeaves n who d old first IsThere (look.Done r) left = IsDoneAtOnce n who d (live_in old) r left
+OperationLeaves n who d old first IsThere (look.WaitersFull waiting) left = IsTurnedAway n who d code.TooManyWaiting old left
+OperationLeaves n who d old first IsThere other left = own whose n left ≡ []
 
 -- the number has the operation that began
 abbrev pub HasStarted : ℕ → Who → Call → Cell → Cell → Type 0
@@ -55,13 +55,13 @@ HasTakenUp n who d old new = (o : OpenOperation) × ((standing_of old).operation
 abbrev pub BeginningsLeave : Type 0
 BeginningsLeave =
     (old new : Turning) (n : ℕ) (who : Who) (d : Call) (result : OperationLook) → LooksToBegin n who d old new result
-    → Takes old new (step.BeginOp n who d) (OperationLeaves n who d (live_in old.cell) (mark.Start n who d (live_in old.cell)) (HasStarted n who d old.cell new.cell) result)
+    → Takes old new (step.BeginOp n who d) (OperationLeaves n who d old.cell (mark.Start n who d (live_in old.cell)) (HasStarted n who d old.cell new.cell) result)
 
 -- and with each that looks whether it may take one up
 abbrev pub TakingsUpLeave : Type 0
 TakingsUpLeave =
     (old new : Turning) (n : ℕ) (who : Who) (d : Call) (result : OperationLook) → LooksToTakeUp n who d old new result
-    → Takes old new (step.TakeUp n who d) (OperationLeaves n who d (live_in old.cell) (mark.TakeUp n who d) (HasTakenUp n who d old.cell new.cell) result)
+    → Takes old new (step.TakeUp n who d) (OperationLeaves n who d old.cell (mark.TakeUp n who d) (HasTakenUp n who d old.cell new.cell) result)
 
 -- the due phase was let in and done, and leads on so; so does the operation; nobody was asked anything
 pub record IsPhasedAtOnce (n : ℕ) (who : Who) (boot : Option ℕ) (o : OpenOperation) (now : Option OpenOperation) (st : Step) (left : List (Mark ℕ)) : Type 0 where

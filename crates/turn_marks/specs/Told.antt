@@ -1,5 +1,5 @@
 -- What was asked of others, with what they answered.
-use Rattle.std.specs.Prelude.{ℕ, List, [], ◌∷◌, ◌++◌, filter, not, zip, Bool, true, false}
+use Rattle.std.specs.Prelude.{List, [], ◌∷◌, ◌++◌, filter, not, zip, Bool, true, false}
 use Rattle.domain_spec.specs.Types.{Answer, Ask}
 use Rattle.domain_spec.specs.Types.answer
 use Rattle.domain_spec.specs.Cell.{OpenCall}

@@ -3,7 +3,7 @@ ghost use Rattle.turn_marks.specs.Answered.{AnswersLeave};
 ghost use Rattle.turn_marks.specs.Looked.{LooksLeave};
 ghost use Rattle.turn_marks.specs.Operations.{BeginningsLeave, EndsLeave, PhasesLeave, TakingsUpLeave};
 ghost use Rattle.turn_marks.specs.Own.{OthersHaveNone, OwnAreAll, RefusalsAreOwn, SomeLeaveNone};
-ghost use Rattle.turn_marks.specs.Sound.{OpenedIsSound, TurnsKeepSound};
+ghost use Rattle.turn_marks.specs.Steady.{OpenedIsSteady, OthersAskOn, TurnsKeepSteady};
 
 /// Where each mark bears one number, all of them are its own.
 pub fn own_are_all()
@@ -25,14 +25,19 @@ pub fn refusals_are_own()
     ensures { RefusalsAreOwn }
 {}
 
-/// A cell as the store was opened is sound.
-pub fn opened_is_sound()
-    ensures { OpenedIsSound }
+/// What is in force where the store was opened is steady.
+pub fn opened_is_steady()
+    ensures { OpenedIsSteady }
 {}
 
-/// Each turn keeps a cell sound.
-pub fn turns_keep_sound()
-    ensures { TurnsKeepSound }
+/// And so is what is in force after each turn.
+pub fn turns_keep_steady()
+    ensures { TurnsKeepSteady }
+{}
+
+/// What a call has asked and was answered stays in the turns of other numbers.
+pub fn others_ask_on()
+    ensures { OthersAskOn }
 {}
 
 /// A look leaves its Admit and Done, its Admit, its Refused, or nothing of its own.

@@ -4,7 +4,7 @@
 mod laws;
 
 pub use laws::{
-    answers_leave, beginnings_leave, ends_leave, looks_leave, opened_is_sound, others_have_none,
-    own_are_all, phases_leave, refusals_are_own, some_leave_none, takings_up_leave,
-    turns_keep_sound,
+    answers_leave, beginnings_leave, ends_leave, looks_leave, opened_is_steady, others_ask_on,
+    others_have_none, own_are_all, phases_leave, refusals_are_own, some_leave_none,
+    takings_up_leave, turns_keep_steady,
 };
