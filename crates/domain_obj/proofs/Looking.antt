@@ -41,7 +41,7 @@ use Rattle.turn_cell.specs.Turning.{Changes, HasTurned as PassTurned}
 use Rattle.turn_cell.proofs.Turning.{has_turned}
 use Rattle.turn_marks.specs.Answered.{BackLeaves}
 use Rattle.turn_marks.specs.Looked.{LookLeaves}
-use Rattle.turn_marks.specs.Sound.{IsSound}
+use Rattle.turn_marks.specs.Steady.{IsSteady}
 use Rattle.turn_marks.proofs.Looks.{looks_leave}
 use Rattle.turn_marks.proofs.Backs.{answers_leave}
 use Rattle.turn_shares.specs.Chapters.{marks_kept}
@@ -158,37 +158,37 @@ back_waits n x old new (core_back.Away y) o h e = awaits_now new.cell n o y h.1.
 back_waits n x old new (core_back.Done r) o h e = tt
 back_waits n x old new (core_back.Phased st) o h e = tt
 
-back_leaves : (before : DomainPass) (turn : DomainTurn) (mid : Celled) (asked : Ask) (x : Answer) (r : CoreBack) (c : OpenCall) (asks : List Ask) → Enters meaning before turn → IsSound (cell_in turn.value) → before.share.kept.call ≡ Some c → c.asks ≡ asks ++ asked ∷ []
+back_leaves : (before : DomainPass) (turn : DomainTurn) (mid : Celled) (asked : Ask) (x : Answer) (r : CoreBack) (c : OpenCall) (asks : List Ask) → Enters meaning before turn → IsSteady (standing_in turn.value) → before.share.kept.call ≡ Some c → c.asks ≡ asks ++ asked ∷ []
     → GoesBack turn.pass.number x turn.value.core.turning mid.core.turning r
     → Takes turn.value.core.turning mid.core.turning (step.Back turn.pass.number x) (BackLeaves turn.pass.number c asked x (share_of (cell_in turn.value) turn.pass.number) (share_of (cell_in mid) turn.pass.number) r)
-back_leaves before turn mid asked x r c asks enters sound was is goes =
-    answers_leave turn.value.core.turning mid.core.turning turn.pass.number x r c asks asked goes sound (ap (λ (s : Share). s.call) (sym (kept_found before turn enters)) ∙ was) is
+back_leaves before turn mid asked x r c asks enters steady was is goes =
+    answers_leave turn.value.core.turning mid.core.turning turn.pass.number x r c asks asked goes steady (ap (λ (s : Share). s.call) (sym (kept_found before turn enters)) ∙ was) is
 
-pub back_may_leave : {M : Type 0} (before : DomainPass) (first turn mid now : DomainTurn) (asked : Ask) (x : Answer) (r : Back M) → IsAsked before asked → Enters meaning before first → turn ≡ first → IsSound (cell_in first.value)
+pub back_may_leave : {M : Type 0} (before : DomainPass) (first turn mid now : DomainTurn) (asked : Ask) (x : Answer) (r : Back M) → IsAsked before asked → Enters meaning before first → turn ≡ first → IsSteady (standing_in first.value)
     → GoesBackIn turn.pass.number x turn.value mid.value r → mid ≡ record turn { value = mid.value } → now ≡ mid → (more : List (Mark ℕ)) × Changes meaning now.pass.number more now.entry now.value
-back_may_leave before first turn mid now asked x r last entered begun sound goes same told =
+back_may_leave before first turn mid now asked x r last entered begun steady goes same told =
     let enters : Enters meaning before turn = subst (λ (t : DomainTurn). Enters meaning before t) (sym begun) entered in
-    let sound_now : IsSound (cell_in turn.value) = subst (λ (t : DomainTurn). IsSound (cell_in t.value)) (sym begun) sound in
+    let steady_now : IsSteady (standing_in turn.value) = subst (λ (t : DomainTurn). IsSteady (standing_in t.value)) (sym begun) steady in
     let (c, was, asks, is) = open_call before.share.kept.call asked last in
     let value : now.value ≡ mid.value = ap (λ (t : DomainTurn). t.value) told in
     let n = turn.pass.number in
-    let leaves = back_leaves before turn mid.value asked x (back_of r) c asks enters sound_now was is goes.back in (
+    let leaves = back_leaves before turn mid.value asked x (back_of r) c asks enters steady_now was is goes.back in (
       own whose n leaves.0,
       may_leave before turn now (own whose n leaves.0) enters (kept_turn turn mid now same told)
           (subst (λ (v : Celled). Changes meaning n (own whose n leaves.0) turn.value v) (sym value) (back_changes n x turn.value mid.value leaves.0 leaves.1 goes.others)),
     )
 
-pub answered_once : {M : Type 0} (before after : DomainPass) (first turn mid now : DomainTurn) (asked : Ask) (x : Answer) (r : Back M) → IsAsked before asked → Enters meaning before first → turn ≡ first → IsSound (cell_in first.value)
+pub answered_once : {M : Type 0} (before after : DomainPass) (first turn mid now : DomainTurn) (asked : Ask) (x : Answer) (r : Back M) → IsAsked before asked → Enters meaning before first → turn ≡ first → IsSteady (standing_in first.value)
     → GoesBackIn turn.pass.number x turn.value mid.value r → mid ≡ record turn { value = mid.value } → now ≡ mid → IsLegalHistory (history_of mid.value) → after ≡ left_by meaning now → HasAnswered asked x before after r
-answered_once before after first turn mid now asked x r last entered begun sound goes same told legal left =
+answered_once before after first turn mid now asked x r last entered begun steady goes same told legal left =
     let enters : Enters meaning before turn = subst (λ (t : DomainTurn). Enters meaning before t) (sym begun) entered in
-    let sound_now : IsSound (cell_in turn.value) = subst (λ (t : DomainTurn). IsSound (cell_in t.value)) (sym begun) sound in
+    let steady_now : IsSteady (standing_in turn.value) = subst (λ (t : DomainTurn). IsSteady (standing_in t.value)) (sym begun) steady in
     let (c, was, asks, is) = open_call before.share.kept.call asked last in
     let value : now.value ≡ mid.value = ap (λ (t : DomainTurn). t.value) told in
     let n = turn.pass.number in
     let number : n ≡ before.number = ap (λ (p : DomainPass). p.number) enters.pass in
     let kept = kept_turn turn mid now same told in
-    let leaves = back_leaves before turn mid.value asked x (back_of r) c asks enters sound_now was is goes.back in
+    let leaves = back_leaves before turn mid.value asked x (back_of r) c asks enters steady_now was is goes.back in
     let change : Changes meaning n (own whose n leaves.0) turn.value now.value =
     subst (λ (v : Celled). Changes meaning n (own whose n leaves.0) turn.value v) (sym value) (back_changes n x turn.value mid.value leaves.0 leaves.1 goes.others) in
     let turned : PassTurned meaning before after turn.entry now.value = has_turned meaning before after turn now enters kept left in

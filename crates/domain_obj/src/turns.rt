@@ -11,7 +11,7 @@ ghost use Rattle.domain_obj.specs.InTurn.{GoesBackIn, LooksIn};
 ghost use Rattle.domain_turns.specs.Looking.{IsKnownFirst};
 ghost use Rattle.guest_links.specs.Held.{IsOutWith};
 ghost use Rattle.guest_links.specs.Tickets.{IsAnswered, IsCounted};
-ghost use Rattle.turn_marks.specs.Sound.{IsSound};
+ghost use Rattle.turn_marks.specs.Steady.{IsSteady};
 
 use domain_cell::{Back, DomainCell, Look, Ticket};
 use domain_spec::First;
@@ -125,7 +125,7 @@ pub fn told_legal<M: Monitor + Drop, E: Ears + Drop, Z: Killer + Drop>(
     turn: &mut DomainTurn<M, E, Z>,
 )
     ensures legal { IsLegal (at_base (cell_in turn.old.value).base) (cell_in turn.old.value).marks }
-    ensures sound { IsSound (cell_in turn.old.value) }
+    ensures steady { IsSteady (standing_in turn.old.value) }
     ensures out { IsOutWith (standing_in turn.old.value) turn.old.value.out }
     ensures same { turn.new ≡ turn.old }
 {
