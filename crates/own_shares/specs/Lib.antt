@@ -1,0 +1,4 @@
+pub mod Answered
+pub mod Leaving
+pub mod Looked
+pub mod Staying
