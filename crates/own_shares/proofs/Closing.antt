@@ -61,7 +61,7 @@ phase_closes : (s : Standing) (number : ℕ) (who : Who) (p : Phase) (asks : Lis
 phase_closes s number who p asks answers next events h =
     ap (λ (o : Option OpenOperation). (after_phase s o answers next).job) (phased_some s s.job s.operation number who p asks answers next events h).1
 
-take_up_closes : (s : Standing) (number : ℕ) (who : Who) (d : Call) → IsTakenUp s s.job number who d → (after s (mark.TakeUp number who d)).job ≡ None
+pub take_up_closes : (s : Standing) (number : ℕ) (who : Who) (d : Call) → IsTakenUp s s.job number who d → (after s (mark.TakeUp number who d)).job ≡ None
 take_up_closes s number who d h = ap (λ (o : Option OpenOperation). (after_take_up s o number who d).job) (taken_some s s.job s.operation number who d refl h).1
 
 -- a call that is open at the end was not closed: the operation stays

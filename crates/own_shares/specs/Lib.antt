@@ -1,4 +1,6 @@
 pub mod Answered
+pub mod Heard
 pub mod Leaving
 pub mod Looked
+pub mod Operations
 pub mod Staying

@@ -1,7 +1,9 @@
 // Laws of the definitions: each function's contract is one, and its body does nothing.
 ghost use Rattle.own_shares.specs.Answered.{AnswersKeep};
+ghost use Rattle.own_shares.specs.Heard.{HearingsKeep};
 ghost use Rattle.own_shares.specs.Leaving.{ChaptersKeep, LeaversKeep, RefusalsKeep};
 ghost use Rattle.own_shares.specs.Looked.{LooksKeep};
+ghost use Rattle.own_shares.specs.Operations.{BeginningsKeep, EndsKeep, PhasesKeep, TakingsUpKeep};
 
 /// A look leaves no call open, unless it asks; who waits is then as it was found; all else stays.
 pub fn looks_keep()
@@ -27,4 +29,29 @@ pub fn leavers_keep()
 /// The end of a chapter leaves no call open; all else stays, but that nobody may wait any more.
 pub fn chapters_keep()
     ensures { ChaptersKeep }
+{}
+
+/// A call that looks whether its operation may begin leaves no call open; where it begins, a phase of it is due.
+pub fn beginnings_keep()
+    ensures { BeginningsKeep }
+{}
+
+/// So does a call that looks whether it may take an operation up.
+pub fn takings_up_keep()
+    ensures { TakingsUpKeep }
+{}
+
+/// A due phase that is let in leaves what an answer leaves by which it asks on, or is done; else all stays.
+pub fn phases_keep()
+    ensures { PhasesKeep }
+{}
+
+/// The end of an operation leaves none open, nor a call where none was.
+pub fn ends_keep()
+    ensures { EndsKeep }
+{}
+
+/// After a boot's end or a guest's event all stays, but that what its ears heard was told.
+pub fn hearings_keep()
+    ensures { HearingsKeep }
 {}

@@ -3,4 +3,7 @@
 
 mod laws;
 
-pub use laws::{answers_keep, chapters_keep, leavers_keep, looks_keep, refusals_keep};
+pub use laws::{
+    answers_keep, beginnings_keep, chapters_keep, ends_keep, hearings_keep, leavers_keep,
+    looks_keep, phases_keep, refusals_keep, takings_up_keep,
+};
