@@ -1,5 +1,5 @@
 -- An open call stays with what it has asked, where its state, its operation and what was answered stay.
-use Rattle.std.proofs.Common.{◌≡◌, ℕ, ◌==◌, List, [], ◌∷◌, Bool, true, false, Option, None, Some, if◌then◌else◌, refl, sym, ap, ◌∙◌, subst}
+use Rattle.std.proofs.Common.{◌≡◌, ℕ, ◌==◌, List, ◌∷◌, Option, None, Some, if◌then◌else◌, refl, ap, ◌∙◌}
 use Rattle.domain_spec.specs.Types.{Answer, Ask, Job, State}
 use Rattle.domain_spec.specs.Types.job
 use Rattle.domain_spec.specs.declared.core_step.CoreStep.{CoreStep}
@@ -11,7 +11,7 @@ use Rattle.domain_spec.specs.declared.open.OpenOperation.{OpenOperation}
 use Rattle.domain_spec.specs.declared.standing.Standing.{Standing}
 use Rattle.domain_spec.specs.Cell.{Cell, OpenCall, as_let_in, asks_so_far, call_asks, call_of, phase_asks, planned_at, share_of, standing_of}
 use Rattle.domain_spec.specs.Fold.{standing}
-use Rattle.domain_spec.specs.Turns.{AnswersAfter, IsTurn, Leads}
+use Rattle.domain_spec.specs.Turns.{AnswersAfter}
 use Rattle.own_shares.proofs.Parts.{Moves, moved}
 
 -- what was answered
@@ -55,12 +55,15 @@ pub record StaysInForce (s t : Standing) : Type 0 where
   pub job : t.job ≡ s.job
   pub operation : t.operation ≡ s.operation
 
-pub call_stays : (c d : Cell) (t : CoreStep ℕ) (n : ℕ) (left : List (Mark ℕ)) → Moves c d left → IsNoAnswer t → LetsNoneIn left → AnswersAfter c t left (standing_of d).job d.answers
+pub call_after : (c d : Cell) (t : CoreStep ℕ) (n : ℕ) (left : List (Mark ℕ)) → standing_of d ≡ standing (standing_of c) left → IsNoAnswer t → LetsNoneIn left → AnswersAfter c t left (standing_of d).job d.answers
     → StaysInForce (standing_of c) (standing (standing_of c) left) → (share_of d n).call ≡ (share_of c n).call
-call_stays c d t n left m back admits answers same =
-    let is : standing_of d ≡ standing (standing_of c) left = moved c d left m in
+call_after c d t n left is back admits answers same =
     let u : Standing = standing (standing_of c) left in
     ap (λ (s : Standing). call_of s s.job d.answers n) is
     ∙ ap (λ (j : Option OpenJob). call_of u j d.answers n) same.job
     ∙ call_alike (standing_of c) u (standing_of c).job c.answers d.answers n same.state same.operation
     (λ x was. answered_alike c t left (standing_of d).job x d.answers back admits answers (ap (λ (s : Standing). s.job) is ∙ same.job ∙ was))
+
+pub call_stays : (c d : Cell) (t : CoreStep ℕ) (n : ℕ) (left : List (Mark ℕ)) → Moves c d left → IsNoAnswer t → LetsNoneIn left → AnswersAfter c t left (standing_of d).job d.answers
+    → StaysInForce (standing_of c) (standing (standing_of c) left) → (share_of d n).call ≡ (share_of c n).call
+call_stays c d t n left m back admits answers same = call_after c d t n left (moved c d left m) back admits answers same

@@ -1,7 +1,6 @@
 -- What the turn of an answer leaves of the share of its own number.
-use Rattle.std.proofs.Common.{◌≡◌, ℕ, List, Option, None, refl, ap, ◌∙◌}
-use Rattle.domain_spec.specs.Types.{Answer, Ask, Who}
-use Rattle.domain_spec.specs.declared.core_step.CoreStep.{CoreStep}
+use Rattle.std.proofs.Common.{◌≡◌, ℕ, List, None, ap, ◌∙◌}
+use Rattle.domain_spec.specs.Types.{Answer}
 use Rattle.domain_spec.specs.declared.core_step.CoreStep.TheVariants as step
 use Rattle.domain_spec.specs.declared.mark.Mark.{Mark}
 use Rattle.domain_spec.specs.declared.standing.Standing.{Standing}
@@ -10,8 +9,6 @@ use Rattle.domain_spec.specs.Fold.{standing}
 use Rattle.domain_spec.specs.Turns.{IsTurn, Leads}
 use Rattle.domain_ledger.specs.declared.ledger.Back.{Back}
 use Rattle.domain_ledger.specs.declared.ledger.Back.TheVariants as back
-use Rattle.domain_turns.specs.Answering.{GoesBack}
-use Rattle.domain_turns.specs.Turning.{Turning}
 use Rattle.own_shares.specs.Answered.{AnswersKeep}
 use Rattle.own_shares.specs.Staying.{AsideStays}
 use Rattle.own_shares.proofs.Closing.{IsFree, left_done, left_led, left_open}
@@ -33,7 +30,7 @@ pub answers_keep : AnswersKeep
 answers_keep old new n x (back.Done r) h =
     let c : Cell = old.cell in
     let moves : Moves c new.cell h.0 = back_moves c new.cell n x h.0 h.1.leads in
-    let free : IsFree (standing_of c) (standing (standing_of c) h.0) = left_done c (step.Back n x) n r h.0 refl tt h.1.turn.left h.2 in
+    let free : IsFree (standing_of c) (standing (standing_of c) h.0) = left_done c (step.Back n x) n r h.0 tt h.1.turn.left h.2 in
     record {
       aside = back_aside c new.cell n x h.0 h.1.turn h.1.leads;
       call = call_none new.cell n (ap (λ (s : Standing). s.job) (moved c new.cell h.0 moves) ∙ free.job);

@@ -14,7 +14,6 @@ use Rattle.domain_spec.specs.Kept.{LooksOn}
 use Rattle.domain_spec.specs.Reading.{live_boot}
 use Rattle.domain_spec.specs.Turns.{IsTurn, Leads, MayLeave}
 use Rattle.operation_turns.specs.Phasing.{IsDue}
-use Rattle.operation_turns.specs.declared.beginning.OperationLook.{OperationLook}
 use Rattle.operation_turns.specs.declared.beginning.OperationLook.TheVariants as look
 use Rattle.own_shares.specs.Operations.{BeginningsKeep, IsLookedFor, TakingsUpKeep}
 use Rattle.own_shares.specs.Staying.{RestStays}
@@ -42,7 +41,6 @@ begun_keeps c d t n who e m ms left k only closed due = record {
 
 is_beginning : (c d : Cell) (n : ℕ) (who : Who) (e : Call) (left : List (Mark ℕ)) → IsTurn c (step.BeginOp n who e) left → Leads c (step.BeginOp n who e) left d → IsLook c d (step.BeginOp n who e) n who e left
 is_beginning c d n who e left turn leads = record {
-  its = refl;
   ends_none = tt;
   keeps = tt;
   none_open = turn.can.0.no_call;
@@ -89,7 +87,6 @@ beginnings_keep old new n who d look.NoMemory h =
 
 is_taking_up : (c d : Cell) (n : ℕ) (who : Who) (e : Call) (left : List (Mark ℕ)) → IsTurn c (step.TakeUp n who e) left → Leads c (step.TakeUp n who e) left d → IsLook c d (step.TakeUp n who e) n who e left
 is_taking_up c d n who e left turn leads = record {
-  its = refl;
   ends_none = tt;
   keeps = tt;
   none_open = turn.can.0.no_call;

@@ -1,6 +1,6 @@
 -- What the marks of a turn leave of the open call and the operation.
-use Rattle.std.proofs.Common.{◌≡◌, ℕ, List, [], ◌∷◌, Option, None, Some, refl, sym, ap, ◌∙◌, subst}
-use Rattle.domain_spec.specs.Types.{Answer, Ask, Call, Phase, Reply, Transition, Who}
+use Rattle.std.proofs.Common.{◌≡◌, ℕ, List, [], ◌∷◌, Bool, true, false, not, ◌&&◌, Option, None, Some, refl, ap, ◌∙◌, subst}
+use Rattle.domain_spec.specs.Types.{Answer, Ask, Call, OpKind, Phase, Reply, Transition, Who}
 use Rattle.domain_spec.specs.declared.core_step.CoreStep.{CoreStep}
 use Rattle.domain_spec.specs.declared.core_step.CoreStep.TheVariants as step
 use Rattle.domain_spec.specs.declared.mark.Mark.{Mark}
@@ -9,16 +9,16 @@ use Rattle.domain_spec.specs.declared.open.OpenJob.{OpenJob}
 use Rattle.domain_spec.specs.declared.open.OpenOperation.{OpenOperation}
 use Rattle.domain_spec.specs.declared.standing.Standing.{Standing}
 use Rattle.domain_spec.specs.declared.step.Outcome.{Outcome}
-use Rattle.domain_spec.specs.CanTake.{IsNotJobOf}
+use Rattle.domain_spec.specs.Call.{takes_up}
 use Rattle.domain_spec.specs.Cell.{Cell, standing_of}
 use Rattle.domain_spec.specs.Fold.{after, after_phase, after_take_up, job_at_exit, standing}
 use Rattle.domain_spec.specs.Lawful.{IsDone, IsPhased, IsStarted, IsTakenUp}
-use Rattle.domain_spec.specs.Turns.{BeginsBy, GoOn, GoesOnBy, MayLeave}
+use Rattle.domain_spec.specs.Open.{operation_held}
+use Rattle.domain_spec.specs.Sequential.{meets_ended}
+use Rattle.domain_spec.specs.TakeUp.{rests_for}
+use Rattle.domain_spec.specs.Turns.{GoOn, GoesOnBy, MayLeave}
 use Rattle.domain_turns.specs.Phased.{HasLedTo}
 use Rattle.domain_turns.specs.Turning.{HasDone}
-use Rattle.turn_shares.specs.Shares.{IsStepOf}
-use Rattle.turn_marks.proofs.Owning.{done_owned}
-use Rattle.turn_marks.proofs.Walking.{none_of, taken_some}
 
 -- while no call is open
 
@@ -61,8 +61,21 @@ phase_closes : (s : Standing) (number : ℕ) (who : Who) (p : Phase) (asks : Lis
 phase_closes s number who p asks answers next events h =
     ap (λ (o : Option OpenOperation). (after_phase s o answers next).job) (phased_some s s.job s.operation number who p asks answers next events h).1
 
+second_of : (a b : Bool) → (a && b) ≡ true → b ≡ true
+second_of true b e = e
+second_of false b e = cc
+
+rests_some : (k : Option OpKind) (o : Option OpenOperation) → rests_for k (operation_held o) ≡ true → (x : OpenOperation) × (o ≡ Some x)
+rests_some None None e = cc
+rests_some (Some k) None e = cc
+rests_some k (Some x) e = (x, refl)
+
+taken_some : (s : Standing) (j : Option OpenJob) (number : ℕ) (who : Who) (d : Call) → IsTakenUp s j number who d → (x : OpenOperation) × (s.operation ≡ Some x)
+taken_some s None number who d h = absurd h
+taken_some s (Some j) number who d h = rests_some (takes_up d) s.operation (second_of (not (meets_ended s.state d j.boot)) _ h.takes)
+
 pub take_up_closes : (s : Standing) (number : ℕ) (who : Who) (d : Call) → IsTakenUp s s.job number who d → (after s (mark.TakeUp number who d)).job ≡ None
-take_up_closes s number who d h = ap (λ (o : Option OpenOperation). (after_take_up s o number who d).job) (taken_some s s.job s.operation number who d refl h).1
+take_up_closes s number who d h = ap (λ (o : Option OpenOperation). (after_take_up s o number who d).job) (taken_some s s.job number who d h).1
 
 -- a call that is open at the end was not closed: the operation stays
 
@@ -98,27 +111,29 @@ led_on c t n o s (k ∷ marks) h led = absurd h.0
 
 -- a call that is done leaves the operation as it was
 
-none_done : (c : Cell) (t : CoreStep ℕ) (n : ℕ) (r : Reply) (s : Standing) (marks : List (Mark ℕ)) → IsStepOf n t → s.job ≡ None → GoOn c t s marks → HasDone n r marks → ⊥
-none_done c t n r s marks its none h done =
-    done_owned n r marks done (none_of c t n s marks its (subst (λ (j : Option OpenJob). IsNotJobOf j n) (sym none) tt) h)
+none_done : (c : Cell) (t : CoreStep ℕ) (n : ℕ) (r : Reply) (s : Standing) (marks : List (Mark ℕ)) → s.job ≡ None → GoOn c t s marks → HasDone n r marks → ⊥
+none_done c t n r s [] none h done = done
+none_done c t n r s (mark.Done number who d boot asks answers reply events ∷ marks) none h done =
+    subst (λ (j : Option OpenJob). IsDone s j number who d boot asks answers reply events) none h.0.2
+none_done c t n r s (k ∷ marks) none h done = none_done c t n r (after s k) marks (goes_free c t s k none h.0).job h.2 done
 
-pub done_on : (c : Cell) (t : CoreStep ℕ) (n : ℕ) (r : Reply) (s : Standing) (marks : List (Mark ℕ)) → IsStepOf n t → GoOn c t s marks → HasDone n r marks → IsFree s (standing s marks)
-done_on c t n r s [] its h done = absurd done
-done_on c t n r s (mark.Done number who d boot asks answers reply events ∷ marks) its h done =
+pub done_on : (c : Cell) (t : CoreStep ℕ) (n : ℕ) (r : Reply) (s : Standing) (marks : List (Mark ℕ)) → GoOn c t s marks → HasDone n r marks → IsFree s (standing s marks)
+done_on c t n r s [] h done = absurd done
+done_on c t n r s (mark.Done number who d boot asks answers reply events ∷ marks) h done =
     let next : Standing = after s (mark.Done number who d boot asks answers reply events) in
     free_then s next (standing next marks) refl (free_on c t next marks refl h.2)
-done_on c t n r s (mark.Phase number who p asks answers next events ∷ marks) its h done =
-    absurd (none_done c t n r (after s (mark.Phase number who p asks answers next events)) marks its (phase_closes s number who p asks answers next events h.0.2) h.2 done)
-done_on c t n r s (mark.Start number who d boot ∷ marks) its h done = absurd (none_done c t n r (after s (mark.Start number who d boot)) marks its refl h.2 done)
-done_on c t n r s (mark.TakeUp number who d ∷ marks) its h done =
-    absurd (none_done c t n r (after s (mark.TakeUp number who d)) marks its (take_up_closes s number who d h.0.1) h.2 done)
-done_on c t n r s (mark.Exit boot why events ∷ marks) its h done =
-    let next : Standing = after s (mark.Exit boot why events) in free_then s next (standing next marks) refl (done_on c t n r next marks its h.2 done)
-done_on c t n r s (mark.Event boot g events ∷ marks) its h done =
-    let next : Standing = after s (mark.Event boot g events) in free_then s next (standing next marks) refl (done_on c t n r next marks its h.2 done)
-done_on c t n r s (mark.Cut client total taken ∷ marks) its h done =
-    let next : Standing = after s (mark.Cut client total taken) in free_then s next (standing next marks) refl (done_on c t n r next marks its h.2 done)
-done_on c t n r s (k ∷ marks) its h done = absurd h.0
+done_on c t n r s (mark.Phase number who p asks answers next events ∷ marks) h done =
+    absurd (none_done c t n r (after s (mark.Phase number who p asks answers next events)) marks (phase_closes s number who p asks answers next events h.0.2) h.2 done)
+done_on c t n r s (mark.Start number who d boot ∷ marks) h done = absurd (none_done c t n r (after s (mark.Start number who d boot)) marks refl h.2 done)
+done_on c t n r s (mark.TakeUp number who d ∷ marks) h done =
+    absurd (none_done c t n r (after s (mark.TakeUp number who d)) marks (take_up_closes s number who d h.0.1) h.2 done)
+done_on c t n r s (mark.Exit boot why events ∷ marks) h done =
+    let next : Standing = after s (mark.Exit boot why events) in free_then s next (standing next marks) refl (done_on c t n r next marks h.2 done)
+done_on c t n r s (mark.Event boot g events ∷ marks) h done =
+    let next : Standing = after s (mark.Event boot g events) in free_then s next (standing next marks) refl (done_on c t n r next marks h.2 done)
+done_on c t n r s (mark.Cut client total taken ∷ marks) h done =
+    let next : Standing = after s (mark.Cut client total taken) in free_then s next (standing next marks) refl (done_on c t n r next marks h.2 done)
+done_on c t n r s (k ∷ marks) h done = absurd h.0
 
 -- with the first mark, of a turn that ends no operation
 
@@ -138,23 +153,23 @@ left_open c (step.EndOp x w) (mark.End number who r ∷ left) e h there = absurd
 left_open c t (mark.End number who r ∷ left) e h there = absurd h.0
 left_open c t (k ∷ left) e h there = open_on c t (standing_of c) (k ∷ left) h there
 
-pub left_done : (c : Cell) (t : CoreStep ℕ) (n : ℕ) (r : Reply) (left : List (Mark ℕ)) → IsStepOf n t → EndsNone t → MayLeave c t left → HasDone n r left → IsFree (standing_of c) (standing (standing_of c) left)
-left_done c t n r [] its e h done = absurd done
-left_done c t n r (mark.Admit number who wanted d boot ∷ left) its e h done =
+pub left_done : (c : Cell) (t : CoreStep ℕ) (n : ℕ) (r : Reply) (left : List (Mark ℕ)) → EndsNone t → MayLeave c t left → HasDone n r left → IsFree (standing_of c) (standing (standing_of c) left)
+left_done c t n r [] e h done = absurd done
+left_done c t n r (mark.Admit number who wanted d boot ∷ left) e h done =
     let next : Standing = after (standing_of c) (mark.Admit number who wanted d boot) in
-    free_then (standing_of c) next (standing next left) refl (done_on c t n r next left its h.2 done)
-left_done c t n r (mark.Refused number who d why held ∷ left) its e h done =
+    free_then (standing_of c) next (standing next left) refl (done_on c t n r next left h.2 done)
+left_done c t n r (mark.Refused number who d why held ∷ left) e h done =
     let next : Standing = after (standing_of c) (mark.Refused number who d why held) in
-    free_then (standing_of c) next (standing next left) refl (done_on c t n r next left its h.2 done)
-left_done c t n r (mark.Watch number client ∷ left) its e h done =
+    free_then (standing_of c) next (standing next left) refl (done_on c t n r next left h.2 done)
+left_done c t n r (mark.Watch number client ∷ left) e h done =
     let next : Standing = after (standing_of c) (mark.Watch number client) in
-    free_then (standing_of c) next (standing next left) refl (done_on c t n r next left its h.2 done)
-left_done c t n r (mark.Unwatch number client ∷ left) its e h done =
+    free_then (standing_of c) next (standing next left) refl (done_on c t n r next left h.2 done)
+left_done c t n r (mark.Unwatch number client ∷ left) e h done =
     let next : Standing = after (standing_of c) (mark.Unwatch number client) in
-    free_then (standing_of c) next (standing next left) refl (done_on c t n r next left its h.2 done)
-left_done c (step.EndOp x w) n r (mark.End number who reply ∷ left) its e h done = absurd e
-left_done c t n r (mark.End number who reply ∷ left) its e h done = absurd h.0
-left_done c t n r (k ∷ left) its e h done = done_on c t n r (standing_of c) (k ∷ left) its h done
+    free_then (standing_of c) next (standing next left) refl (done_on c t n r next left h.2 done)
+left_done c (step.EndOp x w) n r (mark.End number who reply ∷ left) e h done = absurd e
+left_done c t n r (mark.End number who reply ∷ left) e h done = absurd h.0
+left_done c t n r (k ∷ left) e h done = done_on c t n r (standing_of c) (k ∷ left) h done
 
 pub left_led : (c : Cell) (t : CoreStep ℕ) (n : ℕ) (o : Outcome) (left : List (Mark ℕ)) → MayLeave c t left → HasLedTo n o left → (standing (standing_of c) left).job ≡ None
 left_led c t n o [] h led = absurd led

@@ -1,5 +1,5 @@
 -- What is left of the share of a number whose call gives up, or for which a chapter ends.
-use Rattle.std.proofs.Common.{◌≡◌, ◌⊎◌, inl, inr, ℕ, List, [], ◌∷◌, Option, None, refl, sym, ap, ◌∙◌}
+use Rattle.std.proofs.Common.{◌≡◌, ◌⊎◌, inl, inr, ℕ, List, [], ◌∷◌, Option, None, refl, ap, ◌∙◌}
 use Rattle.domain_spec.specs.Types.{Call, RefusalCode, Who}
 use Rattle.domain_spec.specs.declared.core_step.CoreStep.{CoreStep}
 use Rattle.domain_spec.specs.declared.core_step.CoreStep.TheVariants as step
@@ -8,14 +8,14 @@ use Rattle.domain_spec.specs.declared.mark.Mark.TheVariants as mark
 use Rattle.domain_spec.specs.declared.standing.Base.{Base}
 use Rattle.domain_spec.specs.declared.standing.Registration.{Registration}
 use Rattle.domain_spec.specs.declared.standing.Standing.{Standing}
-use Rattle.domain_spec.specs.Cell.{Cell, LentEars, Queue, Share, call_of, ears_of, operation_of, share_of, standing_of, waits_of}
+use Rattle.domain_spec.specs.Cell.{Cell, LentEars, Queue, Share, ears_of, operation_of, share_of, standing_of, waits_of}
 use Rattle.domain_spec.specs.Chapter.{next_base}
 use Rattle.domain_spec.specs.Fold.{at_base, standing}
 use Rattle.domain_spec.specs.Kept.{left_queue}
 use Rattle.domain_spec.specs.Turns.{IsTurn, Leads}
 use Rattle.domain_turns.specs.Refusing.{HasRefused}
 use Rattle.turn_shares.proofs.Listed.{taken_of}
-use Rattle.own_shares.specs.Leaving.{ChaptersKeep, IsRotated, LeaversKeep, RefusalsKeep, WaitsNoMore}
+use Rattle.own_shares.specs.Leaving.{ChaptersKeep, LeaversKeep, RefusalsKeep, WaitsNoMore}
 use Rattle.own_shares.proofs.Answering.{LetsNoneIn, StaysInForce, call_stays}
 use Rattle.own_shares.proofs.Listing.{left_listed}
 use Rattle.own_shares.proofs.Parts.{Moves, call_none, ears_stay, five_parts, operation_stays, registrations_stay}

@@ -9,3 +9,4 @@ pub mod Looks
 pub mod Parts
 pub mod Phases
 pub mod Waiting
+pub mod Watching

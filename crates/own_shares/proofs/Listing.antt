@@ -1,5 +1,5 @@
 -- What a number has taken by its registrations, after turns in which no client comes, goes or takes.
-use Rattle.std.proofs.Common.{◌≡◌, ℕ, ◌-◌, ◌==◌, List, [], ◌∷◌, ◌++◌, filter, map, take, Bool, true, false, not, ◌&&◌, if◌then◌else◌, refl, sym, ap, ◌∙◌}
+use Rattle.std.proofs.Common.{◌≡◌, ℕ, ◌-◌, ◌==◌, List, [], ◌∷◌, ◌++◌, filter, map, take, Bool, true, false, not, ◌&&◌, if◌then◌else◌, refl, ap, ◌∙◌}
 use Rattle.domain_spec.specs.Types.{Transition}
 use Rattle.domain_spec.specs.declared.core_step.CoreStep.{CoreStep}
 use Rattle.domain_spec.specs.declared.core_step.CoreStep.TheVariants as step
@@ -8,7 +8,7 @@ use Rattle.domain_spec.specs.declared.mark.Mark.TheVariants as mark
 use Rattle.domain_spec.specs.declared.standing.Registration.{Registration}
 use Rattle.domain_spec.specs.declared.standing.Standing.{Standing}
 use Rattle.domain_spec.specs.Cell.{Cell, Taken, standing_of}
-use Rattle.domain_spec.specs.Fold.{after, transitions_of}
+use Rattle.domain_spec.specs.Fold.{after}
 use Rattle.domain_spec.specs.Registrations.{cut_after, is_numbered, registrations_after, registrations_at, with_pending}
 use Rattle.domain_spec.specs.Turns.{BeginsBy, GoOn, GoesOnBy, MayLeave}
 use Rattle.turn_shares.proofs.Listed.{taken_by, taken_of}

@@ -1,5 +1,5 @@
 -- What a look leaves of the share of its own number.
-use Rattle.std.proofs.Common.{◌≡◌, ℕ, suc, zero, List, [], ◌∷◌, length, Option, None, Some, refl, sym, ap, ◌∙◌, subst}
+use Rattle.std.proofs.Common.{◌≡◌, ℕ, List, [], ◌∷◌, length, Option, None, refl, sym, ap, ◌∙◌, subst}
 use Rattle.domain_spec.specs.Types.{Ask, Call, RefusalCode, Reply, Who}
 use Rattle.domain_spec.specs.Types.code
 use Rattle.domain_spec.specs.declared.core_step.CoreStep.{CoreStep}
@@ -10,17 +10,14 @@ use Rattle.domain_spec.specs.declared.mark.Mark.TheVariants as mark
 use Rattle.domain_spec.specs.declared.open.OpenJob.{OpenJob}
 use Rattle.domain_spec.specs.declared.standing.Standing.{Standing}
 use Rattle.domain_spec.specs.CanTake.{IsNotJobOf}
-use Rattle.domain_spec.specs.Cell.{Cell, Queue, share_of, standing_of, waits_of}
-use Rattle.domain_spec.specs.Fold.{after, standing}
-use Rattle.domain_spec.specs.Kept.{LooksOn, looks_of}
+use Rattle.domain_spec.specs.Cell.{Cell, share_of, standing_of, waits_of}
+use Rattle.domain_spec.specs.Fold.{standing}
+use Rattle.domain_spec.specs.Kept.{LooksOn}
 use Rattle.domain_spec.specs.Turns.{IsTurn, Leads, MayLeave}
-use Rattle.domain_turns.specs.declared.looking.Looked.{Looked}
 use Rattle.domain_turns.specs.declared.looking.Looked.TheVariants as looked
-use Rattle.domain_turns.specs.Looking.{Looks}
 use Rattle.domain_turns.specs.Refusing.{HasRefused}
-use Rattle.domain_turns.specs.Turning.{AsksLast, HasDone, Turning}
-use Rattle.turn_shares.specs.Shares.{IsStepOf}
-use Rattle.own_shares.specs.Looked.{IsLooked, LooksKeep, MayWait, WaitsOn}
+use Rattle.domain_turns.specs.Turning.{AsksLast, HasDone}
+use Rattle.own_shares.specs.Looked.{LooksKeep}
 use Rattle.own_shares.specs.Staying.{RestStays}
 use Rattle.own_shares.proofs.Closing.{EndsNone, IsFree, left_done, left_open}
 use Rattle.own_shares.proofs.Listing.{KeepsClients}
@@ -29,7 +26,6 @@ use Rattle.own_shares.proofs.Waiting.{look_may, look_waits, some_left}
 
 -- a turn in which a call looks, of this kind
 pub record IsLook (c d : Cell) (t : CoreStep ℕ) (n : ℕ) (who : Who) (e : Call) (left : List (Mark ℕ)) : Type 0 where
-  pub its : IsStepOf n t
   pub ends_none : EndsNone t
   pub keeps : KeepsClients t
   pub none_open : IsNotJobOf (standing_of c).job n
@@ -50,7 +46,7 @@ done_waits c d n who e r (m ∷ left) done h = some_left c n who e m left d.queu
 
 pub look_done : (c d : Cell) (t : CoreStep ℕ) (n : ℕ) (who : Who) (e : Call) (r : Reply) (left : List (Mark ℕ)) → IsLook c d t n who e left → HasDone n r left → IsOver c d n
 look_done c d t n who e r left k done =
-    let free : IsFree (standing_of c) (standing (standing_of c) left) = left_done c t n r left k.its k.ends_none k.may done in
+    let free : IsFree (standing_of c) (standing (standing_of c) left) = left_done c t n r left k.ends_none k.may done in
     record {
       rest = rest_stays c d t n left k.moves k.keeps k.may free.operation;
       call = call_none d n (ap (λ (s : Standing). s.job) (moved c d left k.moves) ∙ free.job);
@@ -118,7 +114,6 @@ look_refused c d t n who e why left k refused = record {
 
 is_look : (c d : Cell) (n : ℕ) (who : Who) (e : Call) (f : First) (left : List (Mark ℕ)) → IsTurn c (step.Look n who e f) left → Leads c (step.Look n who e f) left d → IsLook c d (step.Look n who e f) n who e left
 is_look c d n who e f left turn leads = record {
-  its = refl;
   ends_none = tt;
   keeps = tt;
   none_open = turn.can.none_open.no_call;

@@ -1,5 +1,5 @@
 -- The parts of a number's share, from the parts of its cell.
-use Rattle.std.proofs.Common.{◌≡◌, ℕ, ◌==◌, List, ◌++◌, Bool, true, false, Option, None, Some, if◌then◌else◌, refl, sym, ap, ◌∙◌, subst}
+use Rattle.std.proofs.Common.{◌≡◌, ℕ, ◌==◌, List, ◌++◌, Bool, Option, None, Some, if◌then◌else◌, refl, sym, ap, ◌∙◌, subst}
 use Rattle.domain_spec.specs.Types.{Answer, Ask, Who}
 use Rattle.domain_spec.specs.declared.core_step.CoreStep.{CoreStep}
 use Rattle.domain_spec.specs.declared.mark.Mark.{Mark}
@@ -15,7 +15,7 @@ use Rattle.domain_spec.specs.Turns.{MayLeave}
 use Rattle.domain_turns.specs.Turning.{AsksLast}
 use Rattle.turn_shares.proofs.Jobs.{differ, on_base}
 use Rattle.turn_shares.proofs.Listed.{taken_of}
-use Rattle.own_shares.specs.Staying.{AsideStays, RestStays}
+use Rattle.own_shares.specs.Staying.{RestStays}
 use Rattle.own_shares.proofs.Listing.{KeepsClients, left_listed}
 
 -- the open call

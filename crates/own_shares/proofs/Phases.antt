@@ -1,6 +1,6 @@
 -- What the turn of a due phase, and the end of an operation, leave of the share of its own number.
-use Rattle.std.proofs.Common.{◌≡◌, ℕ, ◌==◌, List, [], ◌∷◌, Bool, true, false, Option, None, Some, if◌then◌else◌, refl, sym, ap, ◌∙◌, subst, eq-eqb}
-use Rattle.domain_spec.specs.Types.{Answer, Ask, Reply, Who}
+use Rattle.std.proofs.Common.{◌≡◌, ℕ, List, [], ◌∷◌, Bool, Option, None, Some, if◌then◌else◌, refl, sym, ap, ◌∙◌, subst, eq-eqb}
+use Rattle.domain_spec.specs.Types.{Answer, Reply, Who}
 use Rattle.domain_spec.specs.declared.core_step.CoreStep.{CoreStep}
 use Rattle.domain_spec.specs.declared.core_step.CoreStep.TheVariants as step
 use Rattle.domain_spec.specs.declared.mark.Mark.{Mark}

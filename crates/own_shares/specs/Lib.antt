@@ -3,4 +3,5 @@ pub mod Heard
 pub mod Leaving
 pub mod Looked
 pub mod Operations
+pub mod Registered
 pub mod Staying

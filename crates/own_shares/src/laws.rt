@@ -4,6 +4,7 @@ ghost use Rattle.own_shares.specs.Heard.{HearingsKeep};
 ghost use Rattle.own_shares.specs.Leaving.{ChaptersKeep, LeaversKeep, RefusalsKeep};
 ghost use Rattle.own_shares.specs.Looked.{LooksKeep};
 ghost use Rattle.own_shares.specs.Operations.{BeginningsKeep, EndsKeep, PhasesKeep, TakingsUpKeep};
+ghost use Rattle.own_shares.specs.Registered.{TakesKeep, UnwatchesKeep, WatchesKeep};
 
 /// A look leaves no call open, unless it asks; who waits is then as it was found; all else stays.
 pub fn looks_keep()
@@ -54,4 +55,19 @@ pub fn ends_keep()
 /// After a boot's end or a guest's event all stays, but that what its ears heard was told.
 pub fn hearings_keep()
     ensures { HearingsKeep }
+{}
+
+/// A client that registers has taken nothing yet; all else stays.
+pub fn watches_keep()
+    ensures { WatchesKeep }
+{}
+
+/// A client that leaves has no registration any more; all else stays.
+pub fn unwatches_keep()
+    ensures { UnwatchesKeep }
+{}
+
+/// A client that takes has taken all that pended; all else stays.
+pub fn takes_keep()
+    ensures { TakesKeep }
 {}

@@ -5,5 +5,6 @@ mod laws;
 
 pub use laws::{
     answers_keep, beginnings_keep, chapters_keep, ends_keep, hearings_keep, leavers_keep,
-    looks_keep, phases_keep, refusals_keep, takings_up_keep,
+    looks_keep, phases_keep, refusals_keep, takes_keep, takings_up_keep, unwatches_keep,
+    watches_keep,
 };
