@@ -8,5 +8,6 @@ pub mod Listing
 pub mod Looks
 pub mod Parts
 pub mod Phases
+pub mod Queueing
 pub mod Waiting
 pub mod Watching

@@ -62,6 +62,9 @@ by_queue p q n e = ap (λ (x : Queue). waits_of x.passes n) e
 pub queue_left : (p q : Queue) (n : ℕ) (who : Who) → p ≡ left_queue q n who → waits_of p.passes n ≡ None
 queue_left p q n who e = by_queue p (left_queue q n who) n e ∙ left_waits q n who
 
+pub queue_joined : (p q : Queue) (n : ℕ) (who : Who) → p ≡ joined_queue q n who → waits_of p.passes n ≡ Some who
+queue_joined p q n who e = by_queue p (joined_queue q n who) n e ∙ joined_waits q n who
+
 none_waits : (who : Who) (now : Option Who) → now ≡ None → MayWait who now
 none_waits who now e = subst (λ (x : Option Who). MayWait who x) (sym e) tt
 
@@ -70,7 +73,7 @@ it_waits who now e = subst (λ (x : Option Who). MayWait who x) (sym e) refl
 
 pub look_may : (c : Cell) (n : ℕ) (who : Who) (d : Call) (left : List (Mark ℕ)) (p : Queue) → left ≡ [] → LooksOn c n who d left p → MayWait who (waits_of p.passes n)
 look_may c n who d [] p none (inl h) = none_waits who (waits_of p.passes n) (queue_left p c.queue n who h)
-look_may c n who d [] p none (inr h) = it_waits who (waits_of p.passes n) (by_queue p (joined_queue c.queue n who) n h.1 ∙ joined_waits c.queue n who)
+look_may c n who d [] p none (inr h) = it_waits who (waits_of p.passes n) (queue_joined p c.queue n who h.1)
 look_may c n who d (m ∷ left) p none h = cc
 
 counts_none : (looks : ℕ) → looks ≡ 0 → 1 ≤ looks → ⊥
@@ -82,7 +85,7 @@ look_waits c n who d [] p looks none count (inl h) = record {
   counted = λ le. absurd (counts_none looks (count ∙ ap (λ (x : Queue). looks_of x.callers who) h ∙ left_looks c.queue n who) le);
 }
 look_waits c n who d [] p looks none count (inr h) =
-    let there : waits_of p.passes n ≡ Some who = by_queue p (joined_queue c.queue n who) n h.1 ∙ joined_waits c.queue n who in
+    let there : waits_of p.passes n ≡ Some who = queue_joined p c.queue n who h.1 in
     record { at_most = it_waits who (waits_of p.passes n) there; counted = λ le. there }
 look_waits c n who d (m ∷ left) p looks none count h = cc
 

@@ -4,6 +4,7 @@ ghost use Rattle.own_shares.specs.Heard.{HearingsKeep};
 ghost use Rattle.own_shares.specs.Leaving.{ChaptersKeep, LeaversKeep, RefusalsKeep};
 ghost use Rattle.own_shares.specs.Looked.{LooksKeep};
 ghost use Rattle.own_shares.specs.Operations.{BeginningsKeep, EndsKeep, PhasesKeep, TakingsUpKeep};
+ghost use Rattle.own_shares.specs.Queued.{BeginningsQueue, LooksQueue, OperationQueuesTell, QueuesTell, TakingsUpQueue};
 ghost use Rattle.own_shares.specs.Registered.{TakesKeep, UnwatchesKeep, WatchesKeep};
 
 /// A look leaves no call open, unless it asks; who waits is then as it was found; all else stays.
@@ -70,4 +71,29 @@ pub fn unwatches_keep()
 /// A client that takes has taken all that pended; all else stays.
 pub fn takes_keep()
     ensures { TakesKeep }
+{}
+
+/// After a look its caller waits where it was excluded, and else not.
+pub fn looks_queue()
+    ensures { LooksQueue }
+{}
+
+/// So says the share of its number.
+pub fn queues_tell()
+    ensures { QueuesTell }
+{}
+
+/// A call that begins an operation waits where it was excluded, and else not.
+pub fn beginnings_queue()
+    ensures { BeginningsQueue }
+{}
+
+/// So does one that takes an operation up.
+pub fn takings_up_queue()
+    ensures { TakingsUpQueue }
+{}
+
+/// So says the share of its number.
+pub fn operation_queues_tell()
+    ensures { OperationQueuesTell }
 {}

@@ -4,7 +4,7 @@
 mod laws;
 
 pub use laws::{
-    answers_keep, beginnings_keep, chapters_keep, ends_keep, hearings_keep, leavers_keep,
-    looks_keep, phases_keep, refusals_keep, takes_keep, takings_up_keep, unwatches_keep,
-    watches_keep,
+    answers_keep, beginnings_keep, beginnings_queue, chapters_keep, ends_keep, hearings_keep,
+    leavers_keep, looks_keep, looks_queue, operation_queues_tell, phases_keep, queues_tell,
+    refusals_keep, takes_keep, takings_up_keep, takings_up_queue, unwatches_keep, watches_keep,
 };
