@@ -3,6 +3,7 @@
 
 mod asking;
 mod calls;
+mod finishing;
 mod object;
 mod place;
 mod queries;
@@ -10,6 +11,7 @@ mod turns;
 
 pub use asking::Desk;
 pub use calls::{answer_once, look_once};
+pub use finishing::{Finished, finish};
 pub use object::DomainObj;
 pub use place::Seen;
 pub use queries::{Queried, query};
