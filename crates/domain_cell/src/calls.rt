@@ -14,6 +14,7 @@ ghost use Rattle.domain_turns.specs.Looking.{IsKnownFirst, Looks};
 ghost use Rattle.domain_turns.specs.Refusing.{HasRefused};
 ghost use Rattle.domain_turns.specs.Turning.{Takes};
 ghost use Rattle.made_boots.specs.Made.{made_boot};
+ghost use Rattle.own_shares.specs.Queued.{queue_of};
 
 use crate::cell::DomainCell;
 use domain_spec::First;
@@ -31,6 +32,7 @@ impl<M: Monitor + Drop, E: Ears + Drop, Z: Killer + Drop> DomainCell<M, E, Z> {
         requires can { CanLook (cell_in self.old) by.number who call.now first }
         requires known { IsKnownFirst first (cell_in self.old) }
         ensures looks { Looks by.number who call.now first self.old.core.turning self.new.core.turning (looked_of result) }
+        ensures queue { (cell_in self.new).queue ≡ queue_of (looked_of result) (cell_in self.old).queue by.number who }
         ensures excluded { self.new.core.excluded ≡ excluded_by who call.now (looked_of result) }
         ensures out { self.new.out ≡ out_by (is_some (look_ticket result)) (made_boot (standing_in self.new)) self.old.out }
         ensures ticket { HasMonitor (is_some self.new.out) (look_ticket result) }

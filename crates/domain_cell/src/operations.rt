@@ -10,6 +10,7 @@ ghost use Rattle.made_boots.specs.Made.{made_boot};
 ghost use Rattle.operation_turns.specs.Beginning.{LooksToBegin, LooksToTakeUp};
 ghost use Rattle.operation_turns.specs.Ending.{CanEnd, Ends};
 ghost use Rattle.operation_turns.specs.Phasing.{IsDue, Phases};
+ghost use Rattle.own_shares.specs.Queued.{queue_by};
 
 use crate::cell::DomainCell;
 use guest_links::{PhaseLook, hand_phase, keep};
@@ -25,6 +26,7 @@ impl<M: Monitor + Drop, E: Ears + Drop, Z: Killer + Drop> DomainCell<M, E, Z> {
     pub fn begin_op(&mut self, alloc: Global, by: Stamp, who: Who, call: &Call) -> OperationLook
         requires can { CanTake (cell_in self.old) (step.BeginOp by.number who call.now) }
         ensures looks { LooksToBegin by.number who call.now self.old.core.turning self.new.core.turning result }
+        ensures queue { (cell_in self.new).queue ≡ queue_by result (cell_in self.old).queue by.number who }
         ensures excluded { self.new.core.excluded ≡ excluded_so who call.now result }
         ensures out { self.new.out ≡ self.old.out }
         ensures others { KeepsOtherShares by.number self.old self.new }
@@ -39,6 +41,7 @@ impl<M: Monitor + Drop, E: Ears + Drop, Z: Killer + Drop> DomainCell<M, E, Z> {
     pub fn take_up(&mut self, alloc: Global, by: Stamp, who: Who, call: &Call) -> OperationLook
         requires can { CanTake (cell_in self.old) (step.TakeUp by.number who call.now) }
         ensures looks { LooksToTakeUp by.number who call.now self.old.core.turning self.new.core.turning result }
+        ensures queue { (cell_in self.new).queue ≡ queue_by result (cell_in self.old).queue by.number who }
         ensures excluded { self.new.core.excluded ≡ excluded_so who call.now result }
         ensures out { self.new.out ≡ self.old.out }
         ensures others { KeepsOtherShares by.number self.old self.new }

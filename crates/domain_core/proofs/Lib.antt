@@ -5,6 +5,7 @@ pub mod Looks
 pub mod Operating
 pub mod Others
 pub mod Parts
+pub mod Queued
 pub mod Shares
 pub mod Shown
 pub mod Watching

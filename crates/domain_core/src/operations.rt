@@ -11,6 +11,7 @@ ghost use Rattle.domain_turns.specs.Rooms.{HasEnd};
 ghost use Rattle.operation_turns.specs.Beginning.{BeginsSo, LooksToBegin, LooksToTakeUp, TakesUpSo};
 ghost use Rattle.operation_turns.specs.Ending.{CanEnd, Ends};
 ghost use Rattle.operation_turns.specs.Phasing.{IsDue, Phases};
+ghost use Rattle.own_shares.specs.Queued.{queue_by};
 ghost use Rattle.turn_shares.specs.Shares.{KeepsOthers};
 
 use crate::looking::keep_refusal;
@@ -108,6 +109,7 @@ impl DomainTurns {
     pub fn begin_op(&mut self, alloc: Global, by: Stamp, who: Who, call: &Call) -> OperationLook
         requires can { CanTake self.old.turning.cell (step.BeginOp by.number who call.now) }
         ensures looks { LooksToBegin by.number who call.now self.old.turning self.new.turning result }
+        ensures queue { self.new.turning.cell.queue ≡ queue_by result self.old.turning.cell.queue by.number who }
         ensures others { KeepsOthers by.number self.old.turning.cell self.new.turning.cell }
         ensures excluded { self.new.excluded ≡ excluded_so who call.now result }
     {
@@ -134,6 +136,7 @@ impl DomainTurns {
     pub fn take_up(&mut self, alloc: Global, by: Stamp, who: Who, call: &Call) -> OperationLook
         requires can { CanTake self.old.turning.cell (step.TakeUp by.number who call.now) }
         ensures looks { LooksToTakeUp by.number who call.now self.old.turning self.new.turning result }
+        ensures queue { self.new.turning.cell.queue ≡ queue_by result self.old.turning.cell.queue by.number who }
         ensures others { KeepsOthers by.number self.old.turning.cell self.new.turning.cell }
         ensures excluded { self.new.excluded ≡ excluded_so who call.now result }
     {

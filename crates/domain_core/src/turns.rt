@@ -18,6 +18,7 @@ ghost use Rattle.domain_turns.specs.Refusing.{HasRefused};
 ghost use Rattle.domain_turns.specs.Turning.{Takes};
 ghost use Rattle.turn_shares.specs.Shares.{KeepsOthers};
 ghost use Rattle.client_turns.specs.Places.{last_place};
+ghost use Rattle.own_shares.specs.Queued.{queue_of};
 
 use crate::looking::look_on;
 use client_turns::last;
@@ -110,6 +111,7 @@ impl DomainTurns {
         requires can { CanLook self.old.turning.cell by.number who call.now first }
         requires known { IsKnownFirst first self.old.turning.cell }
         ensures looks { Looks by.number who call.now first self.old.turning self.new.turning result }
+        ensures queue { self.new.turning.cell.queue ≡ queue_of result self.old.turning.cell.queue by.number who }
         ensures others { KeepsOthers by.number self.old.turning.cell self.new.turning.cell }
         ensures excluded { self.new.excluded ≡ excluded_by who call.now result }
     {

@@ -7,7 +7,6 @@ use Rattle.domain_spec.specs.declared.standing.Standing.{Standing}
 use Rattle.domain_spec.specs.Cell.{Cell, Queue, share_of, standing_of, waits_of}
 use Rattle.domain_spec.specs.Fold.{standing}
 use Rattle.domain_spec.specs.Turns.{IsTurn, Leads}
-use Rattle.domain_ledger.specs.declared.ledger.Back.{Back}
 use Rattle.domain_ledger.specs.declared.ledger.Back.TheVariants as back
 use Rattle.own_shares.specs.Answered.{AnswersKeep}
 use Rattle.own_shares.specs.Staying.{AsideStays}

@@ -1,5 +1,5 @@
 -- Who waits after a look, and what that tells of its number.
-use Rattle.std.proofs.Common.{◌≡◌, inl, inr, ℕ, Option}
+use Rattle.std.proofs.Common.{◌≡◌, inl, inr, ℕ}
 use Rattle.domain_spec.specs.Types.{Call, Who}
 use Rattle.domain_spec.specs.Cell.{Queue}
 use Rattle.domain_spec.specs.Reading.{live_boot}

@@ -1,5 +1,5 @@
 -- Who waits by a number after a turn of its own.
-use Rattle.std.proofs.Common.{◌≡◌, inl, inr, ℕ, ◌+◌, ◌≤◌, ◌==◌, List, [], ◌∷◌, ◌++◌, find, Bool, true, false, not, Option, None, Some, option_map, if◌then◌else◌, refl, sym, ap, ◌∙◌, subst, eq-eqb, arith}
+use Rattle.std.proofs.Common.{◌≡◌, inl, inr, ℕ, ◌≤◌, ◌==◌, List, [], ◌∷◌, ◌++◌, find, Bool, true, false, not, Option, None, Some, option_map, if◌then◌else◌, refl, sym, ap, ◌∙◌, subst, eq-eqb, arith}
 use Rattle.std.specs.Prelude.{unwrap_or}
 use Rattle.domain_spec.specs.Types.{Call, Who}
 use Rattle.domain_spec.specs.declared.mark.Mark.{Mark}
