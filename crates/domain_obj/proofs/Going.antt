@@ -3,20 +3,33 @@ use Rattle.std.proofs.Common.{◌≡◌, ℕ, ◌+◌, ◌++◌, List, [], ◌�
 use Rattle.history_spec.specs.Chapter.{tagged}
 use Rattle.history_spec.specs.Pass.{own}
 use Rattle.history_spec.proofs.Beginnings.{begins_itself}
-use Rattle.domain_spec.specs.Types.{Answer, Ask, Reply}
+use Rattle.domain_spec.specs.Types.{Answer, Ask, Call, Reply, Transition, Who}
+use Rattle.domain_spec.specs.declared.core_step.First.{First}
+use Rattle.domain_spec.specs.declared.open.OpenJob.{OpenJob}
+use Rattle.domain_spec.specs.Call.{job_of}
+use Rattle.domain_spec.specs.Reading.{live_boot}
+use Rattle.domain_core.specs.Shares.{IsFree}
+use Rattle.domain_turns.specs.Looking.{boot_first}
+use Rattle.domain_turns.specs.declared.looking.Looked.{Looked}
+use Rattle.domain_turns.specs.declared.looking.Looked.TheVariants as looked
+use Rattle.domain_obj.specs.Calling.{IsDone, RanOut}
+use Rattle.domain_obj.specs.declared.finishing.Finished.TheVariants as finished
+use Rattle.guest_links.specs.declared.ticket.Look.{Look}
+use Rattle.guest_links.specs.declared.ticket.Look.TheVariants as look
+use Rattle.own_shares.specs.Looked.{IsLooked}
 use Rattle.domain_spec.specs.declared.mark.Mark.{Mark}
 use Rattle.domain_spec.specs.declared.mark.Mark.TheVariants as mark
 use Rattle.domain_spec.specs.declared.open.OpenOperation.{OpenOperation}
 use Rattle.domain_spec.specs.Cell.{OpenCall, share_of}
-use Rattle.domain_cell.specs.Celled.{CellShare, Celled, cell_in, cell_share, chapter_of, monitor_of}
+use Rattle.domain_cell.specs.Celled.{CellShare, Celled, cell_in, cell_share, chapter_of, monitor_of, standing_in}
 use Rattle.domain_cell.specs.Keeping.{new_base_keeps, no_mark_lowers}
 use Rattle.domain_cell.specs.Meaning.{meaning}
 use Rattle.domain_ledger.specs.declared.phase_out.Step.{Step}
 use Rattle.domain_obj.specs.Asking.{AwaitsAnswer, AsksLast, FitsAsk, IsAsked, MayBeAnswered}
-use Rattle.domain_obj.specs.Finishing.{IsAway, IsFinished, IsStillAway}
+use Rattle.domain_obj.specs.Finishing.{HasFinished, IsAway, IsFinished, IsStillAway}
 use Rattle.domain_obj.specs.InTurn.{DomainPass}
 use Rattle.domain_obj.specs.Running.{Goes, IsSpent}
-use Rattle.domain_obj.specs.Turns.{HasAnswered}
+use Rattle.domain_obj.specs.Turns.{HasAnswered, HasLooked}
 use Rattle.guest_links.specs.declared.ticket.Back.TheVariants as back
 use Rattle.guest_links.specs.declared.ticket.Ticket.{Ticket}
 use Rattle.turn_cell.specs.Turning.{Went}
@@ -180,6 +193,7 @@ finishes first now after asked sent report report_now report_then x r k then_is 
             ∙ done_mark now.number first.number h.call k.still.was h.new.core.turning.chapter h.old.core.turning.chapter l.asks l.answers r l.events k.still.goes.went.same.number (ap (λ (c : OpenCall). c.job) same ∙ k.still.job) h.same_chapter)
             (goes_on k.still.turns 1 [] (tagged h.new.core.turning.chapter (own whose now.number h.left)) first now after k.still.goes h.goes);
         heard = heard_then k.still.was k.still.call h.call asked x k.more l.asks l.answers k.still.heard same l.told_is;
+        closed = h.keeps.call;
       },
     )
 
@@ -194,3 +208,82 @@ pub spends : (first now after : DomainPass) (asked : Ask) (sent : Bool) (report 
     → (more : List (Ask × Answer)) × (y : Ask) × (a : Answer) × (mid : DomainPass) × IsStillAway first mid more × IsAsked mid y × (report_then ≡ report ++ (more ++ told (y ∷ []) (a ∷ []))) × IsSpent mid after
 spends first now after asked sent report report_now report_then x k then_is spent =
     (k.more, asked, x, now, k.still, k.away.last, then_is ∙ ap (λ (l : List (Ask × Answer)). l ++ told (asked ∷ []) (x ∷ [])) k.reported ∙ append_assoc report k.more (told (asked ∷ []) (x ∷ [])), spent)
+
+-- a whole call
+
+abbrev boot_of_look : First → Celled → Option ℕ
+boot_of_look f old = boot_first f (live_boot (standing_in old).state)
+
+free_operation : (before after : DomainPass) (who : Who) (d : Call) (r : Looked) → IsFree before.share.kept who → IsLooked who before.share.kept after.share.kept r → after.share.kept.operation ≡ None
+free_operation before after who d r free keeps = keeps.rest.operation ∙ free.no_operation
+
+pub is_away : {M : Type 0} (before after : DomainPass) (who : Who) (d : Call) (f : First) (t : Ticket M) (x : Ask) → IsFree before.share.kept who → HasLooked who d f before after (look.Away t x) → IsAway after x (is_some t.monitor)
+is_away before after who d f t x free h =
+    let l = h.leaves in
+    let there : after.share.kept.call ≡ Some l.away = ap (λ (s : CellShare). s.kept.call) h.share_is ∙ l.is_open in
+    record {
+      last = subst (λ (o : Option OpenCall). AsksLast o x) (sym there) (l.before, l.asks_last);
+      awaits = h.waits;
+      monitor = h.ticket ∙ ap is_some (sym (after_monitor after before.number h.new l.away h.share_is there));
+      no_operation = free_operation before after who d (looked.Away x) free h.keeps;
+    }
+
+none_told : (report now : List (Ask × Answer)) (asks : List Ask) (answers : List Answer) → now ≡ report → told asks answers ≡ [] → now ≡ report ++ told asks answers
+none_told report now asks answers e none = e ∙ sym (append-nil report) ∙ ap (λ (l : List (Ask × Answer)). report ++ l) (sym none)
+
+pub done_at_once : {M : Type 0} (before after : DomainPass) (who : Who) (d : Call) (f : First) (r : Reply) (report now : List (Ask × Answer)) → now ≡ report → HasLooked {M = M} who d f before after (look.Done r) → IsDone who d before after report now r
+done_at_once before after who d f r report now same h =
+    let l = h.leaves in
+    record {
+      turns = 1;
+      chapter = h.new.core.turning.chapter;
+      boot = _;
+      asks = l.asks;
+      answers = l.answers;
+      events = l.events;
+      goes = subst (λ (ms : List (Mark ℕ)). Goes 1 (tagged h.new.core.turning.chapter ms) before after) l.own_are h.goes;
+      reported = none_told report now l.asks l.answers same l.none_told;
+      closed = h.keeps.call;
+    }
+
+some_chapter : (a b : ℕ) → Some a ≡ Some b → a ≡ b
+some_chapter a b e = cc
+
+done_as : (n m c e : ℕ) (j k : OpenJob) (who : Who) (d : Call) (boot : Option ℕ) (asks : List Ask) (answers : List Answer) (r : Reply) (events : List Transition) → n ≡ m → c ≡ e → j ≡ k → k.who ≡ who → k.call ≡ d → k.boot ≡ boot
+    → tagged c (mark.Done n j.who j.call j.boot asks answers r events ∷ []) ≡ tagged e (mark.Done m who d boot asks answers r events ∷ [])
+done_as n m c e j k who d boot asks answers r events a b f g h i = cc
+
+pub done_then : {M : Type 0} (before mid after : DomainPass) (who : Who) (d : Call) (f : First) (t : Ticket M) (x : Ask) (r : Reply) (report now : List (Ask × Answer)) → HasLooked who d f before mid (look.Away t x)
+    → (more : List (Ask × Answer)) × (now ≡ report ++ more) × IsFinished mid after more r → IsDone who d before after report now r
+done_then before mid after who d f t x r report now h (more, said, g) =
+    let l = h.leaves in
+    let there : mid.share.kept.call ≡ Some l.away = ap (λ (s : CellShare). s.kept.call) h.share_is ∙ l.is_open in
+    let same : g.call ≡ l.away = some_call g.call l.away (sym g.was_open ∙ there) in
+    let in_one : g.chapter ≡ h.new.core.turning.chapter = some_chapter g.chapter h.new.core.turning.chapter (sym g.in_chapter ∙ after_chapter mid before.number h.new l.away h.share_is there) in
+    let job : g.call.job ≡ record { number = before.number; who = who; job = job_of d; call = d; boot = boot_of_look f h.old; before = None } = ap (λ (c : OpenCall). c.job) same ∙ l.job_is in
+    record {
+      turns = 1 + g.turns;
+      chapter = h.new.core.turning.chapter;
+      boot = boot_of_look f h.old;
+      asks = g.asks;
+      answers = g.answers;
+      events = g.events;
+      goes =
+          goes_on 1 g.turns (tagged h.new.core.turning.chapter (mark.Admit before.number who (job_of d) d (boot_of_look f h.old) ∷ [])) (tagged h.new.core.turning.chapter (mark.Done before.number who d (boot_of_look f h.old) g.asks g.answers r g.events ∷ [])) before mid after
+          (subst (λ (ms : List (Mark ℕ)). Goes 1 (tagged h.new.core.turning.chapter ms) before mid) l.own_are h.goes)
+          (subst (λ (ms : List (ℕ × Mark ℕ)). Goes g.turns ms mid after)
+          (done_as mid.number before.number g.chapter h.new.core.turning.chapter g.call.job (record { number = before.number; who = who; job = job_of d; call = d; boot = boot_of_look f h.old; before = None }) who d (boot_of_look f h.old) g.asks g.answers r g.events h.goes.went.same.number in_one job refl refl refl)
+          g.goes);
+      reported =
+          said ∙ ap (λ (m : List (Ask × Answer)). report ++ m)
+          (sym (g.heard ∙ ap (λ (c : OpenCall). told c.asks c.answers ++ more) same ∙ ap (λ (m : List (Ask × Answer)). m ++ more) l.none_told));
+      closed = g.closed;
+    }
+
+pub spent_then : {M : Type 0} (before mid after : DomainPass) (who : Who) (d : Call) (f : First) (r : Look M) (report now : List (Ask × Answer)) → HasLooked who d f before mid r → HasFinished mid after report now finished.Spent → RanOut before after
+spent_then before mid after who d f r report now h (more, asked, x, last, still, is_asked, said, spent) =
+    let first = tagged h.new.core.turning.chapter (own whose before.number h.left) in
+    (1 + still.turns, first ++ [], last, goes_on 1 still.turns first [] before mid last h.goes still.goes, spent)
+
+pub spent_at_once : (before after : DomainPass) → IsSpent before after → RanOut before after
+spent_at_once before after spent = (0, [], before, goes_nowhere before, spent)

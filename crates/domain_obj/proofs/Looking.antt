@@ -39,6 +39,10 @@ use Rattle.made_boots.specs.Made.{AsksThis}
 use Rattle.turn_cell.specs.Passes.{Enters, left_by}
 use Rattle.turn_cell.specs.Turning.{Changes, HasTurned as PassTurned}
 use Rattle.turn_cell.proofs.Turning.{has_turned}
+use Rattle.own_shares.specs.Answered.{IsAnsweredTo}
+use Rattle.own_shares.specs.Looked.{IsLooked}
+use Rattle.own_shares.proofs.Backs.{answers_keep}
+use Rattle.own_shares.proofs.Looks.{looks_keep}
 use Rattle.turn_marks.specs.Answered.{BackLeaves}
 use Rattle.turn_marks.specs.Looked.{LookLeaves}
 use Rattle.turn_marks.specs.Steady.{IsSteady}
@@ -130,6 +134,7 @@ looked_once before after turn mid now who d f r enters looks same told legal lef
     subst (λ (v : Celled). Changes meaning n (own whose n leaves.0) turn.value v) (sym value) (look_changes n who d f turn.value mid.value leaves.0 leaves.1 looks.others) in
     let turned : PassTurned meaning before after turn.entry now.value = has_turned meaning before after turn now enters kept left in
     let share : after.share ≡ cell_share mid.value before.number = turned.share ∙ ap (λ (v : Celled). cell_share v before.number) value in
+    let kept_now : share_of (cell_in mid.value) n ≡ after.share.kept = ap (λ (k : ℕ). share_of (cell_in mid.value) k) number ∙ sym (ap (λ (s : CellShare). s.kept) share) in
     record {
       old = turn.value;
       new = mid.value;
@@ -145,6 +150,9 @@ looked_once before after turn mid now who d f r enters looks same told legal lef
       waits =
           look_waits n who d f turn.value.core.turning mid.value.core.turning (looked_of r) after.share.kept.call looks.looks
           (ap (λ (s : CellShare). s.kept.call) share ∙ ap (λ (k : ℕ). (share_of (cell_in mid.value) k).call) (sym number));
+      keeps =
+          subst (λ (s : Share). IsLooked who s after.share.kept (looked_of r)) (sym (kept_found before turn enters))
+          (subst (λ (s : Share). IsLooked who (share_of (cell_in turn.value) n) s (looked_of r)) kept_now (looks_keep turn.value.core.turning mid.value.core.turning n who d f (looked_of r) looks.looks));
     }
 
 -- an answer
@@ -215,4 +223,7 @@ answered_once before after first turn mid now asked x r last entered begun stead
       waits =
           back_waits n x turn.value.core.turning mid.value.core.turning (back_of r) after.share.kept.call goes.back
           (ap (λ (s : Share). s.call) (sym kept_now));
+      keeps =
+          subst (λ (s : Share). IsAnsweredTo s after.share.kept (back_of r)) (sym (kept_found before turn enters))
+          (subst (λ (s : Share). IsAnsweredTo (share_of (cell_in turn.value) n) s (back_of r)) kept_now (answers_keep turn.value.core.turning mid.value.core.turning n x (back_of r) goes.back));
     }

@@ -43,6 +43,7 @@ pub record IsFinished (before after : DomainPass) (more : List (Ask × Answer)) 
   pub in_chapter : before.share.chapter ≡ Some chapter
   pub goes : Goes turns (tagged chapter (mark.Done before.number call.job.who call.job.call call.job.boot asks answers r events ∷ [])) before after
   pub heard : told asks answers ≡ told call.asks call.answers ++ more
+  pub closed : after.share.kept.call ≡ None
 
 -- how the asks of a call end: the desk was asked just what the mark says, but for what found no memory; where no ticket was
 -- left, it was asked once more than the call was answered

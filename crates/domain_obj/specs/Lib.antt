@@ -1,4 +1,5 @@
 pub mod Asking
+pub mod Calling
 pub mod Finishing
 pub mod InTurn
 pub mod Running

@@ -17,6 +17,8 @@ use Rattle.domain_turns.specs.declared.looking.Looked.TheVariants as looked
 use Rattle.guest_links.specs.Tickets.{HasMonitor, back_of, back_ticket, look_ticket, looked_of}
 use Rattle.guest_links.specs.declared.ticket.Back.{Back}
 use Rattle.guest_links.specs.declared.ticket.Look.{Look}
+use Rattle.own_shares.specs.Answered.{IsAnsweredTo}
+use Rattle.own_shares.specs.Looked.{IsLooked}
 use Rattle.turn_marks.specs.Answered.{BackLeaves}
 use Rattle.turn_marks.specs.Looked.{LookLeaves}
 use Rattle.turn_shares.specs.Shares.{whose}
@@ -42,6 +44,7 @@ module _ {M : Type 0} where
     pub share_is : after.share ≡ cell_share new before.number
     pub ticket : HasMonitor (is_some new.out) (look_ticket result)
     pub waits : LookWaits (looked_of result) after.share.kept.call
+    pub keeps : IsLooked who before.share.kept after.share.kept (looked_of result)
 
   -- a pass took one turn, in which its open call, which had asked this last, was answered so
   pub record HasAnswered (asked : Ask) (x : Answer) (before after : DomainPass) (result : Back M) : Type 0 where
@@ -57,3 +60,4 @@ module _ {M : Type 0} where
     pub same_chapter : new.core.turning.chapter ≡ old.core.turning.chapter
     pub ticket : HasMonitor (is_some new.out) (back_ticket result)
     pub waits : BackWaits (back_of result) after.share.kept.call
+    pub keeps : IsAnsweredTo before.share.kept after.share.kept (back_of result)

@@ -2,6 +2,7 @@
 #![tactic(auto)]
 
 mod asking;
+mod calling;
 mod calls;
 mod finishing;
 mod object;
@@ -10,6 +11,7 @@ mod queries;
 mod turns;
 
 pub use asking::Desk;
+pub use calling::{Called, call_once};
 pub use calls::{answer_once, look_once};
 pub use finishing::{Finished, finish};
 pub use object::DomainObj;
