@@ -1,19 +1,14 @@
 -- A call that looks whether its operation may begin, or may be taken up, where its refusal is set aside.
-use Rattle.std.proofs.Common.{◌≡◌, ◌⊎◌, ◌≤◌, ◌+◌, ℕ, inl, inr, List, length, Option, None, Some, sym, ap, ◌∙◌, subst, arith}
+use Rattle.std.proofs.Common.{◌≡◌, ℕ, inl, inr, Option, sym, ap, ◌∙◌, subst}
 use Rattle.job_rules.specs.declared.record.JobRecord.{JobRecord}
-use Rattle.domain_spec.specs.Types.{Call, Reply, Who}
-use Rattle.domain_spec.specs.declared.core_step.CoreStep.{CoreStep}
-use Rattle.domain_spec.specs.declared.mark.Mark.{Mark}
+use Rattle.domain_spec.specs.Types.{Call, Who}
 use Rattle.domain_spec.specs.Cell.{Queue}
 use Rattle.domain_spec.specs.Kept.{left_queue}
 use Rattle.domain_spec.specs.Open.{Excludes, job_held, operation_held}
-use Rattle.domain_ledger.specs.declared.ledger.Begun.{Begun}
 use Rattle.domain_record.specs.Record.{Recorded, force_of}
 use Rattle.domain_turns.specs.Looking.{with_room}
-use Rattle.domain_turns.specs.Turning.{HasTurned, Turning}
 use Rattle.domain_turns.proofs.Refused.{left_joined}
-use Rattle.operation_turns.specs.Beginning.{BeginsSo, Enters, Looks, TakesUpSo, WaitsSo}
-use Rattle.operation_turns.specs.declared.beginning.OperationLook.{OperationLook}
+use Rattle.operation_turns.specs.Beginning.{BeginsSo, TakesUpSo, WaitsSo}
 use Rattle.operation_turns.specs.declared.beginning.OperationLook.TheVariants as look
 
 still_waits : (n : ℕ) (who : Who) (c : Call) (old mid new : Recorded) (q p : Queue) (held : JobRecord) (boot : Option ℕ) (looks : ℕ)

@@ -9,7 +9,6 @@ use Rattle.domain_ledger.specs.Away.{WaitsWith}
 use Rattle.domain_ledger.specs.Ledger.{standing_in}
 use Rattle.domain_listeners.specs.Listening.{registrations}
 use Rattle.domain_record.specs.Record.{Recorded, force_of}
-use Rattle.domain_turns.specs.Looking.{with_room}
 use Rattle.domain_turns.specs.Rooms.{HasEnd, IsKept, rooms_lent}
 use Rattle.domain_turns.specs.Turning.{Takes, turning}
 use Rattle.domain_turns.specs.declared.refusing.Refusable.{Refusable}

@@ -1,8 +1,11 @@
 pub mod Begins
 pub mod Hearing
+pub mod LastAsk
 pub mod Looks
 pub mod Operating
+pub mod Others
 pub mod Parts
+pub mod Queued
 pub mod Shares
 pub mod Shown
 pub mod Watching

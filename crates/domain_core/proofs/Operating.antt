@@ -1,5 +1,5 @@
 -- What holds between two turns holds after a turn of an operation.
-use Rattle.std.proofs.Common.{◌≡◌, ◌⊎◌, ◌≤◌, ◌+◌, ℕ, inl, inr, List, length, false, Option, None, Some, refl, sym, ap, ◌∙◌, subst, arith}
+use Rattle.std.proofs.Common.{◌≡◌, ◌⊎◌, ◌≤◌, ◌+◌, ℕ, inl, inr, List, length, false, Option, None, Some, refl, sym, ap, subst, arith}
 use Rattle.domain_spec.specs.Types.{Call, Reply, Who}
 use Rattle.domain_spec.specs.declared.core_step.CoreStep.{CoreStep}
 use Rattle.domain_spec.specs.declared.core_step.CoreStep.TheVariants as step
@@ -16,7 +16,6 @@ use Rattle.domain_ledger.specs.Away.{WaitsWith}
 use Rattle.domain_ledger.specs.Ledger.{standing_in}
 use Rattle.domain_listeners.specs.Listening.{registrations}
 use Rattle.domain_record.specs.Record.{Recorded, force_of}
-use Rattle.domain_turns.specs.Looking.{with_room}
 use Rattle.domain_turns.specs.Refusing.{IsSetAside}
 use Rattle.domain_turns.specs.Rooms.{HasEnd, rooms_lent, rooms_needed, ends_needed, marks_needed}
 use Rattle.domain_turns.specs.Turning.{HasTurned, Turning, cell_of, turning, FitsJob}
@@ -68,7 +67,7 @@ waits_course n who d old new q p look.NoMemory h = ap (λ (r : Recorded). r.cour
 waits_course n who d old new q p look.Begun h = absurd h
 waits_course n who d old new q p (look.Done r) h = absurd h
 
-begins_course : (n : ℕ) (who : Who) (d : Call) (old new : Recorded) (q p : Queue) (result : OperationLook) → BeginsSo n who d old new q p result → (new.course ≡ None) ⊎ (new.course ≡ old.course)
+pub begins_course : (n : ℕ) (who : Who) (d : Call) (old new : Recorded) (q p : Queue) (result : OperationLook) → BeginsSo n who d old new q p result → (new.course ≡ None) ⊎ (new.course ≡ old.course)
 begins_course n who d old new q p look.Begun (inl h) = inl h.1.1.3
 begins_course n who d old new q p (look.Done r) (inl h) = inl h.1.1.1.none_away
 begins_course n who d old new q p look.NoMemory (inl h) = inr (ap (λ (r : Recorded). r.course) h.1.0)
@@ -76,7 +75,7 @@ begins_course n who d old new q p (look.Excluded held boot looks) (inl h) = absu
 begins_course n who d old new q p (look.WaitersFull w) (inl h) = absurd h.1
 begins_course n who d old new q p result (inr h) = inr (waits_course n who d old new q p result h.1)
 
-takes_course : (n : ℕ) (who : Who) (d : Call) (old new : Recorded) (q p : Queue) (result : OperationLook) → TakesUpSo n who d old new q p result → (new.course ≡ None) ⊎ (new.course ≡ old.course)
+pub takes_course : (n : ℕ) (who : Who) (d : Call) (old new : Recorded) (q p : Queue) (result : OperationLook) → TakesUpSo n who d old new q p result → (new.course ≡ None) ⊎ (new.course ≡ old.course)
 takes_course n who d old new q p look.Begun (inl h) = inl h.1.1.3
 takes_course n who d old new q p (look.Done r) (inl h) = inl h.1.1.1.none_away
 takes_course n who d old new q p look.NoMemory (inl h) = inr (ap (λ (r : Recorded). r.course) h.1.0)
@@ -84,7 +83,7 @@ takes_course n who d old new q p (look.Excluded held boot looks) (inl h) = absur
 takes_course n who d old new q p (look.WaitersFull w) (inl h) = absurd h.1
 takes_course n who d old new q p result (inr h) = inr (waits_course n who d old new q p result h.1)
 
-op_turned : (t : CoreStep ℕ) (marks : List (Mark ℕ)) (n : ℕ) (who : Who) (d : Call) (old new : Turning) (result : OperationLook) → Looks t marks n who d old new result → (left : List (Mark ℕ)) × HasTurned old new t left
+pub op_turned : (t : CoreStep ℕ) (marks : List (Mark ℕ)) (n : ℕ) (who : Who) (d : Call) (old new : Turning) (result : OperationLook) → Looks t marks n who d old new result → (left : List (Mark ℕ)) × HasTurned old new t left
 op_turned t marks n who d old new look.Begun h = (h.0, h.1)
 op_turned t marks n who d old new (look.Done r) h = (h.0, h.1)
 op_turned t marks n who d old new (look.Excluded held boot looks) h = (h.0, h.1)
@@ -142,7 +141,7 @@ due_by : (o : Option OpenOperation) (n : ℕ) (who : Who) → IsDue o n who → 
 due_by None n who h = absurd h
 due_by (Some o) n who h = (h.0, h.1, no_rest o.outcome h.2)
 
-phase_turned : (n : ℕ) (who : Who) (old new : Turning) (result : PhaseLook) → Phases n who old new result → (left : List (Mark ℕ)) × HasTurned old new (step.Phase n who) left
+pub phase_turned : (n : ℕ) (who : Who) (old new : Turning) (result : PhaseLook) → Phases n who old new result → (left : List (Mark ℕ)) × HasTurned old new (step.Phase n who) left
 phase_turned n who old new (phase_look.Away x) h = (h.1.0, h.1.1)
 phase_turned n who old new (phase_look.Phased st) h = (h.1.0, h.1.1)
 phase_turned n who old new phase_look.Excluded h = (h.1.0, h.1.1)

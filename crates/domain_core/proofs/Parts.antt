@@ -1,27 +1,26 @@
 -- A turn of a domain, as its value shows it.
-use Rattle.std.proofs.Common.{◌≡◌, ◌≤◌, ◌+◌, ℕ, List, [], length, Bool, true, false, if◌then◌else◌, Option, None, Some, refl, sym, ap, ◌∙◌, subst, arith}
+use Rattle.std.proofs.Common.{◌≡◌, ◌≤◌, ◌+◌, ℕ, List, length, Bool, true, false, if◌then◌else◌, Option, None, Some, sym, ap, ◌∙◌, subst, arith}
 use Rattle.domain_spec.specs.Types.{Answer, Call, Who}
 use Rattle.domain_spec.specs.Types.code
 use Rattle.domain_spec.specs.declared.core_step.CoreStep.TheVariants as step
 use Rattle.domain_spec.specs.declared.core_step.First.{First}
 use Rattle.domain_spec.specs.declared.mark.Mark.TheVariants as mark
-use Rattle.domain_spec.specs.Call.{begins, job_of, takes_up}
+use Rattle.domain_spec.specs.Call.{job_of}
 use Rattle.domain_spec.specs.CanTake.{CanLook, CanTake}
-use Rattle.domain_spec.specs.Cell.{HeldEvent, LentEars, Queue, standing_of}
+use Rattle.domain_spec.specs.Cell.{HeldEvent, LentEars, Queue}
 use Rattle.domain_spec.specs.JobTable.{May}
 use Rattle.domain_spec.specs.Legal.{IsLawful}
 use Rattle.domain_spec.specs.Open.{job_held, operation_held}
 use Rattle.domain_spec.specs.Reading.{live_boot}
 use Rattle.domain_spec.specs.Turns.{AllHaveRoom}
 use Rattle.domain_ledger.specs.Away.{WaitsWith}
-use Rattle.domain_ledger.specs.Ledger.{standing_in}
 use Rattle.domain_ledger.specs.declared.ledger.Back.{Back}
 use Rattle.domain_listeners.specs.Listening.{registrations}
 use Rattle.domain_record.specs.Record.{Recorded, force_of}
 use Rattle.domain_turns.specs.Answering.{Answers, GoesBack, IsNumbered, MayBeAnswered, held_after}
 use Rattle.domain_turns.specs.Looking.{IsKnownFirst, Looks, LooksSo, boot_first}
 use Rattle.domain_turns.specs.Refusing.{GivesUp, HasRefused}
-use Rattle.domain_turns.specs.Rooms.{rooms_lent, rooms_needed}
+use Rattle.domain_turns.specs.Rooms.{rooms_lent}
 use Rattle.domain_turns.specs.Turning.{Takes, cell_of, turning}
 use Rattle.domain_turns.specs.declared.looking.Looked.{Looked}
 use Rattle.domain_turns.specs.declared.refusing.Refusable.{Refusable}
@@ -65,11 +64,6 @@ look_goes v old new q p held ears x rooms capacity n who d f result is whole can
 
 pub back_numbered : (v : Core) (r : Recorded) (q : Queue) (held : List HeldEvent) (ears : Option LentEars) (x : Option Refusable) (n : ℕ) (y : Answer) → core_of r q held ears x ≡ v → CanTake v.turning.cell (step.Back n y) → IsNumbered (force_of r).job n
 back_numbered v r q held ears x n y is can = numbered r q held ears n y (subst (λ (c : Core). CanTake c.turning.cell (step.Back n y)) (sym is) can)
-
-pub back_may : (v : Core) (r : Recorded) (q : Queue) (held : List HeldEvent) (ears : Option LentEars) (x : Option Refusable) (y : Answer) → core_of r q held ears x ≡ v
-    → MayBeAnswered (standing_of v.turning.cell) (standing_of v.turning.cell).job v.turning.course y → MayBeAnswered (force_of r) (force_of r).job r.course y
-unfolding standing_in
-back_may v r q held ears x y is may = subst (λ (c : Core). MayBeAnswered (standing_of c.turning.cell) (standing_of c.turning.cell).job c.turning.course y) (sym is) may
 
 pub back_room : (r : Recorded) (q : Queue) (held : List HeldEvent) (ears : Option LentEars) (x : Option Refusable) (rooms capacity : ℕ) (y : Answer) → IsWhole r q held ears x rooms capacity → MayBeAnswered (force_of r) (force_of r).job r.course y
     → (2 + rooms ≤ r.spare) × (length held + 1 ≤ rooms)

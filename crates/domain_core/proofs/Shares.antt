@@ -1,8 +1,7 @@
 -- What the share of a pass says of the domain.
-use Rattle.std.proofs.Common.{◌≡◌, ◌≢◌, ℕ, ◌+◌, ◌==◌, length, Bool, true, false, not, ◌&&◌, Option, None, Some, if◌then◌else◌, refl, sym, ap, ◌∙◌, subst, arith}
+use Rattle.std.proofs.Common.{◌≡◌, ◌≢◌, ℕ, ◌==◌, Bool, true, false, not, ◌&&◌, Option, None, Some, if◌then◌else◌, refl, arith}
 use Rattle.std.proofs.lemmas.Bool.Decides.{nat_tests}
 use Rattle.domain_spec.specs.Types.{Call, Who}
-use Rattle.domain_spec.specs.declared.core_step.CoreStep.TheVariants as step
 use Rattle.domain_spec.specs.declared.core_step.First.{First}
 use Rattle.domain_spec.specs.declared.core_step.First.TheVariants as first
 use Rattle.domain_spec.specs.declared.open.OpenJob.{OpenJob}

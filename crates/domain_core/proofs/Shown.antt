@@ -1,5 +1,5 @@
 -- What the fields of a domain show of its state.
-use Rattle.std.proofs.Common.{◌≡◌, ℕ, List, Bool, true, false, not, ◌||◌, Option, None, Some, sym, ap, ◌∙◌}
+use Rattle.std.proofs.Common.{◌≡◌, ℕ, List, true, false, not, ◌||◌, Option, None, Some, sym, ap, ◌∙◌}
 use Rattle.domain_spec.specs.Types.{Domain, State}
 use Rattle.domain_spec.specs.Types.state
 use Rattle.domain_spec.specs.declared.mark.HeldOperation.{HeldOperation}

@@ -1,5 +1,5 @@
 -- What holds between two turns holds after one of a client, and after a chapter's end.
-use Rattle.std.proofs.Common.{◌≡◌, ◌≤◌, ◌+◌, ℕ, List, [], ◌∷◌, length, Bool, ◌||◌, if◌then◌else◌, is_some, true, false, OnOk, Option, None, Some, Result, Ok, Err, refl, sym, ap, ◌∙◌, subst, arith}
+use Rattle.std.proofs.Common.{◌≡◌, ℕ, List, [], ◌∷◌, Bool, ◌||◌, if◌then◌else◌, true, false, OnOk, Option, None, Some, Result, Ok, Err, refl, sym, ap, ◌∙◌, subst}
 use Rattle.domain_spec.specs.Types.{Who}
 use Rattle.domain_spec.specs.declared.core_step.CoreStep.TheVariants as step
 use Rattle.domain_spec.specs.declared.mark.Mark.TheVariants as mark
@@ -12,12 +12,12 @@ use Rattle.domain_ledger.specs.Ledger.{standing_in}
 use Rattle.domain_listeners.specs.Listening.{AreApart, Listening, dropped_by, has_client, is_of, listening_of, registrations, taken_by}
 use Rattle.domain_record.specs.Record.{IsQuietOf, Recorded, force_of}
 use Rattle.domain_turns.specs.Rooms.{HasEnd, IsKept}
-use Rattle.domain_turns.specs.Turning.{FitsJob, Takes, cell_of, turning}
+use Rattle.domain_turns.specs.Turning.{Takes, cell_of, turning}
 use Rattle.domain_turns.specs.declared.refusing.Refusable.{Refusable}
 use Rattle.domain_core.specs.Clients.{IsWhy, WatchesSo}
 use Rattle.domain_core.specs.Core.{Core, IsWhole, core_of}
 use Rattle.client_turns.specs.ClientLaws.{IsDropping, IsTaking}
-use Rattle.client_turns.specs.Clients.{BeginsNext, IsRegisteredBy, Leaves, Rotates, Watches, watch_marks}
+use Rattle.client_turns.specs.Clients.{BeginsNext, IsRegisteredBy, Leaves, Rotates, Watches}
 use Rattle.client_turns.specs.declared.watching.WatchFault.{WatchFault}
 use Rattle.client_turns.specs.declared.watching.WatchFault.TheVariants as fault
 use Rattle.client_turns.proofs.Finding.{own_found}

@@ -20,11 +20,11 @@ use Rattle.domain_ledger.specs.Away.{WaitsWith}
 use Rattle.domain_ledger.specs.Ledger.{standing_in, Chaptered}
 use Rattle.domain_listeners.specs.Listening.{registrations}
 use Rattle.domain_record.specs.Record.{Recorded, force_of}
-use Rattle.domain_turns.specs.Looking.{IsKnownFirst, Looks, LooksSo, boot_first, with_room, Waits}
+use Rattle.domain_turns.specs.Looking.{IsKnownFirst, Looks, LooksSo, boot_first, Waits}
 use Rattle.domain_turns.specs.Refusing.{IsSetAside, GivesUp, HasRefused}
-use Rattle.domain_turns.specs.Rooms.{HasEnd, HasRooms, IsKept, rooms_lent, rooms_needed, ends_needed, marks_needed}
+use Rattle.domain_turns.specs.Rooms.{HasEnd, rooms_lent, rooms_needed, ends_needed, marks_needed}
 use Rattle.domain_turns.specs.TurnLaws.{CanLookSo}
-use Rattle.domain_turns.specs.Turning.{Takes, FitsJob, HasTurned, IsSettled, Turning, cell_of, turning}
+use Rattle.domain_turns.specs.Turning.{Takes, FitsJob, HasTurned, Turning, cell_of, turning}
 use Rattle.domain_turns.specs.declared.looking.Looked.{Looked}
 use Rattle.domain_turns.specs.declared.looking.Looked.TheVariants as looked
 use Rattle.domain_turns.specs.declared.refusing.Refusable.{Refusable}
@@ -68,7 +68,7 @@ counted_after old new q held ears same counted = subst (λ (b : Base). IsCounted
 
 -- a look
 
-looks_turned : (n : ℕ) (who : Who) (d : Call) (f : First) (old new : Turning) (result : Looked) → Looks n who d f old new result → (left : List (Mark ℕ)) × HasTurned old new (step.Look n who d f) left
+pub looks_turned : (n : ℕ) (who : Who) (d : Call) (f : First) (old new : Turning) (result : Looked) → Looks n who d f old new result → (left : List (Mark ℕ)) × HasTurned old new (step.Look n who d f) left
 looks_turned n who d f old new (looked.Done r) h = (h.0, h.1)
 looks_turned n who d f old new (looked.Away x) h = (h.0, h.1)
 looks_turned n who d f old new (looked.Excluded held boot looks) h = (h.0, h.1)
@@ -106,7 +106,7 @@ none_held held new lent more none le =
     let few = few_needed new.course in
     subst (λ (hs : List HeldEvent). length hs + rooms_needed new.course + lent ≤ more) (sym none) (omega (arith, le, few))
 
-stays_course : (n : ℕ) (who : Who) (d : Call) (old new : Recorded) (q p : Queue) (result : Looked) → Waits n who d old new q p result → new.course ≡ old.course
+pub stays_course : (n : ℕ) (who : Who) (d : Call) (old new : Recorded) (q p : Queue) (result : Looked) → Waits n who d old new q p result → new.course ≡ old.course
 stays_course n who d old new q p (looked.Excluded held boot looks) h = ap (λ (r : Recorded). r.course) h.0
 stays_course n who d old new q p (looked.WaitersFull w) h = h.2.course
 stays_course n who d old new q p looked.NoMemory h = ap (λ (r : Recorded). r.course) h.0
@@ -177,7 +177,7 @@ new_whole r q stored autostart places is none =
 
 -- an answer
 
-left_turned : (n : ℕ) (x : Answer) (old new : Turning) (left : Back) → GoesBack n x old new left → (marks : List (Mark ℕ)) × HasTurned old new (step.Back n x) marks
+pub left_turned : (n : ℕ) (x : Answer) (old new : Turning) (left : Back) → GoesBack n x old new left → (marks : List (Mark ℕ)) × HasTurned old new (step.Back n x) marks
 left_turned n x old new (back.Done r) h = (h.0, h.1)
 left_turned n x old new (back.Away y) h = (h.0, h.1)
 left_turned n x old new (back.Phased st) h = (h.0, h.1)

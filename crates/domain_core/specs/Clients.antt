@@ -1,10 +1,9 @@
 -- What became of a client that wanted to register, and who waits.
-use Rattle.std.specs.Prelude.{◌≡◌, ℕ, true, false, Result, Ok, Err}
+use Rattle.std.specs.Prelude.{◌≡◌, ℕ, true, false, Result, Err}
 use Rattle.domain_spec.specs.declared.core_step.CoreStep.TheVariants as step
-use Rattle.domain_spec.specs.declared.standing.Standing.{Standing}
 use Rattle.domain_spec.specs.Cell.{Queue, standing_of}
 use Rattle.domain_spec.specs.TakeUp.{is_vacant}
-use Rattle.domain_listeners.specs.Listening.{AreAllTaken, Listening}
+use Rattle.domain_listeners.specs.Listening.{AreAllTaken}
 use Rattle.domain_turns.specs.Turning.{Takes, Turning}
 use Rattle.client_turns.specs.Clients.{watch_marks}
 use Rattle.client_turns.specs.declared.watching.WatchFault.{WatchFault}

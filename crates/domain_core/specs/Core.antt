@@ -1,5 +1,5 @@
 -- A domain between two turns, with the refusal that is set aside, and what holds then.
-use Rattle.std.specs.Prelude.{◌≤◌, ◌+◌, ℕ, List, length, Bool, false, not, ◌||◌, Option, None, Some, option_map}
+use Rattle.std.specs.Prelude.{◌≡◌, ◌≤◌, ◌+◌, ℕ, List, length, Bool, false, not, ◌||◌, Option, None, Some, option_map}
 use Rattle.domain_spec.specs.Types.{Call, DomainDef, Who}
 use Rattle.domain_spec.specs.declared.mark.HeldOperation.{HeldOperation}
 use Rattle.domain_spec.specs.declared.standing.Standing.{Standing}
@@ -37,6 +37,11 @@ core_of r q held ears x = record { turning = turning r q held ears; excluded = o
 -- the same, of which these ears are out
 abbrev pub with_ears : Turning → Option LentEars → Turning
 with_ears t ears = record t { cell = record t.cell { ears = ears } }
+
+-- the ears that are out are this number's, and of this boot
+abbrev pub HasOut : ℕ → ℕ → Option LentEars → Type 0
+HasOut n boot None = ⊥
+HasOut n boot (Some ears) = (ears.number ≡ n) × (ears.boot ≡ boot)
 
 -- a domain as the store was opened: nobody waits or is registered
 abbrev pub new_core : Option DomainDef → Bool → Core

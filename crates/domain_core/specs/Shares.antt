@@ -1,5 +1,5 @@
 -- Which turns a pass may take, by what the domain keeps for its number alone.
-use Rattle.std.specs.Prelude.{◌≡◌, ℕ, ◌+◌, ◌≤◌, length, is_some, true, IfSome, Option, None, Some}
+use Rattle.std.specs.Prelude.{◌≡◌, ℕ, ◌+◌, length, is_some, true, IfSome, Option, None, Some}
 use Rattle.domain_spec.specs.Types.{Answer, Call, Who}
 use Rattle.domain_spec.specs.Types.call
 use Rattle.domain_spec.specs.declared.core_step.CoreStep.TheVariants as step

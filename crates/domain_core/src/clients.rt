@@ -7,9 +7,10 @@ ghost use Rattle.domain_core.specs.Clients.{WatchesSo, with_queue};
 ghost use Rattle.domain_listeners.specs.Listening.{HandsOut, listening_of};
 ghost use Rattle.domain_spec.specs.declared.mark.Mark.TheVariants as mark;
 ghost use Rattle.domain_turns.specs.Turning.{Takes};
+ghost use Rattle.turn_shares.specs.Shares.{KeepsOthers};
 ghost use Rattle.client_turns.specs.ClientLaws.{IsDropping, IsTaking};
 
-use crate::turns::DomainTurns;
+use crate::turns::{DomainTurns, are_apart};
 use client_turns::{WatchFault, drop_events, rotate, take_events, unwatch, watch};
 use domain_listeners::Taken;
 use history_spec::Stamp;
@@ -22,10 +23,12 @@ impl DomainTurns {
     #[tactic(auto, using(crate::proofs::Watching::watch_turn, crate::proofs::Watching::watch_keeps))]
     pub fn watch(&mut self, alloc: Global, by: Stamp) -> Result<u32, WatchFault>
         ensures watches { WatchesSo by.number self.old.turning self.new.turning result }
+        ensures others { KeepsOthers by.number self.old.turning.cell self.new.turning.cell }
         ensures excluded { self.new.excluded ≡ None }
     {
         self.kept.is_away();
         self.kept.state();
+        are_apart(&self.kept);
         self.excluded = None;
         let watched = watch(&mut self.kept, self.rooms.len(), alloc, by);
         self.kept.is_away();
@@ -38,6 +41,7 @@ impl DomainTurns {
     pub fn unwatch(&mut self, by: Stamp, client: u32)
         requires can { CanTake self.old.turning.cell (step.Unwatch by.number client) }
         ensures leaves { Takes self.old.turning self.new.turning (step.Unwatch by.number client) (λ left. left ≡ mark.Unwatch by.number client ∷ []) }
+        ensures others { KeepsOthers by.number self.old.turning.cell self.new.turning.cell }
         ensures excluded { self.new.excluded ≡ None }
     {
         self.kept.is_away();
@@ -57,6 +61,7 @@ impl DomainTurns {
         ensures given { IfOk result (λ taken. HandsOut (listening_of self.old.turning.listeners client) taken) }
         ensures takes { OnOk result (IsTaking by.number client self.old.turning self.new.turning) }
         ensures err { OnErr result (self.new.turning ≡ self.old.turning) }
+        ensures others { KeepsOthers by.number self.old.turning.cell self.new.turning.cell }
         ensures excluded { self.new.excluded ≡ None }
     {
         self.kept.is_away();
@@ -72,6 +77,7 @@ impl DomainTurns {
     pub fn drop_events(&mut self, by: Stamp, client: u32)
         requires can { CanTake self.old.turning.cell (step.Take by.number client) }
         ensures drops { IsDropping by.number client self.old.turning self.new.turning }
+        ensures others { KeepsOthers by.number self.old.turning.cell self.new.turning.cell }
         ensures excluded { self.new.excluded ≡ None }
     {
         self.kept.is_away();
@@ -90,10 +96,12 @@ impl DomainTurns {
         requires number { self.old.turning.chapter < 2 ^ 62 }
         ensures ok { OnOk result (Takes self.old.turning self.new.turning (step.Rotate by.number who) (λ left. left ≡ [])) }
         ensures err { OnErr result (self.new.turning ≡ with_queue self.old.turning (left_queue self.old.turning.cell.queue by.number who)) }
+        ensures others { KeepsOthers by.number self.old.turning.cell self.new.turning.cell }
         ensures excluded { self.new.excluded ≡ None }
     {
         self.kept.is_away();
         self.kept.state();
+        are_apart(&self.kept);
         self.excluded = None;
         let rotated = rotate(
             &mut self.kept,

@@ -4,13 +4,12 @@
 
 mod clients;
 mod guests;
-mod kept;
 mod laws;
 mod looking;
+mod made;
 mod operations;
 mod turns;
 
-pub use kept::Share;
 pub use laws::{
     free_shares_begin, free_shares_look, free_shares_take_up, open_shares_go_back,
     operation_shares_end, operation_shares_phase,

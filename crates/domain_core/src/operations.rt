@@ -11,9 +11,11 @@ ghost use Rattle.domain_turns.specs.Rooms.{HasEnd};
 ghost use Rattle.operation_turns.specs.Beginning.{BeginsSo, LooksToBegin, LooksToTakeUp, TakesUpSo};
 ghost use Rattle.operation_turns.specs.Ending.{CanEnd, Ends};
 ghost use Rattle.operation_turns.specs.Phasing.{IsDue, Phases};
+ghost use Rattle.own_shares.specs.Queued.{queue_by};
+ghost use Rattle.turn_shares.specs.Shares.{KeepsOthers};
 
 use crate::looking::keep_refusal;
-use crate::turns::DomainTurns;
+use crate::turns::{DomainTurns, are_apart};
 use domain_queue::Queue;
 use domain_record::Record;
 use domain_turns::Refusable;
@@ -107,10 +109,13 @@ impl DomainTurns {
     pub fn begin_op(&mut self, alloc: Global, by: Stamp, who: Who, call: &Call) -> OperationLook
         requires can { CanTake self.old.turning.cell (step.BeginOp by.number who call.now) }
         ensures looks { LooksToBegin by.number who call.now self.old.turning self.new.turning result }
+        ensures queue { self.new.turning.cell.queue ≡ queue_by result self.old.turning.cell.queue by.number who }
+        ensures others { KeepsOthers by.number self.old.turning.cell self.new.turning.cell }
         ensures excluded { self.new.excluded ≡ excluded_so who call.now result }
     {
         self.kept.is_away();
         self.kept.state();
+        are_apart(&self.kept);
         let looked = begin_on(
             &mut self.kept,
             &mut self.queue,
@@ -131,10 +136,13 @@ impl DomainTurns {
     pub fn take_up(&mut self, alloc: Global, by: Stamp, who: Who, call: &Call) -> OperationLook
         requires can { CanTake self.old.turning.cell (step.TakeUp by.number who call.now) }
         ensures looks { LooksToTakeUp by.number who call.now self.old.turning self.new.turning result }
+        ensures queue { self.new.turning.cell.queue ≡ queue_by result self.old.turning.cell.queue by.number who }
+        ensures others { KeepsOthers by.number self.old.turning.cell self.new.turning.cell }
         ensures excluded { self.new.excluded ≡ excluded_so who call.now result }
     {
         self.kept.is_away();
         self.kept.state();
+        are_apart(&self.kept);
         let looked = take_up_on(
             &mut self.kept,
             &mut self.queue,
@@ -155,10 +163,12 @@ impl DomainTurns {
     pub fn phase(&mut self, alloc: Global, by: Stamp, who: Who) -> PhaseLook
         requires due { IsDue (standing_of self.old.turning.cell).operation by.number who }
         ensures phases { Phases by.number who self.old.turning self.new.turning result }
+        ensures others { KeepsOthers by.number self.old.turning.cell self.new.turning.cell }
         ensures excluded { self.new.excluded ≡ None }
     {
         self.kept.is_away();
         self.kept.state();
+        are_apart(&self.kept);
         self.excluded = None;
         let lent = rooms_lent(&self.ears);
         let looked = phase(&mut self.kept, &mut self.rooms, lent, alloc, by, who);
@@ -171,10 +181,12 @@ impl DomainTurns {
     pub fn end_op(&mut self, alloc: Global, by: Stamp, who: Who) -> Reply
         requires over { CanEnd (standing_of self.old.turning.cell).operation by.number who }
         ensures ends { Ends by.number who self.old.turning self.new.turning result }
+        ensures others { KeepsOthers by.number self.old.turning.cell self.new.turning.cell }
         ensures excluded { self.new.excluded ≡ None }
     {
         self.kept.is_away();
         self.kept.state();
+        are_apart(&self.kept);
         self.excluded = None;
         let reply = end_op(&mut self.kept, alloc, by, who);
         self.kept.is_away();

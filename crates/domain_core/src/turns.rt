@@ -8,14 +8,21 @@ ghost use Rattle.domain_spec.specs.Refusals.{bare};
 ghost use Rattle.domain_spec.specs.Types.code;
 ghost use Rattle.domain_spec.specs.Types.reply;
 ghost use Rattle.domain_spec.specs.declared.core_step.CoreStep.TheVariants as step;
+ghost use Rattle.domain_core.specs.Answering.{MayGoBack};
 ghost use Rattle.domain_core.specs.Core.{excluded_by, is_occupied, new_core};
-ghost use Rattle.domain_turns.specs.Answering.{GoesBack, MayBeAnswered, held_after};
+ghost use Rattle.turn_shares.specs.Chapters.{history_at};
+ghost use Rattle.domain_listeners.specs.Listening.{AreApart};
+ghost use Rattle.domain_turns.specs.Answering.{GoesBack, held_after};
 ghost use Rattle.domain_turns.specs.Looking.{IsKnownFirst, Looks};
 ghost use Rattle.domain_turns.specs.Refusing.{HasRefused};
 ghost use Rattle.domain_turns.specs.Turning.{Takes};
+ghost use Rattle.turn_shares.specs.Shares.{KeepsOthers};
+ghost use Rattle.client_turns.specs.Places.{last_place};
+ghost use Rattle.own_shares.specs.Queued.{queue_of};
 
 use crate::looking::look_on;
-use domain_history::operation_held;
+use client_turns::last;
+use domain_history::{Chronicle, operation_held};
 use domain_ledger::Back;
 use domain_queue::Queue;
 use domain_record::Record;
@@ -27,7 +34,7 @@ use history_spec::Stamp;
 use std::alloc::Global;
 use std::marker::Model;
 use virt_types::{
-    Answer, Call, DomainDef, NoMemory, Query, Refusal, RefusalCode, Reply, State, Text, Who,
+    Answer, Call, DomainDef, Front, NoMemory, Query, Refusal, RefusalCode, Reply, State, Text, Who,
 };
 
 /// A domain between two turns: its history with its listeners, who waits for it, what its guest did while a call
@@ -64,6 +71,13 @@ fn let_go(held: &mut Vec<HeldEvent>, left: &Back)
     }
 }
 
+// No two registrations are one client's.
+pub(crate) fn are_apart(kept: &Record)
+    ensures { AreApart kept.now.listeners }
+{
+    kept.has(0);
+}
+
 impl DomainTurns {
     /// A domain as the store was opened: with this stored definition and its autostart, or vacant. Nobody waits
     /// or is registered.
@@ -97,10 +111,13 @@ impl DomainTurns {
         requires can { CanLook self.old.turning.cell by.number who call.now first }
         requires known { IsKnownFirst first self.old.turning.cell }
         ensures looks { Looks by.number who call.now first self.old.turning self.new.turning result }
+        ensures queue { self.new.turning.cell.queue ≡ queue_of result self.old.turning.cell.queue by.number who }
+        ensures others { KeepsOthers by.number self.old.turning.cell self.new.turning.cell }
         ensures excluded { self.new.excluded ≡ excluded_by who call.now result }
     {
         self.kept.is_away();
         self.kept.state();
+        are_apart(&self.kept);
         let lent = rooms_lent(&self.ears);
         let looked = look_on(
             &mut self.kept,
@@ -121,15 +138,16 @@ impl DomainTurns {
 
     /// The ask that the open call, or the phase, made last is answered so: it is done, and then the held events
     /// apply, or it asks on. It takes no memory but for the next ask.
-    #[tactic(auto, using(crate::proofs::Parts::back_numbered, crate::proofs::Parts::back_may, crate::proofs::Parts::back_room, crate::proofs::Parts::back_goes, crate::proofs::Whole::back_keeps, crate::proofs::Whole::marks_away))]
     pub fn back(&mut self, by: Stamp, answer: Answer) -> Back
         requires can { CanTake self.old.turning.cell (step.Back by.number answer) }
-        requires may { MayBeAnswered (standing_of self.old.turning.cell) (standing_of self.old.turning.cell).job self.old.turning.course answer }
+        requires may { MayGoBack self.old.turning.cell answer }
         ensures back { GoesBack by.number answer self.old.turning self.new.turning result }
+        ensures others { KeepsOthers by.number self.old.turning.cell self.new.turning.cell }
         ensures excluded { self.new.excluded ≡ None }
     {
         self.kept.is_away();
         self.kept.state();
+        are_apart(&self.kept);
         self.excluded = None;
         let left = back(
             &mut self.kept,
@@ -152,10 +170,12 @@ impl DomainTurns {
         requires excluded { self.old.excluded ≡ Some (record { who = who; call = call.now }) }
         ensures given_up { Takes self.old.turning self.new.turning (step.GiveUp by.number who call.now) (HasRefused by.number who call.now code.OperationTimeout) }
         ensures reply { result ≡ reply.No (bare code.OperationTimeout) }
+        ensures others { KeepsOthers by.number self.old.turning.cell self.new.turning.cell }
         ensures excluded { self.new.excluded ≡ None }
     {
         self.kept.is_away();
         self.kept.state();
+        are_apart(&self.kept);
         match self.excluded.take() {
             Some(refusable) => give_up(&mut self.kept, &mut self.queue, by, refusable),
             None => unreachable!(),
@@ -180,6 +200,22 @@ impl DomainTurns {
         ensures { result ≡ length self.now.turning.cell.marks }
     {
         self.kept.len()
+    }
+
+    /// The history of the chapter by itself, once nothing more happens.
+    pub fn into_history(self) -> Chronicle
+        ensures { result ≡ history_at self.turning.chapter self.turning.cell }
+    {
+        self.kept.into_history()
+    }
+
+    /// The place of the chapter's last mark that is no boot's end, no guest's event and no cut; before all marks
+    /// where there is none.
+    pub fn last(&self) -> Front
+        ensures chapter { result.chapter ≡ self.now.turning.chapter }
+        ensures marks { result.marks ≡ last_place self.now.turning.cell.marks }
+    {
+        last(&self.kept)
     }
 
     /// What a query reads of the domain, as its state has it.

@@ -14,6 +14,7 @@ ghost use Rattle.domain_history.specs.Standing.{in_force};
 ghost use Rattle.domain_state.specs.Beginnings.{HasNumber};
 
 use crate::base::{ChapterBase, KeptRegistration};
+use crate::chronicle::Chronicle;
 use crate::closing::{close_call, close_phase};
 use crate::open::{LetIn, Underway};
 use core_rules::{end_guest, live_boot};
@@ -224,6 +225,17 @@ impl Chapter {
         ensures legal { IsLegal (at_base self.now.history.base) (all_numbered self.now.history.marks) }
     {
         self.marks.as_slice()
+    }
+
+    /// The history by itself, once nothing more happens.
+    pub fn into_history(self) -> Chronicle
+        ensures { result ≡ record { chapter = self.history.chapter; base = self.history.base; marks = all_numbered self.history.marks } }
+    {
+        Chronicle {
+            chapter: self.chapter,
+            base: self.base,
+            marks: self.marks.into_list(),
+        }
     }
 
     /// The open call is done with these answers; where its monitor was lost the end of its boot is

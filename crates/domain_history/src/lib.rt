@@ -4,11 +4,13 @@
 
 mod base;
 mod chapter;
+mod chronicle;
 mod closing;
 mod held;
 mod open;
 
 pub use base::{ChapterBase, KeptRegistration};
 pub use chapter::Chapter;
+pub use chronicle::Chronicle;
 pub use held::{job_held, meets_another, operation_held, takes_up};
 pub use open::{LetIn, Underway};

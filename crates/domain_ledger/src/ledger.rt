@@ -24,7 +24,7 @@ use crate::out::Out;
 use crate::phase_out::{Step, prepare_phase};
 use crate::phase_turns::{PhaseTurn, enter_phase, resume_phase};
 use crate::turns::{Turn, enter, resume};
-use domain_history::{Chapter, KeptRegistration, LetIn, Underway};
+use domain_history::{Chapter, Chronicle, KeptRegistration, LetIn, Underway};
 use domain_spec::{HeldJobs, Mark};
 use domain_state::exit_event;
 use history_spec::Stamp;
@@ -486,6 +486,13 @@ impl Ledger {
         ensures { all_numbered result.now ≡ self.now.history.marks }
     {
         self.chapter.marks()
+    }
+
+    /// The history by itself, once nothing more happens.
+    pub fn into_history(self) -> Chronicle
+        ensures { result ≡ self.history }
+    {
+        self.chapter.into_history()
     }
 
     /// Whether a call is away. Between two turns a call is open exactly where it is.

@@ -18,7 +18,7 @@ ghost use Rattle.domain_record.specs.Operating.{Begins, EntersPhase, TakesUp};
 ghost use Rattle.domain_record.specs.Record.{GoesBack, HasMarked, IsQuietOf, LetsIn, StaysAway, Tells, force_of};
 
 use crate::{calls, chapters, clients, ends, operations};
-use domain_history::{LetIn, Underway};
+use domain_history::{Chronicle, LetIn, Underway};
 use domain_ledger::{Back, Begun, Entry, Ledger, PhaseEntry};
 use domain_listeners::{Listeners, Taken};
 use domain_spec::{HeldJobs, Mark};
@@ -364,5 +364,12 @@ impl Record {
         ensures { all_numbered result.now ≡ self.now.history.marks }
     {
         self.ledger.marks()
+    }
+
+    /// The history by itself, once nothing more happens.
+    pub fn into_history(self) -> Chronicle
+        ensures { result ≡ self.history }
+    {
+        self.ledger.into_history()
     }
 }

@@ -183,21 +183,22 @@ begins_lawful c (step.Unwatch n k) (mark.Unwatch number client) can counted h = 
 begins_lawful c t (mark.Unwatch number client) can counted h = absurd h
 begins_lawful c t m can counted h = goes_on_lawful c t (standing_of c) m h
 
-turn_legal : (c : Cell) (t : CoreStep ℕ) (marks : List (Mark ℕ)) → CanTake c t → IsCounted (at_base c.base) → MayLeave c t marks → IsLegal (standing_of c) marks
+pub turn_legal : (c : Cell) (t : CoreStep ℕ) (marks : List (Mark ℕ)) → CanTake c t → IsCounted (at_base c.base) → MayLeave c t marks → IsLegal (standing_of c) marks
 turn_legal c t [] can counted h = tt
 turn_legal c t (m ∷ marks) can counted h =
     (record { in_order = begins_lawful c t m can counted h.0; loss = h.1 }, go_on_legal c t (after (standing_of c) m) marks h.2)
 
 -- a list of steps
 
-abbrev Holds : Base → List (Mark ℕ) → Type 0
+-- the boots are counted, and the marks are legal
+abbrev pub Holds : Base → List (Mark ℕ) → Type 0
 Holds b marks = IsCounted (at_base b) × IsLegal (at_base b) marks
 
-holds_after : (c : Cell) (t : CoreStep ℕ) (marks : List (Mark ℕ)) → IsTurn c t marks → Holds c.base c.marks → Holds (base_after c t) (marks_after c t marks)
+pub holds_after : (c : Cell) (t : CoreStep ℕ) (marks : List (Mark ℕ)) → IsTurn c t marks → Holds c.base c.marks → Holds (base_after c t) (marks_after c t marks)
 holds_after c (step.Rotate n who) marks turn h = (counted_at (at_base c.base) c.marks h.0, tt)
 holds_after c other marks turn h = (h.0, legal-append (at_base c.base) c.marks marks h.1 (turn_legal c other marks turn.can h.0 turn.left))
 
-holds_led : (c d : Cell) (t : CoreStep ℕ) (marks : List (Mark ℕ)) → Leads c t marks d → Holds (base_after c t) (marks_after c t marks) → Holds d.base d.marks
+pub holds_led : (c d : Cell) (t : CoreStep ℕ) (marks : List (Mark ℕ)) → Leads c t marks d → Holds (base_after c t) (marks_after c t marks) → Holds d.base d.marks
 holds_led c d t marks led h =
     subst (λ (b : Base). Holds b d.marks) (sym led.base) (subst (λ (ms : List (Mark ℕ)). Holds (base_after c t) ms) (sym led.marks) h)
 
@@ -209,7 +210,7 @@ counted_first : (stored : Option DomainDef) (autostart : Bool) → IsCounted (at
 counted_first None autostart = tt
 counted_first (Some def) autostart = tt
 
-holds_opened : (c : Cell) (stored : Option DomainDef) (autostart : Bool) → IsOpened c stored autostart → Holds c.base c.marks
+pub holds_opened : (c : Cell) (stored : Option DomainDef) (autostart : Bool) → IsOpened c stored autostart → Holds c.base c.marks
 holds_opened c stored autostart opened =
     subst (λ (b : Base). Holds b c.marks) (sym opened.base) (subst (λ (ms : List (Mark ℕ)). Holds (first_base stored autostart) ms) (sym opened.marks) (counted_first stored autostart, tt))
 

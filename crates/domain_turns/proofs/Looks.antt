@@ -122,5 +122,5 @@ looks_are old new q p held ears n who d f (looked.Excluded j b k) h settled (inr
 looks_are old new q p held ears n who d f (looked.WaitersFull w) h settled (inr x) = (
   mark.Refused n who d code.TooManyWaiting x.1.0 ∷ [],
   turned (with_room old x.1.1) new q p held ears n who d f x.1.0 (with_spare old q held ears n who d f x.1.1 h) settled x.1.2 x.1.3 x.1.4,
-  (refl, x.1.5),
+  ((refl, refl, refl, refl), x.1.5),
 )

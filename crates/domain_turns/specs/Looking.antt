@@ -21,6 +21,7 @@ use Rattle.domain_queue.specs.Waiting.{callers_in}
 use Rattle.domain_record.specs.Record.{HasMarked, LetsIn, Recorded, force_of}
 use Rattle.domain_turns.specs.declared.looking.Looked.{Looked}
 use Rattle.domain_turns.specs.declared.looking.Looked.TheVariants as looked
+use Rattle.domain_turns.specs.Refusing.{HasRefused}
 use Rattle.domain_turns.specs.Turning.{AsksLast, HasDone, Takes, Turning}
 
 -- the boot of a first look was live, or was numbered before this chapter
@@ -80,5 +81,5 @@ abbrev pub Looks : ℕ → Who → Call → First → Turning → Turning → Lo
 Looks n who c f old new (looked.Done r) = Takes old new (step.Look n who c f) (HasDone n r)
 Looks n who c f old new (looked.Away x) = Takes old new (step.Look n who c f) (λ left. (length left ≡ 1) × AsksLast (share_of new.cell n).call x)
 Looks n who c f old new (looked.Excluded held boot looks) = Takes old new (step.Look n who c f) (λ left. (left ≡ []) × IsFound old new who c held.active held.op boot looks)
-Looks n who c f old new (looked.WaitersFull waiting) = Takes old new (step.Look n who c f) (λ left. (length left ≡ 1) × (waiting ≡ 32))
+Looks n who c f old new (looked.WaitersFull waiting) = Takes old new (step.Look n who c f) (λ left. HasRefused n who c code.TooManyWaiting left × (waiting ≡ 32))
 Looks n who c f old new looked.NoMemory = Takes old new (step.Look n who c f) (λ left. left ≡ [])

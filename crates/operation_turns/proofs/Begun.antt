@@ -176,7 +176,7 @@ waits_are t marks old new q p held ears n who d look.NoMemory asks h settled exc
 waits_are t marks old new q p held ears n who d (look.WaitersFull w) asks h settled excluded x = (
   mark.Refused n who d code.TooManyWaiting x.0 ∷ [],
   turned_away t old new q p held ears n who d x.0 x.1 asks h settled x.2 x.3 x.4,
-  (refl, x.5),
+  ((refl, refl, refl, refl), x.5),
 )
 waits_are t marks old new q p held ears n who d (look.Excluded j b k) asks h settled excluded x = (
   [],

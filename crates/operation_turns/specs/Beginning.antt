@@ -1,6 +1,7 @@
 -- How a call finds that begins an operation, or takes one up.
-use Rattle.std.specs.Prelude.{◌≡◌, ◌⊎◌, ℕ, List, [], ◌∷◌, length}
+use Rattle.std.specs.Prelude.{◌≡◌, ◌⊎◌, ℕ, List, [], ◌∷◌}
 use Rattle.domain_spec.specs.Types.{Call, Who}
+use Rattle.domain_spec.specs.Types.code
 use Rattle.domain_spec.specs.declared.core_step.CoreStep.{CoreStep}
 use Rattle.domain_spec.specs.declared.core_step.CoreStep.TheVariants as step
 use Rattle.domain_spec.specs.declared.mark.Mark.{Mark}
@@ -15,6 +16,7 @@ use Rattle.domain_ledger.specs.declared.ledger.Begun.TheVariants as begun
 use Rattle.domain_record.specs.Operating.{Begins, TakesUp}
 use Rattle.domain_record.specs.Record.{Recorded, admit_of, force_of}
 use Rattle.domain_turns.specs.Looking.{IsFound, Waits, with_room}
+use Rattle.domain_turns.specs.Refusing.{HasRefused}
 use Rattle.domain_turns.specs.Turning.{HasDone, Takes, Turning}
 use Rattle.domain_turns.specs.declared.looking.Looked.TheVariants as looked
 use Rattle.operation_turns.specs.Phasing.{IsDue}
@@ -58,7 +60,7 @@ abbrev pub Looks : CoreStep ℕ → List (Mark ℕ) → ℕ → Who → Call →
 Looks t marks n who c old new look.Begun = Takes old new t (HasBegun n who new marks)
 Looks t marks n who c old new (look.Done r) = Takes old new t (HasDone n r)
 Looks t marks n who c old new (look.Excluded held boot looks) = Takes old new t (λ left. (left ≡ []) × IsFound old new who c held.active held.op boot looks)
-Looks t marks n who c old new (look.WaitersFull waiting) = Takes old new t (λ left. (length left ≡ 1) × (waiting ≡ 32))
+Looks t marks n who c old new (look.WaitersFull waiting) = Takes old new t (λ left. HasRefused n who c code.TooManyWaiting left × (waiting ≡ 32))
 Looks t marks n who c old new look.NoMemory = Takes old new t (λ left. left ≡ [])
 
 -- the Admit of a call, with the boot that is live

@@ -50,7 +50,7 @@ abbrev pub seen_of : ℕ → Option OpenJob → Option OpenJob
 seen_of m None = None
 seen_of m (Some j) = if j.number == m then Some (as_let_in j) else None
 
-seen_none : (m : ℕ) (j : OpenJob) → (j.number ≡ m → ⊥) → seen_of m (Some j) ≡ None
+pub seen_none : (m : ℕ) (j : OpenJob) → (j.number ≡ m → ⊥) → seen_of m (Some j) ≡ None
 seen_none m j unlike = ap (λ (b : Bool). if b then Some (as_let_in j) else None) (differ j.number m (j.number == m) refl unlike)
 
 open_none : (m : ℕ) (o : OpenOperation) → (o.number ≡ m → ⊥) → operation_of (Some o) m ≡ None
@@ -74,7 +74,7 @@ stays_then m s t u h g = record { job = g.job ∙ h.job; operation = g.operation
 
 -- mark by mark
 
-done_stays : (m : ℕ) (s : Standing) (j : Option OpenJob) (number : ℕ) (who : Who) (d : Call) (boot : Option ℕ) (asks : List Ask) (answers : List Answer) (r : Reply) (events : List Transition)
+pub done_stays : (m : ℕ) (s : Standing) (j : Option OpenJob) (number : ℕ) (who : Who) (d : Call) (boot : Option ℕ) (asks : List Ask) (answers : List Answer) (r : Reply) (events : List Transition)
     → s.job ≡ j → IsDone s j number who d boot asks answers r events → (number ≡ m → ⊥) → Stays m s (after s (mark.Done number who d boot asks answers r events))
 done_stays m s None number who d boot asks answers r events is h unlike = absurd h
 done_stays m s (Some j) number who d boot asks answers r events is h unlike = record {
@@ -82,7 +82,7 @@ done_stays m s (Some j) number who d boot asks answers r events is h unlike = re
   operation = refl;
 }
 
-phase_stays : (m : ℕ) (s : Standing) (j : Option OpenJob) (o : Option OpenOperation) (number : ℕ) (who : Who) (p : Phase) (asks : List Ask) (answers : List Answer) (next : Outcome) (events : List Transition)
+pub phase_stays : (m : ℕ) (s : Standing) (j : Option OpenJob) (o : Option OpenOperation) (number : ℕ) (who : Who) (p : Phase) (asks : List Ask) (answers : List Answer) (next : Outcome) (events : List Transition)
     → s.job ≡ j → s.operation ≡ o → IsPhased s j o number who p asks answers next events → (number ≡ m → ⊥) → Stays m s (after s (mark.Phase number who p asks answers next events))
 phase_stays m s None o number who p asks answers next events is op h unlike = absurd h
 phase_stays m s (Some j) None number who p asks answers next events is op h unlike = absurd h
@@ -101,7 +101,7 @@ abbrev begun : Standing → ℕ → Who → Call → OpenOperation
 begun s number who d =
     let next = begin_state s.state who d in record { number = number; who = who; call = named_call s.state d; boot = live_boot next; outcome = outcome.On (due_phase next) }
 
-start_stays : (m : ℕ) (s : Standing) (j : Option OpenJob) (number : ℕ) (who : Who) (d : Call) (boot : Option ℕ) → s.job ≡ j → IsStarted s j number who d boot → (number ≡ m → ⊥)
+pub start_stays : (m : ℕ) (s : Standing) (j : Option OpenJob) (number : ℕ) (who : Who) (d : Call) (boot : Option ℕ) → s.job ≡ j → IsStarted s j number who d boot → (number ≡ m → ⊥)
     → Stays m s (after s (mark.Start number who d boot))
 start_stays m s None number who d boot is h unlike = absurd h
 start_stays m s (Some j) number who d boot is h unlike = record {
@@ -125,7 +125,7 @@ rests_then : (k : Option OpKind) (o : OpenOperation) → rests_for k (operation_
 rests_then None o e = cc
 rests_then (Some k) o e = first_of (is_rest o.outcome) _ e
 
-take_up_stays : (m : ℕ) (s : Standing) (j : Option OpenJob) (o : Option OpenOperation) (number : ℕ) (who : Who) (d : Call) → s.job ≡ j → s.operation ≡ o → IsTakenUp s j number who d → (number ≡ m → ⊥)
+pub take_up_stays : (m : ℕ) (s : Standing) (j : Option OpenJob) (o : Option OpenOperation) (number : ℕ) (who : Who) (d : Call) → s.job ≡ j → s.operation ≡ o → IsTakenUp s j number who d → (number ≡ m → ⊥)
     → Stays m s (after s (mark.TakeUp number who d))
 take_up_stays m s None o number who d is op h unlike = absurd h
 take_up_stays m s (Some j) None number who d is op h unlike =
@@ -148,7 +148,7 @@ exit_if : (m : ℕ) (at : State) (j : OpenJob) (b : Bool) → seen_of m (Some (i
 exit_if m at j true = refl
 exit_if m at j false = refl
 
-exit_seen : (m : ℕ) (at : State) (boot : ℕ) (j : Option OpenJob) → seen_of m (job_at_exit at boot j) ≡ seen_of m j
+pub exit_seen : (m : ℕ) (at : State) (boot : ℕ) (j : Option OpenJob) → seen_of m (job_at_exit at boot j) ≡ seen_of m j
 exit_seen m at boot None = refl
 exit_seen m at boot (Some j) = exit_if m at j (carries j.boot boot)
 

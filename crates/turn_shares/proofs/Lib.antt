@@ -1,3 +1,4 @@
+pub mod Calls
 pub mod Chapters
 pub mod Jobs
 pub mod Listed

@@ -29,7 +29,7 @@ keep_if : (b : Bool) (x y : Registration) (xs ys : List Registration) → taken_
 keep_if true x y xs ys e f = ap (λ (t : Taken). t ∷ map (λ (r : Registration). taken_by r) xs) e ∙ ap (λ (ts : List Taken). taken_by y ∷ ts) f
 keep_if false x y xs ys e f = f
 
-same_head : (m : ℕ) (x : Registration) (xs ys : List Registration) → taken_of m xs ≡ taken_of m ys → taken_of m (x ∷ xs) ≡ taken_of m (x ∷ ys)
+pub same_head : (m : ℕ) (x : Registration) (xs ys : List Registration) → taken_of m xs ≡ taken_of m ys → taken_of m (x ∷ xs) ≡ taken_of m (x ∷ ys)
 same_head m x xs ys e = keep_if (x.number == m) x x (filter (λ r. r.number == m) xs) (filter (λ r. r.number == m) ys) refl e
 
 -- told of transitions, or cut
@@ -56,7 +56,7 @@ cut_stay m client total (r ∷ rs) = cut_one m total (is_numbered client r && no
 
 -- one of another number comes or goes
 
-other_head : (m : ℕ) (x : Registration) (xs : List Registration) → (x.number ≡ m → ⊥) → taken_of m (x ∷ xs) ≡ taken_of m xs
+pub other_head : (m : ℕ) (x : Registration) (xs : List Registration) → (x.number ≡ m → ⊥) → taken_of m (x ∷ xs) ≡ taken_of m xs
 other_head m x xs unlike =
     ap (λ (b : Bool). map (λ (r : Registration). taken_by r) (if b then x ∷ filter (λ r. r.number == m) xs else filter (λ r. r.number == m) xs)) (differ x.number m (x.number == m) refl unlike)
 

@@ -1,4 +1,5 @@
 // Laws of the definitions: each function's contract is one, and its body does nothing.
+ghost use Rattle.turn_shares.specs.Calls.{CallsStay};
 ghost use Rattle.turn_shares.specs.Chapters.{TurnsGoOn};
 ghost use Rattle.turn_shares.specs.Operations.{OperationsStay};
 ghost use Rattle.turn_shares.specs.Shares.{MarksAreOwn, OthersAreKept};
@@ -27,4 +28,9 @@ pub fn shares_tell()
 /// While a call is open, the operation beside it stays as it is, or ends.
 pub fn operations_stay()
     ensures { OperationsStay }
+{}
+
+/// A call that is open stays so in each turn but its own.
+pub fn calls_stay()
+    ensures { CallsStay }
 {}

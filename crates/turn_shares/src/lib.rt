@@ -3,4 +3,6 @@
 
 mod laws;
 
-pub use laws::{marks_are_own, operations_stay, others_are_kept, shares_tell, turns_go_on};
+pub use laws::{
+    calls_stay, marks_are_own, operations_stay, others_are_kept, shares_tell, turns_go_on,
+};

@@ -1,4 +1,4 @@
-use Rattle.std.proofs.Common.{sym, subst}
+use Rattle.std.proofs.Common.{refl, sym, subst}
 use Rattle.std.specs.Vec.{vec_capacity, vec_len}
 use Rattle.domain_spec.specs.declared.standing.Standing.{Standing}
 use Rattle.domain_turns.specs.Turning.{turning}
@@ -6,6 +6,8 @@ use Rattle.operation_turns.specs.Ending.{CanEnd, Ends}
 use Rattle.domain_core.specs.Core.{Core}
 use Rattle.domain_core.proofs.Operating.{end_keeps, end_room, end_turn}
 use Rattle.domain_core.proofs.Shown.{force_shown}
+use Rattle.domain_spec.specs.declared.core_step.CoreStep.TheVariants as step
+use Rattle.domain_core.proofs.Others.{takes_others}
 use Rattle.domain_core.proofs.turns.DomainTurns.end_op.Goals as goal
 
 pub end_op-reply-requires-clause-room : goal.end_op-reply-requires-clause-room
@@ -42,3 +44,11 @@ returns-clause-ends c =
     subst (λ (v : Core). Ends a.by.number a.who v.turning (turning l.new.kept i.queue i.held.items i.ears) l.result) c.self.view_is
     (end_turn i.kept l.new.kept i.queue i.held.items i.ears i.excluded (vec_len i.rooms) (vec_capacity i.held) a.by.number a.who l.result c.self.invariant over
     c.state.ensures.lost c.is_away.ensures.waits c.is_away.ensures.room c.state-2.ensures.lost c.is_away-2.ensures.waits l.ensures.ends)
+
+pub returns-clause-others : goal.returns-clause-others
+returns-clause-others c =
+    let a = c.args in
+    let i = c.self.inside in
+    let l = c.end_op-reply in
+    takes_others a.self.now i.kept l.new.kept i.queue i.queue i.held.items i.held.items i.ears i.ears i.excluded a.by.number (step.EndOp a.by.number a.who) c.self.view_is (returns-clause-ends c) refl tt
+    c.are_apart.ensures c.is_away.ensures.waits c.is_away-2.ensures.waits l.ensures.ends.course

@@ -1,4 +1,4 @@
-use Rattle.std.proofs.Common.{◌≡◌, Option, sym, ap, ◌∙◌}
+use Rattle.std.proofs.Common.{Option, sym, ap, ◌∙◌}
 use Rattle.domain_spec.specs.Cell.{standing_of}
 use Rattle.domain_spec.specs.Open.{operation_held}
 use Rattle.domain_spec.specs.declared.open.OpenOperation.{OpenOperation}

@@ -5,6 +5,7 @@ use Rattle.domain_spec.specs.declared.core_step.CoreStep.TheVariants as step
 use Rattle.domain_turns.specs.Rooms.{HasEnd, IsKept}
 use Rattle.domain_core.specs.Core.{Core}
 use Rattle.domain_core.proofs.Watching.{rotate_free, rotate_keeps, rotates_on}
+use Rattle.domain_core.proofs.Others.{rotate_others}
 use Rattle.domain_core.proofs.turns.DomainTurns.rotate.Goals as goal
 
 pub rotate-rotated-requires-clause-none : goal.rotate-rotated-requires-clause-none
@@ -30,3 +31,11 @@ returns-clause-ok c =
     let l = c.rotate-rotated in
     rotates_on a.self.now i.kept l.new.kept i.queue l.new.queue i.held.items i.ears i.excluded (vec_len i.rooms) (vec_capacity i.held) a.by.number a.who l.result c.self.view_is c.self.invariant c.requires.can
     c.state.ensures.lost c.is_away.ensures.waits c.is_away.ensures.room l.ensures.rotates
+
+pub returns-clause-others : goal.returns-clause-others
+returns-clause-others c =
+    let a = c.args in
+    let i = c.self.inside in
+    let l = c.rotate-rotated in
+    rotate_others a.self.now i.kept l.new.kept i.queue l.new.queue i.held.items i.ears i.excluded a.by.number a.who l.result c.self.view_is (returns-clause-ok c) l.ensures.rotates
+    c.are_apart.ensures c.is_away.ensures.waits c.is_away-2.ensures.waits l.ensures.course

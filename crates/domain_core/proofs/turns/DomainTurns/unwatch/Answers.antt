@@ -1,4 +1,4 @@
-use Rattle.std.proofs.Common.{◌≡◌, [], ◌∷◌, sym, subst}
+use Rattle.std.proofs.Common.{refl, ◌≡◌, [], ◌∷◌, sym, subst}
 use Rattle.std.specs.Vec.{vec_capacity, vec_len}
 use Rattle.domain_spec.specs.CanTake.{CanTake}
 use Rattle.domain_spec.specs.declared.core_step.CoreStep.TheVariants as step
@@ -6,6 +6,7 @@ use Rattle.domain_spec.specs.declared.mark.Mark.TheVariants as mark
 use Rattle.domain_turns.specs.Turning.{Takes, turning}
 use Rattle.domain_core.specs.Core.{Core}
 use Rattle.domain_core.proofs.Watching.{leave_turn, own_quiet, watch_keeps}
+use Rattle.domain_core.proofs.Others.{takes_others}
 use Rattle.domain_core.proofs.turns.DomainTurns.unwatch.Goals as goal
 
 pub unwatch-requires : goal.unwatch-requires
@@ -30,3 +31,11 @@ invariant_of-self c =
     let l = c.unwatch in
     watch_keeps i.kept l.new.kept i.queue i.held.items i.ears i.excluded (vec_len i.rooms) (vec_capacity i.held) c.self.invariant
     (l.ensures.kept i.held.items i.ears (vec_len i.rooms) c.self.invariant.kept) (l.ensures.ends (vec_len i.rooms) c.self.invariant.ends)
+
+pub returns-clause-others : goal.returns-clause-others
+returns-clause-others c =
+    let a = c.args in
+    let i = c.self.inside in
+    let l = c.unwatch in
+    takes_others a.self.now i.kept l.new.kept i.queue i.queue i.held.items i.held.items i.ears i.ears i.excluded a.by.number (step.Unwatch a.by.number a.client) c.self.view_is (returns-clause-leaves c) refl tt
+    c.has.ensures.apart c.is_away.ensures.waits c.is_away-2.ensures.waits l.ensures.leaves.course

@@ -7,7 +7,7 @@ use Rattle.domain_spec.specs.Fold.{at_base, standing}
 use Rattle.domain_spec.specs.Reading.{boots_of}
 use Rattle.domain_spec.proofs.LawProofs.{standing-append}
 use Rattle.domain_spec.proofs.PhaseBoots.{boots_rise}
-use Rattle.domain_core.specs.Meaning.{meaning}
+use Rattle.domain_cell.specs.Meaning.{meaning}
 
 pub no_mark_lowers : NoMarkLowers meaning
 no_mark_lowers b xs ys =

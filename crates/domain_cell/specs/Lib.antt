@@ -1,0 +1,4 @@
+pub mod Celled
+pub mod Changing
+pub mod Keeping
+pub mod Meaning

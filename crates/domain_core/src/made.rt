@@ -1,0 +1,59 @@
+// Which boot's guest is there, and whose ears are out.
+ghost use Rattle.std.specs.Prelude.{◌≡◌, option_map};
+ghost use Rattle.domain_spec.specs.Cell.{standing_of};
+ghost use Rattle.domain_spec.specs.Reading.{live_boot};
+ghost use Rattle.made_boots.specs.Made.{made_boot, made_in, makes};
+
+use crate::turns::DomainTurns;
+use core_rules::live_boot;
+use domain_history::Underway;
+use domain_spec::Outcome;
+use guest_turns::LentEars;
+use virt_types::{Phase, State};
+
+// Whether the operation has still to make its guest.
+fn makes(operation: &Option<Underway>) -> bool
+    ensures { result ≡ makes operation.now }
+{
+    match operation {
+        Some(operation) => matches!(operation.outcome(), Outcome::On(Phase::Make)),
+        None => false,
+    }
+}
+
+// The live boot, unless the operation has still to make it.
+fn made_of(state: &State, operation: &Option<Underway>) -> Option<u64>
+    ensures { result ≡ made_in (makes operation.now) (live_boot state.now) }
+{
+    if makes(operation) {
+        None
+    } else {
+        live_boot(state)
+    }
+}
+
+// The boot of these ears.
+fn boot_of(ears: &Option<LentEars>) -> Option<u64>
+    ensures { result ≡ option_map (λ e. e.boot) ears.now }
+{
+    match ears {
+        Some(ears) => Some(ears.boot()),
+        None => None,
+    }
+}
+
+impl DomainTurns {
+    /// The boot whose guest is there: the live one, unless an operation has still to make it.
+    pub fn made(&self) -> Option<u64>
+        ensures { result ≡ made_boot (standing_of self.now.turning.cell) }
+    {
+        made_of(self.kept.state(), self.kept.operation())
+    }
+
+    /// The boot whose ears are out.
+    pub fn heard(&self) -> Option<u64>
+        ensures { result ≡ option_map (λ e. e.boot) self.now.turning.cell.ears }
+    {
+        boot_of(&self.ears)
+    }
+}

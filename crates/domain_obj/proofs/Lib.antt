@@ -1,0 +1,3 @@
+pub mod Going
+pub mod Looking
+pub mod Taking

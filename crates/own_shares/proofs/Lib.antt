@@ -1,0 +1,13 @@
+pub mod Answering
+pub mod Backs
+pub mod Begins
+pub mod Closing
+pub mod Hearing
+pub mod Leaves
+pub mod Listing
+pub mod Looks
+pub mod Parts
+pub mod Phases
+pub mod Queueing
+pub mod Waiting
+pub mod Watching

@@ -1,0 +1,12 @@
+pub mod Asked
+pub mod Backs
+pub mod Begins
+pub mod Entering
+pub mod Looks
+pub mod Others
+pub mod Owning
+pub mod Phases
+pub mod Plans
+pub mod Since
+pub mod Steadying
+pub mod Walking

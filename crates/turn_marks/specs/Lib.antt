@@ -1,0 +1,6 @@
+pub mod Answered
+pub mod Looked
+pub mod Operations
+pub mod Own
+pub mod Steady
+pub mod Told
