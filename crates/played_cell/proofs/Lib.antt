@@ -1,0 +1,4 @@
+pub mod Asked
+pub mod Closing
+pub mod Kept
+pub mod Turned
