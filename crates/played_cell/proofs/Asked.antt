@@ -1,30 +1,26 @@
 -- What a turn leaves for its own number: the ask that waits, the phase that is due, the ears that are out.
-use Rattle.std.proofs.Common.{◌≡◌, ◌≢◌, ◌⊎◌, inl, inr, ℕ, ◌+◌, ◌==◌, List, [], ◌∷◌, ◌++◌, length, is_some, Bool, true, false, not, ◌&&◌, Option, None, Some, if◌then◌else◌, refl, sym, ap, ◌∙◌, subst}
-use Rattle.domain_spec.specs.Types.{Answer, Ask, Call, EndReason, GuestEvent, Reply, Who}
+use Rattle.std.proofs.Common.{◌≡◌, ℕ, ◌+◌, ◌==◌, List, length, is_some, Bool, true, false, Option, None, Some, if◌then◌else◌, refl, sym, ap, ◌∙◌, subst}
+use Rattle.domain_spec.specs.Types.{Answer, Ask, Who}
 use Rattle.domain_spec.specs.declared.core_step.CoreStep.{CoreStep}
 use Rattle.domain_spec.specs.declared.core_step.CoreStep.TheVariants as step
-use Rattle.domain_spec.specs.declared.core_step.First.{First}
 use Rattle.domain_spec.specs.declared.mark.Mark.{Mark}
 use Rattle.domain_spec.specs.declared.open.OpenJob.{OpenJob}
 use Rattle.domain_spec.specs.declared.open.OpenOperation.{OpenOperation}
-use Rattle.domain_spec.specs.declared.standing.Standing.{Standing}
 use Rattle.domain_spec.specs.declared.step.Outcome.{Outcome}
 use Rattle.domain_spec.specs.declared.step.Outcome.TheVariants as outcome
 use Rattle.domain_spec.specs.CanTake.{CanTake, WaitsForAnswer}
-use Rattle.domain_spec.specs.Cell.{Cell, LentEars, OpenCall, as_let_in, asks_so_far, call_of, operation_of, share_of, standing_of}
-use Rattle.domain_cell.specs.Celled.{CellShare, Celled, cell_in, cell_share, monitor_of, standing_in}
+use Rattle.domain_spec.specs.Cell.{Cell, OpenCall, as_let_in, asks_so_far, call_of, operation_of, share_of, standing_of}
+use Rattle.domain_cell.specs.Celled.{Celled, cell_in, cell_share, monitor_of, standing_in}
 use Rattle.domain_core.specs.Shares.{AwaitsAnswer}
 use Rattle.domain_core.proofs.Shares.{open_back}
 use Rattle.domain_ledger.specs.Ledger.{step_to}
 use Rattle.domain_ledger.specs.declared.phase_out.Step.{Step}
-use Rattle.domain_ledger.specs.declared.phase_out.Step.TheVariants as led
 use Rattle.domain_turns.specs.Phased.{led_to}
 use Rattle.domain_turns.specs.Turning.{AsksLast, Takes, Turning}
 use Rattle.guest_links.specs.Tickets.{IsAnswered, IsAnsweredAs, comes}
 use Rattle.domain_spec.specs.Asks.{is_ok_answer}
 use Rattle.guest_links.proofs.Linking.{asks_job}
 use Rattle.made_boots.specs.Made.{AsksThis}
-use Rattle.operation_turns.specs.Ending.{CanEnd}
 use Rattle.operation_turns.specs.Phasing.{IsDue}
 use Rattle.played_cell.specs.Playing.{Asking, Asks, IsOfPhase, Operates}
 use Rattle.played_cell.proofs.Closing.{back_keeps, phase_keeps}

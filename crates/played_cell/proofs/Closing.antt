@@ -13,7 +13,7 @@ use Rattle.domain_spec.specs.declared.step.Outcome.{Outcome}
 use Rattle.domain_spec.specs.Cell.{Cell, standing_of}
 use Rattle.domain_spec.specs.Fold.{after, after_phase, after_take_up, job_at_exit, standing}
 use Rattle.domain_spec.specs.Lawful.{IsPhased}
-use Rattle.domain_spec.specs.Turns.{BeginsBy, GoOn, GoesOnBy, IsTurn, Leads, MayLeave}
+use Rattle.domain_spec.specs.Turns.{BeginsBy, GoOn, GoesOnBy, MayLeave}
 use Rattle.domain_turns.specs.Turning.{HasDone, Takes, Turning}
 use Rattle.turn_shares.proofs.Jobs.{on_base}
 

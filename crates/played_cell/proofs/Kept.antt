@@ -1,5 +1,5 @@
 -- What is kept beside a cell: a turn of another number leaves it as it is, and one of its own number puts it anew.
-use Rattle.std.proofs.Common.{◌≡◌, ◌≢◌, ◌≤◌, ◌<◌, ◌+◌, ℕ, List, Option, None, Some, refl, sym, ap, ◌∙◌, subst, arith}
+use Rattle.std.proofs.Common.{◌≡◌, ◌≢◌, ◌≤◌, ◌<◌, ◌+◌, ℕ, Option, None, Some, refl, sym, ◌∙◌, subst, arith}
 use Rattle.domain_spec.specs.Types.{Who}
 use Rattle.domain_spec.specs.Cell.{share_of}
 use Rattle.domain_cell.specs.Celled.{CellShare, Celled, KeepsOtherShares, cell_in, cell_share}
@@ -240,3 +240,8 @@ pub phase_went_kept : (c d : Celled) (next : ℕ) (o : Asking) (op : Option Oper
     → Operates (cell_share d o.number).kept.operation o.number q.who q.led_to → Plays d next None (first_or op q) client
 phase_went_kept c d next o None q client h keeps e operates = phase_went c d next o q client h keeps e operates
 phase_went_kept c d next o (Some p) q client h keeps e operates = own_open c d next o (Some p) client h keeps
+
+pub watched_kept : (c d : Celled) (n more : ℕ) (asking : Option Asking) (op : Option Operating) (client : Option Watching) (r : Watching) → Plays c n asking op client → KeepsOtherShares n c d → more ≡ n + 1 → r.number ≡ n
+    → HasClient (cell_share d n).kept.registrations r.client → Plays d more asking op (first_or client r)
+watched_kept c d n more asking op None r h keeps m e has = subst (λ (k : ℕ). Plays d k asking op (Some r)) (sym m) (watched c d n asking op r h keeps e has)
+watched_kept c d n more asking op (Some q) r h keeps m e has = subst (λ (k : ℕ). Plays d k asking op (Some q)) (sym m) (new_turn c d n asking op (Some q) h keeps)

@@ -1,23 +1,22 @@
 -- What a number may do, and what its turn leaves for it.
-use Rattle.std.proofs.Common.{◌≡◌, ◌≢◌, ◌≤◌, ℕ, List, [], is_some, Bool, true, Option, None, Some, refl, sym, ap, ◌∙◌, subst, length}
+use Rattle.std.proofs.Common.{◌≡◌, ◌≤◌, ℕ, List, [], is_some, Bool, true, Option, None, Some, refl, sym, ap, ◌∙◌, subst, length}
 use Rattle.domain_spec.specs.Types.{Answer, Ask, Call, Who}
 use Rattle.domain_spec.specs.declared.core_step.CoreStep.TheVariants as step
-use Rattle.domain_spec.specs.declared.core_step.First.{First}
 use Rattle.domain_spec.specs.declared.core_step.First.TheVariants as first
 use Rattle.domain_spec.specs.declared.open.OpenOperation.{OpenOperation}
 use Rattle.domain_spec.specs.Asks.{is_ok_answer}
 use Rattle.domain_spec.specs.Call.{begins, takes_up}
-use Rattle.domain_spec.specs.CanTake.{CanLook, CanTake, WaitsAsNoOther}
+use Rattle.domain_spec.specs.CanTake.{CanLook, CanTake}
 use Rattle.domain_spec.specs.declared.mark.Mark.{Mark}
 use Rattle.domain_spec.specs.declared.standing.Standing.{Standing}
 use Rattle.domain_spec.specs.declared.step.Outcome.{Outcome}
-use Rattle.domain_spec.specs.Cell.{operation_of, share_of, standing_of}
+use Rattle.domain_spec.specs.Cell.{operation_of}
 use Rattle.domain_spec.specs.Fold.{standing}
 use Rattle.domain_ledger.specs.Ledger.{step_to}
 use Rattle.domain_turns.specs.Phased.{led_to}
 use Rattle.domain_turns.specs.Turning.{Takes}
 use Rattle.turn_shares.proofs.Jobs.{on_base}
-use Rattle.domain_cell.specs.Celled.{CellShare, Celled, KeepsOtherShares, cell_in, cell_share, standing_in}
+use Rattle.domain_cell.specs.Celled.{Celled, cell_in, cell_share, standing_in}
 use Rattle.domain_cell.specs.Meaning.{nothing_kept}
 use Rattle.domain_core.proofs.Shares.{free_begin, free_look, share_end, share_phase}
 use Rattle.domain_ledger.specs.declared.phase_out.Step.{Step}

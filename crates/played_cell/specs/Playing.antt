@@ -4,7 +4,7 @@ use Rattle.std.specs.Prelude.{◌≡◌, ◌≢◌, ◌≤◌, ◌<◌, ℕ, Lis
 use Rattle.domain_spec.specs.Types.{Ask, Who}
 use Rattle.domain_spec.specs.declared.open.OpenOperation.{OpenOperation}
 use Rattle.domain_spec.specs.Cell.{Taken}
-use Rattle.domain_cell.specs.Celled.{CellShare, Celled, KeepsOtherShares, cell_share}
+use Rattle.domain_cell.specs.Celled.{CellShare, Celled, cell_share}
 use Rattle.domain_cell.specs.Meaning.{nothing_kept}
 use Rattle.domain_core.specs.Shares.{AwaitsAnswer}
 use Rattle.domain_ledger.specs.declared.phase_out.Step.{Step}

@@ -1,8 +1,7 @@
 -- What a turn leaves for its own number, by what it answers.
-use Rattle.std.specs.Prelude.{◌≡◌, ◌≤◌, ℕ, is_some, Bool, true, false, Option, None, Some, Result, Ok, Err}
-use Rattle.domain_spec.specs.Types.{Answer, Ask, Who}
+use Rattle.std.specs.Prelude.{◌≡◌, ℕ, is_some, Option, None, Some, Result, Ok, Err}
+use Rattle.domain_spec.specs.Types.{Who}
 use Rattle.domain_spec.specs.declared.open.OpenOperation.{OpenOperation}
-use Rattle.domain_spec.specs.Asks.{is_ok_answer}
 use Rattle.domain_cell.specs.Celled.{Celled, cell_share, standing_in}
 use Rattle.domain_ledger.specs.declared.phase_out.Step.{Step}
 use Rattle.guest_links.specs.declared.ticket.Back.{Back}
@@ -14,7 +13,7 @@ use Rattle.guest_links.specs.declared.ticket.PhaseLook.TheVariants as phase
 use Rattle.operation_turns.specs.Phasing.{IsDue}
 use Rattle.operation_turns.specs.declared.beginning.OperationLook.{OperationLook}
 use Rattle.operation_turns.specs.declared.beginning.OperationLook.TheVariants as begin
-use Rattle.played_cell.specs.Playing.{Asking, Asks, HasClient, Operates}
+use Rattle.played_cell.specs.Playing.{Asks, HasClient, Operates}
 
 -- the operation of a phase that was answered
 abbrev pub WentOn : Option OpenOperation → ℕ → Option Who → Step → Type 0

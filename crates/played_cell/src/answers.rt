@@ -14,7 +14,6 @@ pub(crate) struct Answered<M, E, Z> {
     pub(crate) made: Option<Link<M, E, Z>>,
 }
 
-
 /// Answers an ask: a command by the ticket's monitor, a Make by the guest that is handed in, and there is none where
 /// that is missing; all else is done.
 pub(crate) fn answer<M: Monitor, E: Drop, Z: Drop>(
@@ -22,7 +21,8 @@ pub(crate) fn answer<M: Monitor, E: Drop, Z: Drop>(
     ask: &Ask,
     made: Option<Link<M, E, Z>>,
 ) -> Answered<M, E, Z>
-    where M: Drop,
+where
+    M: Drop,
     ensures answered { IsAnsweredAs (is_some ticket.old.monitor) ask.now result.answer }
     ensures counted { IsCounted M.ends M.faults ticket.new.monitor result.answer }
     ensures link { is_some result.made ≡ comes ask.now (is_ok_answer result.answer) }

@@ -3,6 +3,7 @@ ghost use Rattle.std.specs.Prelude.{◌≡◌, ◌+◌, ℕ, is_some};
 ghost use Rattle.played_cell.specs.Playing.{first_or};
 
 use domain_cell::{DomainCell, Ticket};
+use domain_history::Chronicle;
 use domain_ledger::Step;
 use history_spec::Stamp;
 use monitor_link::{Ears, Killer, Monitor};
@@ -168,6 +169,19 @@ impl<M: Monitor + Drop, E: Ears + Drop, Z: Killer + Drop> Played<M, E, Z> {
             Some(asking) => Some(&asking.ask),
             None => None,
         }
+    }
+
+    /// The history of the chapter, once nothing more happens.
+    pub fn into_history(self) -> Chronicle {
+        let Played {
+            cell,
+            next: _,
+            asking: _,
+            operation: _,
+            client: _,
+            rotates: _,
+        } = self;
+        cell.into_history()
     }
 
     /// The guest that is there is ended from outside.

@@ -1,9 +1,7 @@
-use Rattle.std.proofs.Common.{◌≡◌, ℕ, is_some, Option, None, Some, sym, ap, ◌∙◌, subst}
+use Rattle.std.proofs.Common.{ℕ, is_some, Option, None, sym, ◌∙◌, subst}
 use Rattle.domain_spec.specs.Types.{Who}
 use Rattle.domain_cell.specs.Celled.{KeepsOtherShares, cell_share}
-use Rattle.guest_links.specs.declared.ticket.Back.{Back}
-use Rattle.guest_links.specs.declared.ticket.Back.TheVariants as back
-use Rattle.played_cell.specs.Playing.{Asking, Asks, Operates, Operating, Plays}
+use Rattle.played_cell.specs.Playing.{Asking, Asks, Operating, Plays}
 use Rattle.played_cell.specs.Turned.{HasReturned, WentOn}
 use Rattle.played_cell.proofs.Kept.{asked_on, new_kept, own_open, phase_went_kept}
 use Rattle.played_cell.proofs.played.Played.answer.Goals as goal

@@ -1,4 +1,4 @@
-use Rattle.std.proofs.Common.{ℕ, is_some, Option, None, Some, refl, sym, subst}
+use Rattle.std.proofs.Common.{is_some, Option, None, Some, refl, sym, subst}
 use Rattle.played_cell.specs.Playing.{Asking, Operating, Plays}
 use Rattle.played_cell.proofs.Kept.{own_operation, phase_asked_kept}
 use Rattle.played_cell.proofs.played.Played.go_on.Goals as goal
