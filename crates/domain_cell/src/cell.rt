@@ -1,6 +1,9 @@
 // A domain's cell: a domain between two turns, with the link of its guest.
-ghost use Rattle.std.specs.Prelude.{◌≡◌, IfOk, length};
+ghost use Rattle.std.specs.Prelude.{◌≡◌, IfOk, is_some, length};
+ghost use Rattle.operation_turns.specs.Resting.{rested_in};
+ghost use Rattle.domain_ledger.specs.Operations.{IsToldAtEnd};
 ghost use Rattle.domain_spec.specs.Fold.{at_base};
+ghost use Rattle.domain_spec.specs.Laws.{IsCounted};
 ghost use Rattle.domain_spec.specs.Legal.{IsLegal};
 ghost use Rattle.domain_spec.specs.Read.{read};
 ghost use Rattle.client_turns.specs.Places.{last_place};
@@ -83,6 +86,21 @@ impl<M: Monitor + Drop, E: Ears + Drop, Z: Killer + Drop> DomainCell<M, E, Z> {
         self.turns.occupied()
     }
 
+    /// Whether a normal job is open: a call, or a phase, waits for an answer.
+    pub fn has_job(&self) -> bool
+        ensures { result ≡ is_some (standing_in self.now).job }
+    {
+        self.turns.has_job()
+    }
+
+    /// The reply of the phase that led the operation to rest: what the call is told that came so far, or, where there
+    /// is no memory for one more copy of it, that.
+    pub fn rest_reply(&self, alloc: Global) -> Reply
+        ensures { IsToldAtEnd (rested_in (standing_in self.now).operation) result }
+    {
+        self.turns.rest_reply(alloc)
+    }
+
     /// The place of the chapter's last mark that is no boot's end, no guest's event and no cut; before all marks
     /// where there is none.
     pub fn last(&self) -> Front
@@ -104,10 +122,11 @@ impl<M: Monitor + Drop, E: Ears + Drop, Z: Killer + Drop> DomainCell<M, E, Z> {
         turns.into_history()
     }
 
-    /// The history is legal, what was asked stays what is asked, and a monitor is out only while a call is open. It does
-    /// nothing.
+    /// The history is legal and its boots are counted, what was asked stays what is asked, and a monitor is out only
+    /// while a call is open. It does nothing.
     pub fn holds(&self)
         ensures legal { IsLegal (at_base (cell_in self.now).base) (cell_in self.now).marks }
+        ensures counted { IsCounted (at_base (cell_in self.now).base) }
         ensures steady { IsSteady (standing_in self.now) }
         ensures out { IsOutWith (standing_in self.now) self.now.out }
     {

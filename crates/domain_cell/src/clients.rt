@@ -79,6 +79,7 @@ impl<M: Monitor + Drop, E: Ears + Drop, Z: Killer + Drop> DomainCell<M, E, Z> {
         requires can { CanTake (cell_in self.old) (step.Rotate by.number who) }
         requires number { self.old.core.turning.chapter < 2 ^ 62 }
         ensures ok { OnOk result (Takes self.old.core.turning self.new.core.turning (step.Rotate by.number who) (λ left. left ≡ [])) }
+        ensures queue { OnOk result ((cell_in self.new).queue ≡ (cell_in self.old).queue) }
         ensures err { OnErr result (self.new.core.turning ≡ with_queue self.old.core.turning (left_queue (cell_in self.old).queue by.number who)) }
         ensures excluded { self.new.core.excluded ≡ None }
         ensures out { self.new.out ≡ self.old.out }

@@ -124,3 +124,9 @@ rotates_on v old new q p held ears x rooms places n who (Err e) is whole can los
 rotates_on v old new q p held ears x rooms places n who (Ok y) is whole can lost waits room h =
     subst (λ (c : Core). Takes c.turning (turning new p held ears) (step.Rotate n who) (λ left. left ≡ [])) is
     (rotate_turn old new q p held ears x rooms places n who whole (subst (λ (c : Core). CanTake c.turning.cell (step.Rotate n who)) (sym is) can) lost waits room h.0 h.1)
+
+-- nobody leaves the queue as a chapter ends
+pub rotate_queue : {E : Type 0} (v : Core) (old new : Recorded) (q p : Queue) (held : List HeldEvent) (ears : Option LentEars) (x : Option Refusable) (n : ℕ) (who : Who) (r : Result (Unit {0}) E) → core_of old q held ears x ≡ v → Rotates n who old new q p r
+    → OnOk r (p ≡ v.turning.cell.queue)
+rotate_queue v old new q p held ears x n who (Ok u) is h = h.1 ∙ ap (λ (c : Core). c.turning.cell.queue) is
+rotate_queue v old new q p held ears x n who (Err e) is h = tt

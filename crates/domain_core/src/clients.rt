@@ -95,6 +95,7 @@ impl DomainTurns {
         requires can { CanTake self.old.turning.cell (step.Rotate by.number who) }
         requires number { self.old.turning.chapter < 2 ^ 62 }
         ensures ok { OnOk result (Takes self.old.turning self.new.turning (step.Rotate by.number who) (λ left. left ≡ [])) }
+        ensures queue { OnOk result (self.new.turning.cell.queue ≡ self.old.turning.cell.queue) }
         ensures err { OnErr result (self.new.turning ≡ with_queue self.old.turning (left_queue self.old.turning.cell.queue by.number who)) }
         ensures others { KeepsOthers by.number self.old.turning.cell self.new.turning.cell }
         ensures excluded { self.new.excluded ≡ None }

@@ -1,15 +1,20 @@
-// Which boot's guest is there, and whose ears are out.
-ghost use Rattle.std.specs.Prelude.{◌≡◌, option_map};
+// What is there between two turns: which boot's guest, whose ears are out, whether a job is open, and what a call is
+// told whose operation rests.
+ghost use Rattle.std.specs.Prelude.{◌≡◌, is_some, option_map};
+ghost use Rattle.operation_turns.specs.Resting.{rested_in};
+ghost use Rattle.domain_ledger.specs.Operations.{IsToldAtEnd};
 ghost use Rattle.domain_spec.specs.Cell.{standing_of};
 ghost use Rattle.domain_spec.specs.Reading.{live_boot};
 ghost use Rattle.made_boots.specs.Made.{made_boot, made_in, makes};
 
 use crate::turns::DomainTurns;
 use core_rules::live_boot;
-use domain_history::Underway;
+use domain_history::{LetIn, Underway};
 use domain_spec::Outcome;
 use guest_turns::LentEars;
-use virt_types::{Phase, State};
+use operation_turns::rest_reply;
+use std::alloc::Global;
+use virt_types::{Phase, Reply, State};
 
 // Whether the operation has still to make its guest.
 fn makes(operation: &Option<Underway>) -> bool
@@ -32,6 +37,16 @@ fn made_of(state: &State, operation: &Option<Underway>) -> Option<u64>
     }
 }
 
+// Whether a call is open.
+fn is_open(job: &Option<LetIn>) -> bool
+    ensures { result ≡ is_some job.now }
+{
+    match job {
+        Some(_) => true,
+        None => false,
+    }
+}
+
 // The boot of these ears.
 fn boot_of(ears: &Option<LentEars>) -> Option<u64>
     ensures { result ≡ option_map (λ e. e.boot) ears.now }
@@ -48,6 +63,21 @@ impl DomainTurns {
         ensures { result ≡ made_boot (standing_of self.now.turning.cell) }
     {
         made_of(self.kept.state(), self.kept.operation())
+    }
+
+    /// Whether a normal job is open: a call, or a phase, waits for an answer.
+    pub fn has_job(&self) -> bool
+        ensures { result ≡ is_some (standing_of self.now.turning.cell).job }
+    {
+        is_open(self.kept.job())
+    }
+
+    /// The reply of the phase that led the operation to rest: what the call is told that came so far, or, where there
+    /// is no memory for one more copy of it, that.
+    pub fn rest_reply(&self, alloc: Global) -> Reply
+        ensures { IsToldAtEnd (rested_in (standing_of self.now.turning.cell).operation) result }
+    {
+        rest_reply(&self.kept, alloc)
     }
 
     /// The boot whose ears are out.

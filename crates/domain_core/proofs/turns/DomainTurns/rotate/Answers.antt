@@ -4,7 +4,7 @@ use Rattle.domain_spec.specs.CanTake.{CanTake}
 use Rattle.domain_spec.specs.declared.core_step.CoreStep.TheVariants as step
 use Rattle.domain_turns.specs.Rooms.{HasEnd, IsKept}
 use Rattle.domain_core.specs.Core.{Core}
-use Rattle.domain_core.proofs.Watching.{rotate_free, rotate_keeps, rotates_on}
+use Rattle.domain_core.proofs.Watching.{rotate_free, rotate_keeps, rotate_queue, rotates_on}
 use Rattle.domain_core.proofs.Others.{rotate_others}
 use Rattle.domain_core.proofs.turns.DomainTurns.rotate.Goals as goal
 
@@ -31,6 +31,13 @@ returns-clause-ok c =
     let l = c.rotate-rotated in
     rotates_on a.self.now i.kept l.new.kept i.queue l.new.queue i.held.items i.ears i.excluded (vec_len i.rooms) (vec_capacity i.held) a.by.number a.who l.result c.self.view_is c.self.invariant c.requires.can
     c.state.ensures.lost c.is_away.ensures.waits c.is_away.ensures.room l.ensures.rotates
+
+pub returns-clause-queue : goal.returns-clause-queue
+returns-clause-queue c =
+    let a = c.args in
+    let i = c.self.inside in
+    let l = c.rotate-rotated in
+    rotate_queue a.self.now i.kept l.new.kept i.queue l.new.queue i.held.items i.ears i.excluded a.by.number a.who l.result c.self.view_is l.ensures.rotates
 
 pub returns-clause-others : goal.returns-clause-others
 returns-clause-others c =
