@@ -1,0 +1,8 @@
+//! The replies of calls that leave no Done, made without taking memory.
+#![tactic(auto)]
+
+mod room;
+#[cfg(test)]
+mod tests;
+
+pub use room::{ReplyRoom, no_memory};
