@@ -1,3 +1,1 @@
-pub mod Going
-pub mod Looking
-pub mod Taking
+pub mod Running

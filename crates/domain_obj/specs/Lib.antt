@@ -1,6 +1,3 @@
-pub mod Asking
-pub mod Calling
-pub mod Finishing
-pub mod InTurn
-pub mod Running
-pub mod Turns
+pub mod Places
+pub mod Replies
+pub mod Runs

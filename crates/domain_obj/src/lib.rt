@@ -1,20 +1,9 @@
-//! Calls over a domain: each takes turns at the domain's cell, and holds none while it asks somebody.
+//! A domain, at which calls take turns: each call of a pass is done in turns of its own, and holds none while it asks.
 #![tactic(auto)]
 
-mod asking;
-mod calling;
-mod calls;
-mod finishing;
 mod object;
 mod place;
-mod queries;
-mod turns;
+mod replies;
 
-pub use asking::Desk;
-pub use calling::{Called, call_once};
-pub use calls::{answer_once, look_once};
-pub use finishing::{Finished, finish};
 pub use object::DomainObj;
-pub use place::Seen;
-pub use queries::{Queried, query};
-pub use turns::{DomainPass, DomainTurn, back_in, look_in, occupied_in, read_in, told_legal};
+pub use place::At;

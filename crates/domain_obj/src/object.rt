@@ -1,19 +1,28 @@
 // A domain that passes take turns at.
-ghost use Rattle.std.specs.Prelude.{◌≡◌, ◌≢◌, ◌≤◌, ◌<◌, ◌^◌, ◌-◌, IfErr, IfOk, false};
+ghost use Rattle.std.specs.Prelude.{◌≡◌, ◌≤◌, ◌<◌, ◌^◌, ◌+◌, ◌-◌, IfErr, IfOk, None, false, true};
 ghost use Rattle.domain_cell.specs.Celled.{new_cell};
 ghost use Rattle.domain_cell.specs.Meaning.{meaning};
-ghost use Rattle.domain_obj.specs.Running.{HasQueried};
-ghost use Rattle.turn_cell.specs.Passes.{Closes, IsCutOff, IsFirst, joined};
+ghost use Rattle.domain_calls.specs.Running.{HasQueried};
+ghost use Rattle.domain_calls.specs.Running.{IsReady};
+ghost use Rattle.domain_hearing.specs.Hearing.{HasHushed, HasLeft};
+ghost use Rattle.domain_obj.specs.Runs.{HasRun};
+ghost use Rattle.domain_spec.specs.Call.{begins, takes_up};
+ghost use Rattle.history_spec.specs.Chapter.{GoesOn, added};
+ghost use Rattle.history_spec.specs.Pass.{AreOf};
+ghost use Rattle.turn_cell.specs.Passes.{Closes, Enters, IsCutOff, IsFirst, SameShare, joined, left_by, turns_of_all};
 
-use crate::queries::{Queried, query};
-use crate::turns::DomainPass;
+use crate::place::{At, place_at, seen_by};
+use crate::replies::told_of_call;
+use domain_calls::{Desk, DomainPass, DomainTurn, Queried, query};
 use domain_cell::DomainCell;
+use domain_hearing::{Hushed, hear};
+use domain_runs::run_call;
 use monitor_link::{Ears, Killer, Monitor};
 use std::alloc::Global;
 use std::marker::Model;
 use std::sync::Wait;
-use turn_cell::TurnCell;
-use virt_types::{DomainDef, NoMemory, Query};
+use turn_cell::{Spent, TurnCell};
+use virt_types::{Call, DomainDef, NoMemory, Query, Reply, Who};
 
 /// A domain that passes take turns at. Contracts see which cell it is.
 #[derive(Drop)]
@@ -54,6 +63,73 @@ impl<M: Monitor + Drop, E: Ears + Drop, Z: Killer + Drop> DomainObj<M, E, Z> {
                 Err(NoMemory)
             }
         }
+    }
+
+    /// A call over the domain, which neither begins an operation nor takes one up. Where its job is excluded it waits, and
+    /// is refused after thirty looks (68), or at once where 32 others wait (203). Once it is let in the desk is asked,
+    /// while the pass has no turn, until the call is done. Then the pass hears the guest. Without a ticket it is refused
+    /// with 211, and the pass that comes back is spent; without memory with 2, and nothing is left of it.
+    pub fn run<D: Desk<M, E, Z>, R: Wait>(
+        &self,
+        rt: &R,
+        alloc: Global,
+        pass: DomainPass<M, E, Z>,
+        who: Who,
+        call: &Call,
+        desk: &mut D,
+    ) -> (DomainPass<M, E, Z>, Reply, At)
+        requires own { pass.cell ≡ self.now }
+        requires ready { IsReady pass }
+        requires begins { begins call.now ≡ None }
+        requires takes { takes_up call.now ≡ None }
+        ensures { HasRun E.ends E.faults E.unheard who call.now pass result.0 (D.report desk.old) (D.report desk.new) result.1 result.2 }
+    {
+        let (pass, called) = run_call(rt, &self.cell, alloc, pass, who, call, desk);
+        let (pass, hushed) = hear(rt, &self.cell, alloc, pass);
+        let (reply, place) = told_of_call(alloc, called);
+        (pass, reply, place_at(place, seen_by(hushed)))
+    }
+
+    /// The pass hears the guest until its ears have nothing more to tell, none are to be had, or 64 things were heard.
+    pub fn hear<R: Wait>(
+        &self,
+        rt: &R,
+        alloc: Global,
+        pass: DomainPass<M, E, Z>,
+    ) -> (DomainPass<M, E, Z>, Hushed)
+        requires own { pass.cell ≡ self.now }
+        requires ready { IsReady pass }
+        ensures heard { HasHushed E.ends E.faults E.unheard pass result.0 result.1 }
+        ensures leaves { HasLeft pass result.0 result.1 }
+    {
+        hear(rt, &self.cell, alloc, pass)
+    }
+
+    /// Waits for the pass's turn, and takes the domain. A pass is `Spent` where no ticket is left, and stays so.
+    pub fn enter<R: Wait>(
+        &self,
+        rt: &R,
+        pass: DomainPass<M, E, Z>,
+    ) -> Result<DomainTurn<M, E, Z>, (DomainPass<M, E, Z>, Spent)>
+        requires own { pass.cell ≡ self.now }
+        ensures turn { IfOk result (λ turn. Enters meaning pass turn) }
+        ensures spent { IfErr result (λ e. e.0 ≡ record pass { spent = true }) }
+        ensures ticket { IfErr result (λ e. e.1.ticket ≡ 2 ^ 62) }
+        ensures used_up { IfErr result (λ _. pass.spent ≡ false → pass.parts ≡ 2 ^ 62 → 2 ^ 62 ≤ pass.first + turns_of_all pass) }
+    {
+        self.cell.enter(rt, pass)
+    }
+
+    /// Ends the turn, and leaves the domain as it is now. Marks may have been added, or the next chapter begun, and nothing
+    /// that another pass keeps there may have changed.
+    pub fn leave(&self, turn: DomainTurn<M, E, Z>) -> DomainPass<M, E, Z>
+        requires own { turn.pass.cell ≡ self.now }
+        requires goes_on { GoesOn (meaning.next_base turn.entry) (meaning.history turn.entry) (meaning.history turn.value) }
+        requires marks { AreOf meaning.whose turn.pass.number (added (meaning.history turn.entry) (meaning.history turn.value)) }
+        requires others { SameShare meaning turn.pass.number turn.entry turn.value }
+        ensures { result ≡ left_by meaning turn }
+    {
+        self.cell.leave(turn)
     }
 
     /// Takes a turn, and reads. The history stays as it is.

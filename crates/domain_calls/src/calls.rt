@@ -1,0 +1,41 @@
+// The turn of an answer.
+ghost use Rattle.std.specs.Prelude.{◌≡◌, IfErr, IfOk, is_some};
+ghost use Rattle.domain_calls.specs.Asking.{MayBeAnswered};
+ghost use Rattle.domain_calls.specs.Running.{IsSpent};
+ghost use Rattle.domain_calls.specs.Turns.{HasAnswered};
+ghost use Rattle.guest_links.specs.Tickets.{IsCounted};
+
+use crate::turns::{DomainPass, back_in, last_in, told_legal};
+use domain_cell::{Back, DomainCell, Ticket};
+use monitor_link::{Ears, Killer, Link, Monitor};
+use std::sync::Wait;
+use turn_cell::TurnCell;
+use virt_types::{Answer, Ask, Front};
+
+/// Takes a turn, in which the open call of the pass is answered, which had asked this last; with the place of the chapter's
+/// last mark of some pass. A pass for which no ticket is left comes back as the error.
+pub fn answer_once<M: Monitor + Drop, E: Ears + Drop, Z: Killer + Drop, R: Wait>(
+    rt: &R,
+    cell: &TurnCell<DomainCell<M, E, Z>>,
+    pass: DomainPass<M, E, Z>,
+    ticket: Ticket<M>,
+    asked: &Ask,
+    answer: Answer,
+    made: Option<Link<M, E, Z>>,
+) -> Result<(DomainPass<M, E, Z>, Back<M>, Front), DomainPass<M, E, Z>>
+    requires own { pass.cell ≡ cell.now }
+    requires may { MayBeAnswered pass asked.now (is_some ticket.monitor) answer (is_some made) }
+    requires counted { IsCounted M.ends M.faults ticket.monitor answer }
+    ensures ok { IfOk result (λ r. HasAnswered asked.now answer pass r.0 r.1 r.2) }
+    ensures spent { IfErr result (λ after. IsSpent pass after) }
+{
+    let mut turn = match cell.enter(rt, pass) {
+        Ok(turn) => turn,
+        Err((pass, _)) => return Err(pass),
+    };
+    told_legal(&mut turn);
+    let left = back_in(&mut turn, ticket, answer, made);
+    let place = last_in(&mut turn);
+    told_legal(&mut turn);
+    Ok((cell.leave(turn), left, place))
+}

@@ -1,0 +1,4 @@
+pub mod Hearings
+pub mod LendingTurns
+pub mod SilentTurns
+pub mod TellingTurns

@@ -1,0 +1,5 @@
+pub mod Attempting
+pub mod Called
+pub mod Ending
+pub mod Looking
+pub mod Turned
