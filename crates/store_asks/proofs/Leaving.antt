@@ -41,7 +41,7 @@ use Rattle.store_asks.specs.Keeping.{IsRead, IsWritten, front_of, opened}
 use Rattle.store_asks.specs.Restoring.{IsToldOf, Reads}
 use Rattle.store_asks.specs.Told.{told_change}
 use Rattle.store_asks.specs.declared.restoring.SavedGuest.{SavedGuest}
-use Rattle.store_asks.specs.Turning.{HasAsked, HasReadSaved, MarksTell, ReadTells, StorePass}
+use Rattle.store_asks.specs.Turning.{AreTried, EndsIn, HasAsked, HasReadSaved, MarksTell, ReadTells, StorePass}
 
 abbrev pub StoreTurn : Type 0 → Type 0
 StoreTurn F = Turned (Keeping F) StoreBase StoreMark (Unit {0})
@@ -96,38 +96,59 @@ module _ {F : Type 0} (told : F → Told) where
   leaves_by number c doubt map moment (Err or.NoMemory) more (inl is) = subst (AreBy (meaning told) number) (sym is) tt
   leaves_by number c doubt map moment (Err or.NoMemory) more (inr settles) = settles_by number doubt map more settles
 
--- ---- what the last mark tells
--- the last mark of a change tells its answer; without memory there may be none
-abbrev pub ChangeLast : ℕ → Change → Front → Answer → List StoreMark → Type 0
-ChangeLast number c front answer.NoMemory more = Unit {0}
-ChangeLast number c front a more = (first : List StoreMark) × (r : Result (Unit {0}) StoreFault) × (moment : ℕ) × (more ≡ first ++ by number (deed.Changed c r moment) ∷ []) × (a ≡ told_change front r)
+-- ---- what is no answer
+tried_more : (xs ys : List StoreMark) → AreTried xs → AreTried ys → AreTried (xs ++ ys)
+tried_more [] ys a b = b
+tried_more (x ∷ xs) ys a b = (a.0, tried_more xs ys a.1 b)
 
-fails_last : (number : ℕ) (c : Change) (moment : ℕ) (front : Front) (first more : List StoreMark) → Fails number c moment first more → ChangeLast number c front answer.Device more
-fails_last number c moment front first more (inl is) = (first, Err store.Device, moment, is, refl)
-fails_last number c moment front first more (inr is) = (first ++ by number (deed.Tried c) ∷ [], Err store.Device, moment, is ∙ sym (append_assoc first (by number (deed.Tried c) ∷ []) _), refl)
+settles_tried : (number : ℕ) (doubt : Option DefKey) (map : Definitions) (first : List StoreMark) → Settles number doubt map first → AreTried first
+settles_tried number None map first is = subst AreTried (sym is) tt
+settles_tried number (Some key) map first is = subst AreTried (sym is.4) (tt, tt)
+
+-- ---- what the last mark tells
+-- the last mark of a change tells its answer, and no other does; without memory none does
+abbrev pub ChangeLast : ℕ → Change → Front → Answer → List StoreMark → Type 0
+ChangeLast number c front answer.NoMemory more = AreTried more
+ChangeLast number c front a more =
+    (first : List StoreMark) × (r : Result (Unit {0}) StoreFault) × (moment : ℕ) × (more ≡ first ++ by number (deed.Changed c r moment) ∷ []) × (a ≡ told_change front r)
+    × AreTried first
+
+fails_last : (number : ℕ) (c : Change) (moment : ℕ) (front : Front) (first more : List StoreMark) → AreTried first → Fails number c moment first more → ChangeLast number c front answer.Device more
+fails_last number c moment front first more tried (inl is) = (first, Err store.Device, moment, is, refl, tried)
+fails_last number c moment front first more tried (inr is) = (
+  first ++ by number (deed.Tried c) ∷ [],
+  Err store.Device,
+  moment,
+  is ∙ sym (append_assoc first (by number (deed.Tried c) ∷ []) _),
+  refl,
+  tried_more first (by number (deed.Tried c) ∷ []) tried (tt, tt),
+)
 
 leaves_last : (number : ℕ) (c : Change) (doubt : Option DefKey) (map : Definitions) (moment : ℕ) (place : Front) (r : Result Front (OrNoMemory StoreFault)) (more : List StoreMark)
     → IfOk r (λ front. front ≡ place) → Leaves number c doubt map moment r more → ChangeLast number c place (change_answer r) more
-leaves_last number c doubt map moment place (Ok front) more at (first, settles, is) = (first, Ok tt, moment, is, ap (λ f. answer.Ok (given.Front f)) at)
-leaves_last number c doubt map moment place (Err (or.Fault store.Device)) more at (first, settles, fails) = fails_last number c moment place first more fails
-leaves_last number c doubt map moment place (Err (or.Fault (store.NameKept one two))) more at is = ([], Err (store.NameKept one two), moment, is, refl)
-leaves_last number c doubt map moment place (Err or.NoMemory) more at leaves = tt
+leaves_last number c doubt map moment place (Ok front) more at (first, settles, is) =
+    (first, Ok tt, moment, is, ap (λ f. answer.Ok (given.Front f)) at, settles_tried number doubt map first settles)
+leaves_last number c doubt map moment place (Err (or.Fault store.Device)) more at (first, settles, fails) =
+    fails_last number c moment place first more (settles_tried number doubt map first settles) fails
+leaves_last number c doubt map moment place (Err (or.Fault (store.NameKept one two))) more at is = ([], Err (store.NameKept one two), moment, is, refl, tt)
+leaves_last number c doubt map moment place (Err or.NoMemory) more at (inl is) = subst AreTried (sym is) tt
+leaves_last number c doubt map moment place (Err or.NoMemory) more at (inr settles) = settles_tried number doubt map more settles
 
 put_last : (number : ℕ) (d : DomainDef) (autostart : Bool) (front : Front) (a : Answer) (more : List StoreMark) → ChangeLast number (put_of d autostart) front a more → MarksTell number (ask.Put d autostart) front a more
-put_last number d autostart front (answer.Ok v) more (first, r, moment, is, says) = (first, deed.Changed (put_of d autostart) r moment, is, (refl, says))
-put_last number d autostart front (answer.Refused class) more (first, r, moment, is, says) = (first, deed.Changed (put_of d autostart) r moment, is, (refl, says))
-put_last number d autostart front (answer.Ended why) more (first, r, moment, is, says) = (first, deed.Changed (put_of d autostart) r moment, is, (refl, says))
-put_last number d autostart front answer.Lost more (first, r, moment, is, says) = (first, deed.Changed (put_of d autostart) r moment, is, (refl, says))
-put_last number d autostart front answer.Device more (first, r, moment, is, says) = (first, deed.Changed (put_of d autostart) r moment, is, (refl, says))
-put_last number d autostart front answer.NoMemory more last = tt
+put_last number d autostart front (answer.Ok v) more (first, r, moment, is, says, tried) = (first, deed.Changed (put_of d autostart) r moment, is, (refl, says), tried)
+put_last number d autostart front (answer.Refused class) more (first, r, moment, is, says, tried) = (first, deed.Changed (put_of d autostart) r moment, is, (refl, says), tried)
+put_last number d autostart front (answer.Ended why) more (first, r, moment, is, says, tried) = (first, deed.Changed (put_of d autostart) r moment, is, (refl, says), tried)
+put_last number d autostart front answer.Lost more (first, r, moment, is, says, tried) = (first, deed.Changed (put_of d autostart) r moment, is, (refl, says), tried)
+put_last number d autostart front answer.Device more (first, r, moment, is, says, tried) = (first, deed.Changed (put_of d autostart) r moment, is, (refl, says), tried)
+put_last number d autostart front answer.NoMemory more last = last
 
 drop_last : (number : ℕ) (uuid : List ℕ) (front : Front) (a : Answer) (more : List StoreMark) → ChangeLast number (drop_of uuid) front a more → MarksTell number (ask.Drop uuid) front a more
-drop_last number uuid front (answer.Ok v) more (first, r, moment, is, says) = (first, deed.Changed (drop_of uuid) r moment, is, (refl, says))
-drop_last number uuid front (answer.Refused class) more (first, r, moment, is, says) = (first, deed.Changed (drop_of uuid) r moment, is, (refl, says))
-drop_last number uuid front (answer.Ended why) more (first, r, moment, is, says) = (first, deed.Changed (drop_of uuid) r moment, is, (refl, says))
-drop_last number uuid front answer.Lost more (first, r, moment, is, says) = (first, deed.Changed (drop_of uuid) r moment, is, (refl, says))
-drop_last number uuid front answer.Device more (first, r, moment, is, says) = (first, deed.Changed (drop_of uuid) r moment, is, (refl, says))
-drop_last number uuid front answer.NoMemory more last = tt
+drop_last number uuid front (answer.Ok v) more (first, r, moment, is, says, tried) = (first, deed.Changed (drop_of uuid) r moment, is, (refl, says), tried)
+drop_last number uuid front (answer.Refused class) more (first, r, moment, is, says, tried) = (first, deed.Changed (drop_of uuid) r moment, is, (refl, says), tried)
+drop_last number uuid front (answer.Ended why) more (first, r, moment, is, says, tried) = (first, deed.Changed (drop_of uuid) r moment, is, (refl, says), tried)
+drop_last number uuid front answer.Lost more (first, r, moment, is, says, tried) = (first, deed.Changed (drop_of uuid) r moment, is, (refl, says), tried)
+drop_last number uuid front answer.Device more (first, r, moment, is, says, tried) = (first, deed.Changed (drop_of uuid) r moment, is, (refl, says), tried)
+drop_last number uuid front answer.NoMemory more last = last
 
 -- ---- an ask
 module _ {F : Type 0} (told : F → Told) (faults : F → ℕ) where
@@ -135,12 +156,21 @@ module _ {F : Type 0} (told : F → Told) (faults : F → ℕ) where
   pub record Left (number : ℕ) (question : Ask) (old new : Keeping F) (result : Option Answer) : Type 0 where
     pub more : List StoreMark
     pub changes : Changes (meaning told) number more old new
+    pub ends : EndsIn new.history more
     pub tells : IfSome result (λ a. MarksTell number question (front_of new.history) a more)
+
+  -- more marks are at the end, and none are too
+  ends_more : (more : List StoreMark) (old new : StoreHistory) → new ≡ with_marks more old → EndsIn new more
+  ends_more more old new is = (old.marks, ap (λ (h : StoreHistory). h.marks) is)
+
+  ends_none : (h : StoreHistory) → EndsIn h []
+  ends_none h = (h.marks, sym (append-nil h.marks))
 
   left_none : (number : ℕ) (question : Ask) (old new : Keeping F) (a : Answer) → HasNone old new a → Left number question old new (Some a)
   left_none number question old new a none = record {
     more = [];
     changes = nothing_changes (meaning told) number old new none.1;
+    ends = ends_none new.history;
     tells = subst (λ (x : Answer). MarksTell number question (front_of new.history) x []) (sym none.0) tt;
   }
 
@@ -149,6 +179,7 @@ module _ {F : Type 0} (told : F → Told) (faults : F → ℕ) where
   left_put number d autostart old new a (inl (r, changed, is)) = record {
     more = changed.marks.0;
     changes = opened_changes told number changed.marks.0 old new (leaves_by told number _ _ _ _ r changed.marks.0 changed.marks.1) changed.marks.2;
+    ends = ends_more changed.marks.0 _ new.history changed.marks.2;
     tells = subst (λ (x : Answer). MarksTell number (ask.Put d autostart) (front_of new.history) x changed.marks.0) (sym is)
         (put_last number d autostart (front_of new.history) (change_answer r) changed.marks.0 (leaves_last number _ _ _ _ (front_of new.history) r changed.marks.0 changed.front changed.marks.1));
   }
@@ -157,6 +188,7 @@ module _ {F : Type 0} (told : F → Told) (faults : F → ℕ) where
   left_drop number uuid old new a (r, changed, is) = record {
     more = changed.marks.0;
     changes = opened_changes told number changed.marks.0 old new (leaves_by told number _ _ _ _ r changed.marks.0 changed.marks.1) changed.marks.2;
+    ends = ends_more changed.marks.0 _ new.history changed.marks.2;
     tells = subst (λ (x : Answer). MarksTell number (ask.Drop uuid) (front_of new.history) x changed.marks.0) (sym is)
         (drop_last number uuid (front_of new.history) (change_answer r) changed.marks.0 (leaves_last number _ _ _ _ (front_of new.history) r changed.marks.0 changed.front changed.marks.1));
   }
@@ -166,16 +198,19 @@ module _ {F : Type 0} (told : F → Told) (faults : F → ℕ) where
   left_image number name k d running bytes old new (Ok done) written = record {
     more = by number (deed.ImageWritten name (image_of k d running bytes) (Ok tt)) ∷ [];
     changes = same_chapter told number _ old new (refl, tt) written.marks;
-    tells = ([], deed.ImageWritten name (image_of k d running bytes) (Ok tt), refl, (refl, refl, refl));
+    ends = ends_more _ old.history new.history written.marks;
+    tells = ([], deed.ImageWritten name (image_of k d running bytes) (Ok tt), refl, (refl, refl, refl), tt);
   }
   left_image number name k d running bytes old new (Err fault.Failed) written = record {
     more = by number (deed.ImageWritten name (image_of k d running bytes) (Err failed)) ∷ [];
     changes = same_chapter told number _ old new (refl, tt) written.marks;
-    tells = ([], deed.ImageWritten name (image_of k d running bytes) (Err failed), refl, (refl, refl, refl));
+    ends = ends_more _ old.history new.history written.marks;
+    tells = ([], deed.ImageWritten name (image_of k d running bytes) (Err failed), refl, (refl, refl, refl), tt);
   }
   left_image number name k d running bytes old new (Err fault.NoMemory) written = record {
     more = [];
     changes = same_chapter told number [] old new tt (written.marks ∙ ap (λ ms. record old.history { marks = ms }) (sym (append-nil old.history.marks)));
+    ends = ends_none new.history;
     tells = tt;
   }
 
@@ -192,12 +227,13 @@ module _ {F : Type 0} (told : F → Told) (faults : F → ℕ) where
   left_by_ask number (ask.Lease network mac) old new (Some a) (is, same) = record {
     more = [];
     changes = nothing_changes (meaning told) number old new same;
-    tells = subst (λ (x : Answer). MarksTell number (ask.Lease network mac) (front_of new.history) x []) (sym is) tt;
+    ends = ends_none new.history;
+    tells = subst (λ (x : Answer). MarksTell number (ask.Lease network mac) (front_of new.history) x []) (sym is) refl;
   }
   left_by_ask number (ask.Lease network mac) old new None it = absurd it
-  left_by_ask number (ask.Command c) old new None same = record { more = []; changes = nothing_changes (meaning told) number old new same; tells = tt }
+  left_by_ask number (ask.Command c) old new None same = record { more = []; changes = nothing_changes (meaning told) number old new same; ends = ends_none new.history; tells = tt }
   left_by_ask number (ask.Command c) old new (Some a) it = absurd it
-  left_by_ask number (ask.Make d boot) old new None same = record { more = []; changes = nothing_changes (meaning told) number old new same; tells = tt }
+  left_by_ask number (ask.Make d boot) old new None same = record { more = []; changes = nothing_changes (meaning told) number old new same; ends = ends_none new.history; tells = tt }
   left_by_ask number (ask.Make d boot) old new (Some a) it = absurd it
 
   -- what may be left of it
@@ -221,6 +257,7 @@ module _ {F : Type 0} (told : F → Told) (faults : F → ℕ) where
         more = left.more;
         answered = subst (λ (n : ℕ). HasAnswered told faults n question turn.value now.value result) number answered;
         seen = tells.0.seen;
+        ends = subst (λ (h : StoreHistory). EndsIn h left.more) (sym tells.0.seen) left.ends;
         tells = subst (λ (x : ℕ × StoreHistory). IfSome result (λ a. MarksTell x.0 question (front_of x.1) a left.more)) (λ i. (number i, sym tells.0.seen i)) left.tells;
         went = subst (λ (h : StoreHistory). Went (meaning told) 1 (tagged h.chapter left.more) before after) (sym tells.0.seen) tells.1;
       }

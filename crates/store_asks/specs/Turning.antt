@@ -20,6 +20,7 @@ use Rattle.def_keeper.specs.declared.mark.StoreDeed.TheVariants as deed
 use Rattle.def_keeper.specs.declared.mark.StoreMark.{StoreMark}
 use Rattle.def_keeper.specs.Chapters.{by}
 use Rattle.def_keeper.specs.Keeper.{Keeping}
+use Rattle.def_keeper.specs.Marks.{StoreHistory}
 use Rattle.def_keeper.specs.Turns.{meaning}
 use Rattle.store_asks.specs.declared.restoring.SavedGuest.{SavedGuest}
 use Rattle.store_asks.specs.Answers.{HasAnswered}
@@ -31,14 +32,25 @@ use Rattle.store_asks.specs.Told.{IsDeedOf}
 abbrev pub StorePass : Type 0
 StorePass = Passed StoreBase StoreMark (Unit {0})
 
--- of these marks the last one tells this answer to the ask
-abbrev pub LastTells : ℕ → Ask → Front → Answer → List StoreMark → Type 0
-LastTells number question front a more = (first : List StoreMark) × (d : StoreDeed) × (more ≡ first ++ by number d ∷ []) × IsDeedOf question front a d
+-- what was only tried is no answer to anybody
+abbrev pub IsTried : StoreDeed → Type 0
+IsTried (deed.Tried c) = Unit {0}
+IsTried other = ⊥
 
--- where there was no memory there may be none, and there is none of a lease
+-- so of each of these marks
+abbrev pub AreTried : List StoreMark → Type 0
+AreTried [] = Unit {0}
+AreTried (m ∷ ms) = IsTried m.deed × AreTried ms
+
+-- of these marks the last one tells this answer to the ask, and it alone is an answer
+abbrev pub LastTells : ℕ → Ask → Front → Answer → List StoreMark → Type 0
+LastTells number question front a more =
+    (first : List StoreMark) × (d : StoreDeed) × (more ≡ first ++ by number d ∷ []) × IsDeedOf question front a d × AreTried first
+
+-- where there was no memory none is an answer, and of a lease there is none
 abbrev pub MarksTell : ℕ → Ask → Front → Answer → List StoreMark → Type 0
-MarksTell number question front answer.NoMemory more = Unit {0}
-MarksTell number (ask.Lease network mac) front a more = Unit {0}
+MarksTell number question front answer.NoMemory more = AreTried more
+MarksTell number (ask.Lease network mac) front a more = more ≡ []
 MarksTell number question front a more = LastTells number question front a more
 
 -- the one mark tells what was read, and what a restore is told of that; without memory there is none
@@ -46,6 +58,10 @@ abbrev pub ReadTells : ℕ → List ℕ → Result SavedGuest (OrNoMemory Refusa
 ReadTells number name result more =
     ((r : Result Image ImageFault) × (more ≡ by number (deed.ImageRead name r) ∷ []) × IsToldOf (as_read r) result)
     ⊎ ((more ≡ []) × (result ≡ Err or.NoMemory))
+
+-- a history ends with these marks
+abbrev pub EndsIn : StoreHistory → List StoreMark → Type 0
+EndsIn h more = (earlier : List StoreMark) × (h.marks ≡ earlier ++ more)
 
 module _ {F : Type 0} (told : F → Told) (faults : F → ℕ) where
   -- a pass, after a turn in which the store was asked: what the store answered, and the marks that this left
@@ -55,6 +71,7 @@ module _ {F : Type 0} (told : F → Told) (faults : F → ℕ) where
     pub more : List StoreMark
     pub answered : HasAnswered told faults before.number question found left result
     pub seen : after.seen ≡ left.history
+    pub ends : EndsIn after.seen more
     pub tells : IfSome result (λ a. MarksTell before.number question (front_of after.seen) a more)
     pub went : Went (meaning told) 1 (tagged after.seen.chapter more) before after
 

@@ -1,0 +1,4 @@
+pub mod Storing
+pub mod Serving
+pub mod Fitting
+pub mod LawProofs

@@ -1,0 +1,9 @@
+use Rattle.std.proofs.Common.{◌∙◌}
+use Rattle.row_desk.proofs.Serving.{makes_at_first, serves_at_first}
+use Rattle.row_desk.proofs.desk.RowDesk.new.Goals as goal
+
+pub invariant_of-result : goal.invariant_of-result
+invariant_of-result g c = (
+  serves_at_first g.F.Files.told c.new-2.result.asked g.P.Handed.store c.new.result c.new-2.ensures (c.new.ensures ∙ c.requires.store),
+  makes_at_first c.new-2.result.asked g.P.Handed.faults (g.G.Maker.faults c.args.guests) c.new-2.ensures c.requires.guests,
+)
