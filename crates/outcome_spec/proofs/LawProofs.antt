@@ -16,7 +16,7 @@ use Rattle.virt_types.specs.declared.caller.Front.{Front}
 use Rattle.outcome_spec.specs.Histories.{front_of}
 use Rattle.outcome_spec.specs.Laws.{MarksAreOfOneRequest, ReadsAreNotFromBefore, ReadsAreOfNow, RepliesNeedMarks}
 use Rattle.outcome_spec.specs.Marks.{HasLeft}
-use Rattle.outcome_spec.specs.Printed.{told}
+use Rattle.reply_texts.specs.Printed.{told}
 use Rattle.outcome_spec.specs.Read.{state_of}
 use Rattle.outcome_spec.specs.Rows.{Known}
 

@@ -9,7 +9,7 @@ use Rattle.virt_types.specs.declared.call.Call.{Call}
 use Rattle.virt_types.specs.declared.caller.Front.{Front}
 use Rattle.virt_types.specs.declared.value.Reply.{Reply}
 use Rattle.outcome_spec.specs.Marks.{HasLeft, StandsAt}
-use Rattle.outcome_spec.specs.Printed.{told}
+use Rattle.reply_texts.specs.Printed.{told}
 use Rattle.outcome_spec.specs.Rows.{DomainPass}
 
 -- a phase answers where its operation rests

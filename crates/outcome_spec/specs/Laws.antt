@@ -12,7 +12,7 @@ use Rattle.outcome_spec.specs.declared.outcome.Outcome.{Outcome}
 use Rattle.outcome_spec.specs.Done.{IsDone}
 use Rattle.outcome_spec.specs.Histories.{front_of}
 use Rattle.outcome_spec.specs.Marks.{HasLeft}
-use Rattle.outcome_spec.specs.Printed.{told}
+use Rattle.reply_texts.specs.Printed.{told}
 use Rattle.outcome_spec.specs.Read.{IsValue, state_of}
 use Rattle.outcome_spec.specs.Outcomes.{HasOutcome}
 use Rattle.outcome_spec.specs.Rows.{DomainPass, HasGone, KnownRow}

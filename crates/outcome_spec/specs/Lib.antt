@@ -3,7 +3,6 @@ pub mod Marks
 pub mod Histories
 pub mod Asked
 pub mod Slots
-pub mod Printed
 pub mod Done
 pub mod Read
 pub mod Shown

@@ -11,7 +11,7 @@ use Rattle.virt_types.specs.declared.caller.Front.{Front}
 use Rattle.virt_types.specs.declared.domain.State.{State}
 use Rattle.virt_types.specs.declared.value.Reply.{Reply}
 use Rattle.outcome_spec.specs.Histories.{IsRead, front_of}
-use Rattle.outcome_spec.specs.Printed.{told}
+use Rattle.reply_texts.specs.Printed.{told}
 use Rattle.outcome_spec.specs.Rows.{DomainPass}
 
 -- the state at the end of a domain's history

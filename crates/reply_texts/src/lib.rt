@@ -1,0 +1,6 @@
+//! What callers are told of a domain's reply: values of its cell as references and texts.
+#![tactic(auto)]
+
+mod printing;
+
+pub use printing::{print_reply, print_value};
