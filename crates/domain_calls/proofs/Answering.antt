@@ -1,5 +1,5 @@
 -- The turn of an answer.
-use Rattle.std.proofs.Common.{◌≡◌, ℕ, ◌++◌, List, [], ◌∷◌, Option, None, Some, refl, sym, ap, ◌∙◌, subst}
+use Rattle.std.proofs.Common.{◌≡◌, ℕ, ◌++◌, List, [], ◌∷◌, is_some, Option, None, Some, refl, sym, ap, ◌∙◌, subst}
 use Rattle.history_spec.specs.Chapter.{tagged}
 use Rattle.history_spec.specs.Pass.{AreOf, own}
 use Rattle.domain_spec.specs.Types.{Answer, Ask}
@@ -18,11 +18,14 @@ use Rattle.virt_types.specs.declared.caller.Front.{Front}
 use Rattle.domain_calls.specs.InTurn.{DomainPass, DomainTurn, GoesBackIn}
 use Rattle.domain_calls.specs.Placing.{IsLastPlace}
 use Rattle.domain_calls.specs.Running.{Goes, IsLegalHistory}
-use Rattle.domain_calls.specs.Turns.{BackWaits, HasAnswered}
+use Rattle.domain_calls.specs.Turns.{BackWaits, HasAnswered, IsClosedSo, TellsBack, answered_of}
+use Rattle.domain_calls.specs.declared.calls.Answered.{Answered}
+use Rattle.domain_calls.proofs.Closed.{back_told, closed_so, ticket_told}
 use Rattle.domain_calls.proofs.Entering.{awaits_now, kept_found, kept_turn, may_leave}
 use Rattle.domain_calls.proofs.Taking.{one_turn}
-use Rattle.guest_links.specs.Tickets.{back_of}
+use Rattle.guest_links.specs.Tickets.{HasMonitor, back_of}
 use Rattle.guest_links.specs.declared.ticket.Back.{Back}
+use Rattle.guest_links.specs.declared.ticket.Ticket.{Ticket}
 use Rattle.turn_cell.specs.Passes.{Enters, left_by}
 use Rattle.turn_cell.specs.Turning.{Changes, HasTurned as PassTurned}
 use Rattle.turn_cell.proofs.Turning.{has_turned}
@@ -68,9 +71,9 @@ back_may_leave before first turn mid now asked x r last entered begun steady goe
           (subst (λ (v : Celled). Changes meaning n (own whose n leaves.0) turn.value v) (sym value) (back_changes n x turn.value mid.value leaves.0 leaves.1 goes.others)),
     )
 
-pub answered_once : {M : Type 0} (before after : DomainPass) (first turn mid now : DomainTurn) (asked : Ask) (x : Answer) (r : Back M) (place : Front) → IsLastPlace place mid.value → IsAsked before asked → Enters meaning before first → turn ≡ first → IsSteady (standing_in first.value)
-    → GoesBackIn turn.pass.number x turn.value mid.value r → mid ≡ record turn { value = mid.value } → now ≡ mid → IsLegalHistory (history_of mid.value) → after ≡ left_by meaning now → HasAnswered asked x before after r place
-answered_once before after first turn mid now asked x r place at last entered begun steady goes same told legal left =
+pub answered_once : {M : Type 0} (before after : DomainPass) (first turn mid now : DomainTurn) (asked : Ask) (x : Answer) (b : Back M) (said : Answered M) (place : Front) → TellsBack (standing_in mid.value).operation b said → IsLastPlace place mid.value → IsAsked before asked → Enters meaning before first → turn ≡ first
+    → IsSteady (standing_in first.value) → GoesBackIn turn.pass.number x turn.value mid.value b → mid ≡ record turn { value = mid.value } → now ≡ mid → IsLegalHistory (history_of mid.value) → after ≡ left_by meaning now → HasAnswered asked x before after said place
+answered_once {M} before after first turn mid now asked x b said place tells at last entered begun steady goes same told legal left =
     let enters : Enters meaning before turn = subst (λ (t : DomainTurn). Enters meaning before t) (sym begun) entered in
     let steady_now : IsSteady (standing_in turn.value) = subst (λ (t : DomainTurn). IsSteady (standing_in t.value)) (sym begun) steady in
     let (c, was, asks, is) = open_call before.share.kept.call asked last in
@@ -78,11 +81,15 @@ answered_once before after first turn mid now asked x r place at last entered be
     let n = turn.pass.number in
     let number : n ≡ before.number = ap (λ (p : DomainPass). p.number) enters.pass in
     let kept = kept_turn turn mid now same told in
-    let leaves = back_leaves before turn mid.value asked x (back_of r) c asks enters steady_now was is goes.back in
+    let r : CoreBack = answered_of said in
+    let goes_so : GoesBack n x turn.value.core.turning mid.value.core.turning r =
+    subst (λ (k : CoreBack). GoesBack n x turn.value.core.turning mid.value.core.turning k) (back_told (standing_in mid.value).operation b said tells) goes.back in
+    let leaves = back_leaves before turn mid.value asked x r c asks enters steady_now was is goes_so in
     let change : Changes meaning n (own whose n leaves.0) turn.value now.value =
     subst (λ (v : Celled). Changes meaning n (own whose n leaves.0) turn.value v) (sym value) (back_changes n x turn.value mid.value leaves.0 leaves.1 goes.others) in
     let turned : PassTurned meaning before after turn.entry now.value = has_turned meaning before after turn now enters kept left in
     let share : after.share ≡ cell_share mid.value before.number = turned.share ∙ ap (λ (v : Celled). cell_share v before.number) value in
+    let of_pass : AreOf whose n leaves.0 = marks_are_own (cell_in turn.value) (step.Back n x) n leaves.0 refl leaves.1.turn in
     let kept_now : share_of (cell_in mid.value) n ≡ after.share.kept = ap (λ (k : ℕ). share_of (cell_in mid.value) k) number ∙ sym (ap (λ (s : CellShare). s.kept) share) in
     record {
       old = turn.value;
@@ -95,21 +102,25 @@ answered_once before after first turn mid now asked x r place at last entered be
           (subst (λ (v : Celled). Goes 1 (tagged v.core.turning.chapter (own whose n leaves.0)) before after) value
           (one_turn (own whose n leaves.0) before after turn now enters kept change (subst (λ (v : Celled). IsLegalHistory (history_of v)) (sym value) legal) left));
       leaves =
-          subst (λ (k : ℕ). BackLeaves k c asked x before.share.kept after.share.kept (back_of r) leaves.0) number
-          (subst (λ (s : Share). BackLeaves n c asked x s after.share.kept (back_of r) leaves.0) (sym (kept_found before turn enters))
-          (subst (λ (s : Share). BackLeaves n c asked x (share_of (cell_in turn.value) n) s (back_of r) leaves.0) kept_now leaves.2));
+          subst (λ (k : ℕ). BackLeaves k c asked x before.share.kept after.share.kept r leaves.0) number
+          (subst (λ (s : Share). BackLeaves n c asked x s after.share.kept r leaves.0) (sym (kept_found before turn enters))
+          (subst (λ (s : Share). BackLeaves n c asked x (share_of (cell_in turn.value) n) s r leaves.0) kept_now leaves.2));
+      closed =
+          subst (λ (k : ℕ). IsClosedSo k c leaves.0 said) number
+          (closed_so turn.value.core.turning mid.value.core.turning n x c asked (share_of (cell_in turn.value) n) (share_of (cell_in mid.value) n) leaves.0 b said goes.back
+          (ap (λ (s : Share). s.call) (sym (kept_found before turn enters)) ∙ was) of_pass leaves.1 leaves.2 tells);
       share_was = ap (λ (v : Celled). cell_share v before.number) enters.value ∙ enters.share;
       share_is = share;
       same_chapter = leaves.1.chapter;
-      ticket = goes.ticket;
+      ticket = subst (λ (t : Option (Ticket M)). HasMonitor (is_some mid.value.out) t) (ticket_told (standing_in mid.value).operation b said tells) goes.ticket;
       waits =
-          back_waits n x turn.value.core.turning mid.value.core.turning (back_of r) after.share.kept.call goes.back
+          back_waits n x turn.value.core.turning mid.value.core.turning r after.share.kept.call goes_so
           (ap (λ (s : Share). s.call) (sym kept_now));
       keeps =
-          subst (λ (s : Share). IsAnsweredTo s after.share.kept (back_of r)) (sym (kept_found before turn enters))
-          (subst (λ (s : Share). IsAnsweredTo (share_of (cell_in turn.value) n) s (back_of r)) kept_now (answers_keep turn.value.core.turning mid.value.core.turning n x (back_of r) goes.back));
+          subst (λ (s : Share). IsAnsweredTo s after.share.kept r) (sym (kept_found before turn enters))
+          (subst (λ (s : Share). IsAnsweredTo (share_of (cell_in turn.value) n) s r) kept_now (answers_keep turn.value.core.turning mid.value.core.turning n x r goes_so));
       saw = turned.seen ∙ ap history_of value;
       marks_are = leaves.1.leads.marks;
-      of_pass = subst (λ (k : ℕ). AreOf whose k leaves.0) number (marks_are_own (cell_in turn.value) (step.Back n x) n leaves.0 refl leaves.1.turn);
+      of_pass = subst (λ (k : ℕ). AreOf whose k leaves.0) number of_pass;
       place_is = at;
     }

@@ -13,17 +13,20 @@ use Rattle.domain_spec.specs.Cell.{OpenCall, Share, share_of}
 use Rattle.domain_cell.specs.Celled.{CellShare, Celled, cell_in, cell_share, chapter_of, monitor_of}
 use Rattle.domain_cell.specs.Keeping.{no_mark_lowers}
 use Rattle.domain_cell.specs.Meaning.{meaning}
-use Rattle.domain_ledger.specs.declared.phase_out.Step.{Step}
 use Rattle.domain_calls.specs.Asking.{AsksLast, FitsAsk, IsAsked, MayBeAnswered}
 use Rattle.domain_calls.specs.Finishing.{IsAway, IsClosed, IsFinished, IsFinishedBy, IsPhased, IsStillAway}
 use Rattle.domain_calls.specs.InTurn.{DomainPass}
+use Rattle.domain_calls.specs.Leading.{IsTold}
 use Rattle.domain_calls.specs.Running.{Goes, IsSpent}
 use Rattle.domain_calls.specs.Turns.{HasAnswered}
+use Rattle.domain_calls.specs.declared.calls.Answered.{Answered}
+use Rattle.domain_calls.specs.declared.calls.Answered.TheVariants as answered
+use Rattle.domain_calls.specs.declared.next.Next.{Next}
+use Rattle.domain_calls.proofs.Leading.{led_own}
 use Rattle.domain_calls.proofs.Placing.{placed_last}
-use Rattle.guest_links.specs.declared.ticket.Back.{Back}
-use Rattle.guest_links.specs.declared.ticket.Back.TheVariants as back
 use Rattle.guest_links.specs.declared.ticket.Ticket.{Ticket}
 use Rattle.own_shares.specs.Staying.{AsideStays}
+use Rattle.domain_turns.specs.Phased.{HasLedTo}
 use Rattle.turn_cell.proofs.Turning.{went_on}
 use Rattle.turn_marks.specs.Told.{told, told_then}
 use Rattle.turn_shares.specs.Shares.{whose}
@@ -126,7 +129,7 @@ no_marks c ms e = ap (λ (l : List (Mark ℕ)). tagged c l) e
 
 -- it asks on
 pub keeps_on : {M : Type 0} (first now after : DomainPass) (asked next_ask : Ask) (sent : Bool) (next : Ticket M) (report report_now report_then : List (Ask × Answer)) (x : Answer) (place : Front) → Keeps first now asked sent report report_now
-    → report_then ≡ report_now ++ told (asked ∷ []) (x ∷ []) → HasAnswered asked x now after (back.Away next next_ask) place → Keeps first after next_ask (is_some next.monitor) report report_then
+    → report_then ≡ report_now ++ told (asked ∷ []) (x ∷ []) → HasAnswered asked x now after (answered.Away next next_ask) place → Keeps first after next_ask (is_some next.monitor) report report_then
 keeps_on first now after asked next_ask sent next report report_now report_then x place k then_is h =
     let l = h.leaves in
     let heard_more = told (asked ∷ []) (x ∷ []) in
@@ -174,7 +177,7 @@ closed_share after number new is none =
     }
 
 -- it is closed by this mark, which says all that it was told
-closes_by : {M : Type 0} (first now after : DomainPass) (asked : Ask) (sent : Bool) (report report_now : List (Ask × Answer)) (x : Answer) (r : Back M) (place : Front) (k : Keeps first now asked sent report report_now) (h : HasAnswered asked x now after r place) (asks : List Ask) (answers : List Answer)
+closes_by : {M : Type 0} (first now after : DomainPass) (asked : Ask) (sent : Bool) (report report_now : List (Ask × Answer)) (x : Answer) (r : Answered M) (place : Front) (k : Keeps first now asked sent report report_now) (h : HasAnswered asked x now after r place) (asks : List Ask) (answers : List Answer)
     (m own_mark : Mark ℕ) → own whose now.number h.left ≡ own_mark ∷ [] → own_mark ≡ m → told asks answers ≡ told_then h.call asked x → after.share.kept.call ≡ None
     → IsFinishedBy first after (k.more ++ told (asked ∷ []) (x ∷ [])) place k.still.was asks answers m
 closes_by first now after asked sent report report_now x r place k h asks answers m own_mark own_is is told_is none =
@@ -207,7 +210,7 @@ phase_as n m j k phase asks answers next events e f = ap (λ (i : ℕ). mark.Pha
 
 -- it is done
 pub finishes : {M : Type 0} (first now after : DomainPass) (asked : Ask) (sent : Bool) (report report_now report_then : List (Ask × Answer)) (x : Answer) (r : Reply) (place : Front) → Keeps first now asked sent report report_now
-    → report_then ≡ report_now ++ told (asked ∷ []) (x ∷ []) → HasAnswered {M = M} asked x now after (back.Done r) place
+    → report_then ≡ report_now ++ told (asked ∷ []) (x ∷ []) → HasAnswered {M = M} asked x now after (answered.Done r) place
     → (more : List (Ask × Answer)) × (report_then ≡ report ++ more) × IsFinished first after more r place
 finishes first now after asked sent report report_now report_then x r place k then_is h =
     let l = h.leaves in
@@ -217,10 +220,11 @@ finishes first now after asked sent report report_now report_then x r place k th
       reported_so report report_now report_then k.more asked x k.reported then_is,
       record {
         call = k.still.was;
+        normal = λ nested. h.closed (ap (λ (j : OpenJob). j.job) job ∙ nested);
         asks = l.asks;
         answers = l.answers;
         events = l.events;
-        by = closes_by first now after asked sent report report_now x (back.Done r) place k h l.asks l.answers
+        by = closes_by first now after asked sent report report_now x (answered.Done r) place k h l.asks l.answers
             (mark.Done first.number k.still.was.job.who k.still.was.job.call k.still.was.job.boot l.asks l.answers r l.events)
             (mark.Done now.number h.call.job.who h.call.job.call h.call.job.boot l.asks l.answers r l.events) l.own_are
             (done_as now.number first.number h.call.job k.still.was.job l.asks l.answers r l.events k.still.goes.went.same.number job) l.told_is h.keeps.call;
@@ -229,13 +233,15 @@ finishes first now after asked sent report report_now report_then x r place k th
     )
 
 -- the phase is done
-pub phases : {M : Type 0} (first now after : DomainPass) (asked : Ask) (sent : Bool) (report report_now report_then : List (Ask × Answer)) (x : Answer) (st : Step) (place : Front) → Keeps first now asked sent report report_now
-    → report_then ≡ report_now ++ told (asked ∷ []) (x ∷ []) → HasAnswered {M = M} asked x now after (back.Phased st) place
-    → (more : List (Ask × Answer)) × (report_then ≡ report ++ more) × IsPhased first after more st place
-phases first now after asked sent report report_now report_then x st place k then_is h =
+pub phases : {M : Type 0} (first now after : DomainPass) (asked : Ask) (sent : Bool) (report report_now report_then : List (Ask × Answer)) (x : Answer) (said : Next) (place : Front) → Keeps first now asked sent report report_now
+    → report_then ≡ report_now ++ told (asked ∷ []) (x ∷ []) → HasAnswered {M = M} asked x now after (answered.Phased said) place
+    → (more : List (Ask × Answer)) × (report_then ≡ report ++ more) × IsPhased first after more said place
+phases first now after asked sent report report_now report_then x said place k then_is h =
     let l = h.leaves in
     let same : h.call ≡ k.still.call = some_call h.call k.still.call (sym h.was_open ∙ k.still.is_open) in
-    let job : h.call.job ≡ k.still.was.job = ap (λ (c : OpenCall). c.job) same ∙ k.still.job in (
+    let job : h.call.job ≡ k.still.was.job = ap (λ (c : OpenCall). c.job) same ∙ k.still.job in
+    let led : HasLedTo now.number h.closed.0 (mark.Phase now.number h.call.job.who l.phase l.asks l.answers l.next l.events ∷ []) =
+    subst (λ (ms : List (Mark ℕ)). HasLedTo now.number h.closed.0 ms) l.own_are (led_own now.number h.closed.0 h.left h.closed.1) in (
       k.more ++ told (asked ∷ []) (x ∷ []),
       reported_so report report_now report_then k.more asked x k.reported then_is,
       record {
@@ -249,11 +255,11 @@ phases first now after asked sent report report_now report_then x st place k the
         answers = l.answers;
         next = l.next;
         events = l.events;
-        by = closes_by first now after asked sent report report_now x (back.Phased st) place k h l.asks l.answers
+        by = closes_by first now after asked sent report report_now x (answered.Phased said) place k h l.asks l.answers
             (mark.Phase first.number k.still.was.job.who l.phase l.asks l.answers l.next l.events)
             (mark.Phase now.number h.call.job.who l.phase l.asks l.answers l.next l.events) l.own_are
             (phase_as now.number first.number h.call.job k.still.was.job l.phase l.asks l.answers l.next l.events k.still.goes.went.same.number job) l.told_is h.keeps.call;
-        leads = l.leads;
+        leads = subst (λ (o : Outcome). IsTold o said) (sym led.1) h.closed.2;
         operation_is = l.operation_is;
       },
     )

@@ -3,21 +3,22 @@ use Rattle.std.specs.Prelude.{◌≡◌, ℕ, List, [], ◌∷◌, ◌++◌, is_
 use Rattle.virt_types.specs.declared.caller.Front.{Front}
 use Rattle.history_spec.specs.Chapter.{tagged}
 use Rattle.domain_spec.specs.Types.{Answer, Ask, Phase, Reply, Transition}
+use Rattle.domain_spec.specs.Types.job
 use Rattle.domain_spec.specs.declared.mark.Mark.{Mark}
 use Rattle.domain_spec.specs.declared.mark.Mark.TheVariants as mark
 use Rattle.domain_spec.specs.declared.open.OpenOperation.{OpenOperation}
 use Rattle.domain_spec.specs.declared.step.Outcome.{Outcome}
 use Rattle.domain_spec.specs.declared.step.Outcome.TheVariants as outcome
 use Rattle.domain_spec.specs.Cell.{OpenCall}
-use Rattle.domain_ledger.specs.Ledger.{step_to}
-use Rattle.domain_ledger.specs.declared.phase_out.Step.{Step}
 use Rattle.domain_turns.specs.Phased.{led_to}
 use Rattle.domain_calls.specs.Asking.{AwaitsAnswer, IsAsked}
 use Rattle.domain_calls.specs.InTurn.{DomainPass}
+use Rattle.domain_calls.specs.Leading.{IsTold}
 use Rattle.domain_calls.specs.Placing.{IsPlaced}
 use Rattle.domain_calls.specs.Running.{Goes, IsSpent}
 use Rattle.domain_calls.specs.declared.finishing.Finished.{Finished}
 use Rattle.domain_calls.specs.declared.finishing.Finished.TheVariants as finished
+use Rattle.domain_calls.specs.declared.next.Next.{Next}
 use Rattle.own_shares.specs.Staying.{AsideStays}
 use Rattle.turn_marks.specs.Told.{told}
 
@@ -59,17 +60,18 @@ pub record IsFinishedBy (before after : DomainPass) (more : List (Ask × Answer)
   pub aside : AsideStays before.share.kept after.share.kept
   pub placed : IsPlaced place chapter m after
 
--- a call is done: its Done says all that it was told
+-- a call is done, which is no phase: its Done says all that it was told
 pub record IsFinished (before after : DomainPass) (more : List (Ask × Answer)) (r : Reply) (place : Front) : Type 0 where
   pub call : OpenCall
+  pub normal : call.job.job ≡ job.Nested → ⊥
   pub asks : List Ask
   pub answers : List Answer
   pub events : List Transition
   pub by : IsFinishedBy before after more place call asks answers (mark.Done before.number call.job.who call.job.call call.job.boot asks answers r events)
   pub operation : after.share.kept.operation ≡ before.share.kept.operation
 
--- the phase that was due is done, and leads on so; so does the operation
-pub record IsPhased (before after : DomainPass) (more : List (Ask × Answer)) (st : Step) (place : Front) : Type 0 where
+-- the phase that was due is done, and leads on as its caller is told; so does the operation
+pub record IsPhased (before after : DomainPass) (more : List (Ask × Answer)) (said : Next) (place : Front) : Type 0 where
   pub call : OpenCall
   pub operation : OpenOperation
   pub is_open : before.share.kept.operation ≡ Some operation
@@ -81,13 +83,13 @@ pub record IsPhased (before after : DomainPass) (more : List (Ask × Answer)) (s
   pub next : Outcome
   pub events : List Transition
   pub by : IsFinishedBy before after more place call asks answers (mark.Phase before.number call.job.who phase asks answers next events)
-  pub leads : st ≡ step_to next
+  pub leads : IsTold next said
   pub operation_is : after.share.kept.operation ≡ led_to next (Some operation)
 
 -- how the asks of a call or a phase end: the desk was asked just what the mark says, but for what found no memory; where no
 -- ticket was left, it was asked once more than the call was answered
 abbrev pub HasFinished : DomainPass → DomainPass → List (Ask × Answer) → List (Ask × Answer) → Finished → Type 0
 HasFinished before after report now (finished.Done r place) = (more : List (Ask × Answer)) × (now ≡ report ++ more) × IsFinished before after more r place
-HasFinished before after report now (finished.Phased st place) = (more : List (Ask × Answer)) × (now ≡ report ++ more) × IsPhased before after more st place
+HasFinished before after report now (finished.Phased said place) = (more : List (Ask × Answer)) × (now ≡ report ++ more) × IsPhased before after more said place
 HasFinished before after report now finished.Spent =
     (more : List (Ask × Answer)) × (asked : Ask) × (x : Answer) × (mid : DomainPass) × IsStillAway before mid more × IsAsked mid asked × (now ≡ report ++ (more ++ told (asked ∷ []) (x ∷ []))) × IsSpent mid after

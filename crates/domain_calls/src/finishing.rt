@@ -3,11 +3,12 @@ ghost use Rattle.std.specs.Prelude.{◌≡◌, is_some};
 ghost use Rattle.domain_calls.specs.Finishing.{HasFinished, IsAway};
 
 use crate::asking::Desk;
-use crate::calls::answer_once;
+use crate::calls::{Answered, answer_once};
+use crate::next::Next;
 use crate::turns::DomainPass;
-use domain_cell::{Back, DomainCell, Ticket};
-use domain_ledger::Step;
+use domain_cell::{DomainCell, Ticket};
 use monitor_link::{Ears, Killer, Monitor};
+use std::alloc::Global;
 use std::sync::Wait;
 use turn_cell::TurnCell;
 use virt_types::{Ask, Front, Reply};
@@ -18,7 +19,7 @@ pub enum Finished {
     /// The call is done, and its caller is told this; its Done stands here.
     Done(Reply, Front),
     /// The phase is done, and leads on so; its Phase stands here.
-    Phased(Step, Front),
+    Phased(Next, Front),
     /// No ticket was left.
     Spent,
 }
@@ -28,6 +29,7 @@ pub enum Finished {
 pub fn finish<M: Monitor + Drop, E: Ears + Drop, Z: Killer + Drop, D: Desk<M, E, Z>, R: Wait>(
     rt: &R,
     cell: &TurnCell<DomainCell<M, E, Z>>,
+    alloc: Global,
     pass: DomainPass<M, E, Z>,
     ticket: Ticket<M>,
     asked: Ask,
@@ -42,15 +44,15 @@ pub fn finish<M: Monitor + Drop, E: Ears + Drop, Z: Killer + Drop, D: Desk<M, E,
     let mut asked = asked;
     for _ in rt.forever() {
         let (answer, made) = desk.ask(&pass, &mut ticket, &asked);
-        match answer_once(rt, cell, pass, ticket, &asked, answer, made) {
-            Ok((after, left, place)) => match left {
-                Back::Away(next, ask) => {
+        match answer_once(rt, cell, alloc, pass, ticket, &asked, answer, made) {
+            Ok((after, answered, place)) => match answered {
+                Answered::Away(next, ask) => {
                     pass = after;
                     ticket = next;
                     asked = ask;
                 }
-                Back::Done(reply) => return (after, Finished::Done(reply, place)),
-                Back::Phased(step) => return (after, Finished::Phased(step, place)),
+                Answered::Done(reply) => return (after, Finished::Done(reply, place)),
+                Answered::Phased(next) => return (after, Finished::Phased(next, place)),
             },
             Err(after) => return (after, Finished::Spent),
         }

@@ -4,13 +4,15 @@
 mod asking;
 mod calls;
 mod finishing;
+mod next;
 mod place;
 mod queries;
 mod turns;
 
 pub use asking::Desk;
-pub use calls::answer_once;
+pub use calls::{Answered, answer_once};
 pub use finishing::{Finished, finish};
+pub use next::{Next, next_in};
 pub use place::Seen;
 pub use queries::{Queried, query};
 pub use turns::{

@@ -6,6 +6,7 @@ ghost use Rattle.domain_runs.specs.Ending.{HasEnded};
 use domain_calls::{Desk, DomainPass, Finished, finish};
 use domain_cell::{DomainCell, Ticket};
 use monitor_link::{Ears, Killer, Monitor};
+use std::alloc::Global;
 use std::sync::Wait;
 use turn_cell::TurnCell;
 use virt_types::{Ask, Front, Reply};
@@ -31,6 +32,7 @@ pub enum Called {
 pub fn end_call<M: Monitor + Drop, E: Ears + Drop, Z: Killer + Drop, D: Desk<M, E, Z>, R: Wait>(
     rt: &R,
     cell: &TurnCell<DomainCell<M, E, Z>>,
+    alloc: Global,
     pass: DomainPass<M, E, Z>,
     ticket: Ticket<M>,
     asked: Ask,
@@ -41,7 +43,7 @@ pub fn end_call<M: Monitor + Drop, E: Ears + Drop, Z: Killer + Drop, D: Desk<M, 
     requires no_operation { pass.share.kept.operation ≡ None }
     ensures { HasEnded pass result.0 (D.report desk.old) (D.report desk.new) result.1 }
 {
-    let (after, finished) = finish(rt, cell, pass, ticket, asked, desk);
+    let (after, finished) = finish(rt, cell, alloc, pass, ticket, asked, desk);
     match finished {
         Finished::Done(reply, place) => (after, Called::Done(reply, place)),
         Finished::Spent => (after, Called::SpentAway),
