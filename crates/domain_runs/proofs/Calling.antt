@@ -100,7 +100,7 @@ knows_found : (f : First) (before now : DomainHistory) → FoundFirst f before n
 knows_found first.Now before now h = tt
 knows_found (first.Boot boot) before now (found, since, at) = (found, at)
 
-free_rests : (who : Who) (before now : DomainPass) → Rests who before now → IsFree now.share.kept who
+pub free_rests : (who : Who) (before now : DomainPass) → Rests who before now → IsFree now.share.kept who
 free_rests who before now r = record {
   no_call = ap (λ (s : CellShare). s.kept.call) r.share ∙ r.at_rest.call;
   no_operation = ap (λ (s : CellShare). s.kept.operation) r.share ∙ r.at_rest.operation;
@@ -122,12 +122,12 @@ again_waits a b s t u e f = f ∙ ap (λ (x : CellShare). waiting_as b x) e
 waits_is : (b : Option Who) (t u : CellShare) → u ≡ waiting_as b t → u.kept.waits ≡ b
 waits_is b t u e = ap (λ (x : CellShare). x.kept.waits) e
 
-rests_on : (who : Who) (before now after : DomainPass) (boot : Option ℕ) → Rests who before now → WaitsNow who now after boot → Rests who before after
-rests_on who before now after boot r w =
-    let is : after.share.kept.waits ≡ Some who = waits_is (Some who) now.share after.share w.share in
+pub rests_on : (who : Who) (before now after : DomainPass) → Rests who before now → after.share ≡ waiting_as (Some who) now.share → Rests who before after
+rests_on who before now after r same =
+    let is : after.share.kept.waits ≡ Some who = waits_is (Some who) now.share after.share same in
     record {
       at_rest = r.at_rest;
-      share = subst (λ (o : Option Who). after.share ≡ waiting_as o before.share) (sym is) (again_waits now.share.kept.waits (Some who) before.share now.share after.share r.share w.share);
+      share = subst (λ (o : Option Who). after.share ≡ waiting_as o before.share) (sym is) (again_waits now.share.kept.waits (Some who) before.share now.share after.share r.share same);
       waits = subst (λ (o : Option Who). IfSome o (λ v. v ≡ who)) (sym is) refl;
     }
 
@@ -163,7 +163,7 @@ looks_on who d before now after f count next boot k le w =
       turns = k.turns + 1;
       goes = goes;
       counted = omega (arith, le, k.counted);
-      rests = λ fresh. rests_on who before now after boot (k.rests w.fresh) w;
+      rests = λ fresh. rests_on who before now after (k.rests w.fresh) w.share;
       keeps = λ fresh. keeps_on who d (first_after f d boot) after.share.kept of (waits_is (Some who) now.share after.share w.share);
       of_destroy = of;
       found = found_by who d f (first_after f d boot) before.seen now after boot goes.went.seen k.found w (first_is d f boot);
@@ -174,7 +174,7 @@ looks_on who d before now after f count next boot k le w =
 rested : (s : CellShare) → s.kept.waits ≡ None → waiting_as None s ≡ s
 rested s none = ap (λ (o : Option Who). waiting_as o s) (sym none)
 
-share_back : (who : Who) (before now after : DomainPass) → Rests who before now → after.share ≡ waiting_as None now.share → after.share ≡ before.share
+pub share_back : (who : Who) (before now after : DomainPass) → Rests who before now → after.share ≡ waiting_as None now.share → after.share ≡ before.share
 share_back who before now after r is = again_waits now.share.kept.waits None before.share now.share after.share r.share is ∙ rested before.share r.at_rest.waits
 
 -- the boot that it carries
@@ -232,7 +232,7 @@ carries_by d chapter boot who n m before after e h = subst (λ (k : ℕ). Carrie
 
 -- it was done at once
 
-none_said : (report now more : List (Ask × Answer)) → now ≡ report → more ≡ [] → now ≡ report ++ more
+pub none_said : (report now more : List (Ask × Answer)) → now ≡ report → more ≡ [] → now ≡ report ++ more
 none_said report now more e none = e ∙ sym (append-nil report) ∙ ap (λ (l : List (Ask × Answer)). report ++ l) (sym none)
 
 pub done_at_once : (who : Who) (d : Call) (before now after : DomainPass) (f : First) (count : ℕ) (report report_now : List (Ask × Answer)) (r : Reply) (place : Front) → LooksOn who d before now f count → report_now ≡ report → IsDoneAtOnce who d f now after r place
@@ -259,7 +259,7 @@ done_at_once who d before now after f count report report_now r place k same h =
 
 -- it asked until it was done
 
-some_chapter : (a b : ℕ) → Some a ≡ Some b → a ≡ b
+pub some_chapter : (a b : ℕ) → Some a ≡ Some b → a ≡ b
 some_chapter a b e = cc
 
 done_is : (n m : ℕ) (j k : OpenJob) (who : Who) (d : Call) (boot : Option ℕ) (asks : List Ask) (answers : List Answer) (r : Reply) (events : List Transition) → n ≡ m → j ≡ k → k.who ≡ who → k.call ≡ d → k.boot ≡ boot
@@ -277,7 +277,7 @@ closed_back before after was now waits rest =
 rest_through : (s t u : Share) → RestStays s t → AsideStays t u → u.operation ≡ t.operation → RestStays s u
 rest_through s t u p q same = record { operation = same ∙ p.operation; registrations = q.registrations ∙ p.registrations; ears = q.ears ∙ p.ears }
 
-heard_all : (was heard more : List (Ask × Answer)) → was ≡ [] → heard ≡ was ++ more → heard ≡ more
+pub heard_all : (was heard more : List (Ask × Answer)) → was ≡ [] → heard ≡ was ++ more → heard ≡ more
 heard_all was heard more none e = e ∙ ap (λ (l : List (Ask × Answer)). l ++ more) none
 
 pub done_then : (who : Who) (d : Call) (before now mid after : DomainPass) (f : First) (count : ℕ) (report report_now : List (Ask × Answer)) (x : Ask) (sent : Bool) (r : Reply) (place : Front) → LooksOn who d before now f count → IsAwayNow who d f now mid x sent

@@ -1,6 +1,15 @@
 pub mod Calling
+pub mod DuePhase
+pub mod Entered
+pub mod Entering
+pub mod GoingOn
 pub mod Known
 pub mod Letting
+pub mod Listing
 pub mod Moving
+pub mod Operations
+pub mod Renewing
+pub mod Stepped
+pub mod Stepping
 pub mod Turned
 pub mod Waiters

@@ -9,6 +9,7 @@ use Rattle.domain_spec.specs.Call.{begins, takes_up}
 use Rattle.domain_spec.specs.CanTake.{CanLook, CanTake}
 use Rattle.domain_spec.specs.Cell.{Share, share_of}
 use Rattle.domain_spec.specs.Fold.{at_base, standing}
+use Rattle.domain_spec.specs.Kept.{looks_of}
 use Rattle.domain_calls.specs.InTurn.{DomainTurn, IsRenewed, LooksIn}
 use Rattle.domain_calls.specs.Running.{DomainHistory}
 use Rattle.domain_calls.proofs.Composing.{renewed_begins, renewed_share, still_then}
@@ -42,15 +43,19 @@ may_renewed n who d f a b renewed may =
 pub can_look : (n : ℕ) (who : Who) (d : Call) (f : First) (c : Celled) → MayLook n who d f c → begins d ≡ None → takes_up d ≡ None → CanLook (cell_in c) n who d f
 can_look n who d f c may none takes = free_look (cell_in c) n who d f may.free may.keeps none takes
 
--- where it was excluded often enough it can give up
+-- a caller that waits, and looked often enough, can give up
+pub waiters_give_up : (n : ℕ) (who : Who) (d : Call) (c : Celled) (looks : ℕ) → (share_of (cell_in c) n).waits ≡ Some who → looks ≡ looks_of (cell_in c).queue.callers who → 30 ≤ looks → CanTake (cell_in c) (step.GiveUp n who d)
+waiters_give_up n who d c looks waits are enough = (
+  subst (λ (o : Option Who). IfSome o (λ w. w ≡ who)) (sym waits) refl,
+  looks,
+  enough,
+  has_looked (cell_in c).queue.callers who looks are (omega (arith, enough)),
+)
+
+-- so can it where it was excluded often enough
 pub can_give_up : {M : Type 0} (n : ℕ) (who : Who) (d : Call) (f : First) (old mid : Celled) (held : JobRecord) (boot : Option ℕ) (looks : ℕ) → LooksIn {M = M} n who d f old mid (look.Excluded held boot looks) → 30 ≤ looks → CanTake (cell_in mid) (step.GiveUp n who d)
 can_give_up n who d f old mid held boot looks h enough =
-    let waits : (share_of (cell_in mid) n).waits ≡ Some who = queues_tell (cell_in old) (cell_in mid) n who (looked.Excluded held boot looks) h.queue in (
-      subst (λ (o : Option Who). IfSome o (λ w. w ≡ who)) (sym waits) refl,
-      looks,
-      enough,
-      has_looked (cell_in mid).queue.callers who looks h.looks.2.1.looks_are (omega (arith, enough)),
-    )
+    waiters_give_up n who d mid looks (queues_tell (cell_in old) (cell_in mid) n who (looked.Excluded held boot looks) h.queue) h.looks.2.1.looks_are enough
 
 -- a step, or two of which the first leaves no mark, adds these marks to the chapter
 pub record Adds (n : ℕ) (old new : Celled) (left : List (Mark ℕ)) : Type 0 where
@@ -92,11 +97,14 @@ gave_up_adds n who d old mid new left same keeps turned others = record {
   change = still_then n (own whose n left) old mid new same keeps (turns_change mid new (step.GiveUp n who d) n left refl turned others) turned.chapter;
 }
 
+-- under the number of the pass that has the turn
+pub give_up_then : (who : Who) (d : Call) (turn now : DomainTurn) → CanTake (cell_in now.value) (step.GiveUp turn.pass.number who d) → now ≡ record turn { value = now.value } → CanTake (cell_in now.value) (step.GiveUp now.pass.number who d)
+give_up_then who d turn now can same = subst (λ (k : ℕ). CanTake (cell_in now.value) (step.GiveUp k who d)) (sym (ap (λ (t : DomainTurn). t.pass.number) same)) can
+
 pub can_give_up_then : {M : Type 0} (who : Who) (d : Call) (f : First) (turn now : DomainTurn) (held : JobRecord) (boot : Option ℕ) (looks : ℕ) → LooksIn {M = M} turn.pass.number who d f turn.value now.value (look.Excluded held boot looks)
     → 30 ≤ looks → now ≡ record turn { value = now.value } → CanTake (cell_in now.value) (step.GiveUp now.pass.number who d)
 can_give_up_then who d f turn now held boot looks h enough same =
-    subst (λ (k : ℕ). CanTake (cell_in now.value) (step.GiveUp k who d)) (sym (ap (λ (t : DomainTurn). t.pass.number) same))
-    (can_give_up turn.pass.number who d f turn.value now.value held boot looks h enough)
+    give_up_then who d turn now (can_give_up turn.pass.number who d f turn.value now.value held boot looks h enough) same
 
 pub may_renewed_then : (who : Who) (d : Call) (f : First) (turn now : DomainTurn) → IsRenewed turn.pass.number who turn.value now.value → now ≡ record turn { value = now.value } → MayLook turn.pass.number who d f turn.value
     → MayLook now.pass.number who d f now.value

@@ -29,7 +29,7 @@ use Rattle.domain_calls.proofs.Entering.{awaits_now, kept_found, kept_turn, may_
 use Rattle.domain_calls.proofs.Going.{after_chapter, after_monitor, closed_share}
 use Rattle.domain_calls.proofs.Placing.{placed_last}
 use Rattle.domain_calls.proofs.Taking.{one_turn}
-use Rattle.domain_cell.specs.Celled.{CellShare, Celled, cell_in, cell_share, chapter_of, monitor_of, standing_in}
+use Rattle.domain_cell.specs.Celled.{CellShare, Celled, KeepsOtherShares, cell_in, cell_share, chapter_of, monitor_of, standing_in}
 use Rattle.domain_cell.specs.Keeping.{no_mark_lowers}
 use Rattle.domain_cell.specs.Meaning.{history_of, meaning}
 use Rattle.domain_runs.specs.Attempting.{Attempts, Tries}
@@ -76,7 +76,7 @@ pub record PassGoes (n : ℕ) (before after : DomainPass) (a new : Celled) (more
   pub saw : after.seen ≡ history_of new
   pub counted : IsCounted (at_base (cell_in new).base)
 
-pass_goes : (before after : DomainPass) (turn now : DomainTurn) (more : List (Mark ℕ)) → IsLeft before after turn now → Changes meaning turn.pass.number more turn.value now.value → PassGoes turn.pass.number before after turn.value now.value more
+pub pass_goes : (before after : DomainPass) (turn now : DomainTurn) (more : List (Mark ℕ)) → IsLeft before after turn now → Changes meaning turn.pass.number more turn.value now.value → PassGoes turn.pass.number before after turn.value now.value more
 pass_goes before after turn now more l change =
     let turned = has_turned meaning before after turn now l.enters l.kept l.left in
     let number : turn.pass.number ≡ before.number = ap (λ (p : DomainPass). p.number) l.enters.pass in
@@ -99,25 +99,30 @@ share_is s t waits a b c d e = λ i. record { waits = a i; call = b i; operation
 cell_is : (s t : CellShare) → s.kept ≡ t.kept → s.monitor ≡ t.monitor → s.chapter ≡ t.chapter → s ≡ t
 cell_is s t a b c = λ i. record { kept = a i; monitor = b i; chapter = c i }
 
-same_but_waits : (s t : Share) (waits : Option Who) → RestStays s t → s.call ≡ None → t.call ≡ None → t.waits ≡ waits → t ≡ record s { waits = waits }
+pub same_but_waits : (s t : Share) (waits : Option Who) → RestStays s t → s.call ≡ None → t.call ≡ None → t.waits ≡ waits → t ≡ record s { waits = waits }
 same_but_waits s t waits rest none none_now is = share_is s t waits is (none_now ∙ sym none) rest.operation rest.registrations rest.ears
 
-cell_waits : (old new : Celled) (n : ℕ) (waits : Option Who) → (share_of (cell_in old) n).call ≡ None → share_of (cell_in new) n ≡ record (share_of (cell_in old) n) { waits = waits } → cell_share new n ≡ waiting_as waits (cell_share old n)
-cell_waits old new n waits none is =
-    let none_now : (share_of (cell_in new) n).call ≡ None = ap (λ (s : Share). s.call) is ∙ none in
-    cell_is (cell_share new n) (waiting_as waits (cell_share old n)) is
+-- where no call of the number is open before and after, the rest of what its cell keeps stays
+pub cell_becomes : (old new : Celled) (n : ℕ) (kept : Share) → (share_of (cell_in old) n).call ≡ None → kept.call ≡ None → share_of (cell_in new) n ≡ kept → cell_share new n ≡ record (cell_share old n) { kept = kept }
+cell_becomes old new n kept none none_kept is =
+    let none_now : (share_of (cell_in new) n).call ≡ None = ap (λ (s : Share). s.call) is ∙ none_kept in
+    cell_is (cell_share new n) (record (cell_share old n) { kept = kept }) is
     (ap (λ (o : Option OpenCall). monitor_of o new.out) none_now ∙ sym (ap (λ (o : Option OpenCall). monitor_of o old.out) none))
     (ap (λ (o : Option OpenCall). chapter_of o new.core.turning.chapter) none_now ∙ sym (ap (λ (o : Option OpenCall). chapter_of o old.core.turning.chapter) none))
 
 -- none of the number was open when it looked
-none_open : (n : ℕ) (who : Who) (before after : DomainPass) (a old new : Celled) (more : List (Mark ℕ)) → PassGoes n before after a new more → IsRenewed n who a old → before.share.kept.call ≡ None → (share_of (cell_in old) n).call ≡ None
+pub none_open : (n : ℕ) (who : Who) (before after : DomainPass) (a old new : Celled) (more : List (Mark ℕ)) → PassGoes n before after a new more → IsRenewed n who a old → before.share.kept.call ≡ None → (share_of (cell_in old) n).call ≡ None
 none_open n who before after a old new more goes renewed none = ap (λ (s : CellShare). s.kept.call) (renewed_share n who a old renewed ∙ sym goes.share_was) ∙ none
 
-pass_waits : (n : ℕ) (who : Who) (before after : DomainPass) (a old new : Celled) (more : List (Mark ℕ)) (waits : Option Who) → PassGoes n before after a new more → IsRenewed n who a old → before.share.kept.call ≡ None
+pub pass_becomes : (n : ℕ) (who : Who) (before after : DomainPass) (a old new : Celled) (more : List (Mark ℕ)) (changed : CellShare → CellShare) → PassGoes n before after a new more → IsRenewed n who a old → cell_share new n ≡ changed (cell_share old n)
+    → after.share ≡ changed before.share
+pass_becomes n who before after a old new more changed goes renewed is = goes.share_is ∙ is ∙ ap changed (renewed_share n who a old renewed ∙ sym goes.share_was)
+
+pub pass_waits : (n : ℕ) (who : Who) (before after : DomainPass) (a old new : Celled) (more : List (Mark ℕ)) (waits : Option Who) → PassGoes n before after a new more → IsRenewed n who a old → before.share.kept.call ≡ None
     → share_of (cell_in new) n ≡ record (share_of (cell_in old) n) { waits = waits } → after.share ≡ waiting_as waits before.share
 pass_waits n who before after a old new more waits goes renewed none is =
-    goes.share_is ∙ cell_waits old new n waits (none_open n who before after a old new more goes renewed none) is
-    ∙ ap (λ (s : CellShare). waiting_as waits s) (renewed_share n who a old renewed ∙ sym goes.share_was)
+    let none_was = none_open n who before after a old new more goes renewed none in
+    pass_becomes n who before after a old new more (λ s. waiting_as waits s) goes renewed (cell_becomes old new n (record (share_of (cell_in old) n) { waits = waits }) none_was none_was is)
 
 -- where the Admit stands
 
@@ -140,8 +145,20 @@ was_let_in n who f before after a old new more left rest admit goes renewed adds
   carries = refl;
 }
 
-goes_by : (c : ℕ) (before after : DomainPass) (more its : List (Mark ℕ)) → Goes 1 (tagged c more) before after → more ≡ its → Goes 1 (tagged c its) before after
+-- the marks of its own, under the number that the pass had
+
+pub goes_by : (c : ℕ) (before after : DomainPass) (more its : List (Mark ℕ)) → Goes 1 (tagged c more) before after → more ≡ its → Goes 1 (tagged c its) before after
 goes_by c before after more its goes is = subst (λ (ms : List (Mark ℕ)). Goes 1 (tagged c ms) before after) is goes
+
+pub goes_with : (n : ℕ) (before after : DomainPass) (a new : Celled) (left : List (Mark ℕ)) (its : ℕ → List (Mark ℕ)) → PassGoes n before after a new (own whose n left) → own whose n left ≡ its n → Goes 1 (tagged new.core.turning.chapter (its before.number)) before after
+goes_with n before after a new left its goes own_are =
+    subst (λ (k : ℕ). Goes 1 (tagged new.core.turning.chapter (its k)) before after) goes.number (goes_by new.core.turning.chapter before after (own whose n left) (its n) goes.goes own_are)
+
+-- where the last of them stands
+pub placed_with : (n : ℕ) (before after : DomainPass) (a old new : Celled) (left xs : List (Mark ℕ)) (its : ℕ → Mark ℕ) (place : Front) → PassGoes n before after a new (own whose n left) → Adds n old new left → own whose n left ≡ xs ++ its n ∷ [] → IsLastPlace place new
+    → IsPlaced place new.core.turning.chapter (its before.number) after
+placed_with n before after a old new left xs its place goes adds own_are at =
+    subst (λ (k : ℕ). IsPlaced place new.core.turning.chapter (its k) after) goes.number (placed_last after n new (cell_in old).marks left xs (its n) place goes.saw adds.marks adds.of_pass own_are at)
 
 -- it is done at once
 
@@ -161,16 +178,12 @@ done_now n who d f before after a old new r place h goes renewed none at =
       asks = done.asks;
       answers = done.answers;
       events = done.events;
-      goes =
-          subst (λ (k : ℕ). Goes 1 (tagged new.core.turning.chapter (mark.Admit k who (job_of d) d boot ∷ mark.Done k who d boot done.asks done.answers r done.events ∷ [])) before after) goes.number
-          (goes_by new.core.turning.chapter before after (own whose n left) (mark.Admit n who (job_of d) d boot ∷ mark.Done n who d boot done.asks done.answers r done.events ∷ []) goes.goes done.own_are);
+      goes = goes_with n before after a new left (λ k. mark.Admit k who (job_of d) d boot ∷ mark.Done k who d boot done.asks done.answers r done.events ∷ []) goes done.own_are;
       none_told = done.none_told;
       share =
           pass_waits n who before after a old new (own whose n left) None goes renewed none
           (same_but_waits (share_of (cell_in old) n) (share_of (cell_in new) n) None keeps.rest (none_open n who before after a old new (own whose n left) goes renewed none) keeps.call keeps.waits);
-      placed =
-          subst (λ (k : ℕ). IsPlaced place new.core.turning.chapter (mark.Done k who d boot done.asks done.answers r done.events) after) goes.number
-          (placed_last after n new (cell_in old).marks left (mark.Admit n who (job_of d) d boot ∷ []) (mark.Done n who d boot done.asks done.answers r done.events) place goes.saw adds.marks adds.of_pass done.own_are at);
+      placed = placed_with n before after a old new left (mark.Admit n who (job_of d) d boot ∷ []) (λ k. mark.Done k who d boot done.asks done.answers r done.events) place goes adds done.own_are at;
       let_in =
           subst (λ (k : ℕ). WasLetIn f new.core.turning.chapter boot (mark.Admit k who (job_of d) d boot) before after) goes.number
           (was_let_in n who f before after a old new (own whose n left) left leaves.rest (admit_of n who d f (cell_in old)) goes renewed adds leaves.first_is);
@@ -193,9 +206,7 @@ away_now n who d f before after a old new t x h goes renewed none =
       chapter = new.core.turning.chapter;
       boot = boot;
       call = its.away;
-      goes =
-          subst (λ (k : ℕ). Goes 1 (tagged new.core.turning.chapter (mark.Admit k who (job_of d) d boot ∷ [])) before after) goes.number
-          (goes_by new.core.turning.chapter before after (own whose n left) (mark.Admit n who (job_of d) d boot ∷ []) goes.goes its.own_are);
+      goes = goes_with n before after a new left (λ k. mark.Admit k who (job_of d) d boot ∷ []) goes its.own_are;
       is_open = there;
       job = its.job_is ∙ ap (λ (k : ℕ). job_let_in k who d boot) goes.number;
       none_told = its.none_told;
@@ -237,7 +248,7 @@ excluded_share n who d f old new held boot looks h none =
 excluded_still : {M : Type 0} (n : ℕ) (who : Who) (d : Call) (f : First) (old new : Celled) (held : JobRecord) (boot : Option ℕ) (looks : ℕ) → LooksIn {M = M} n who d f old new (look.Excluded held boot looks) → history_of new ≡ history_of old
 excluded_still n who d f old new held boot looks h = still_history n old new h.looks.0 (look_adds n who d f old new h.looks.0 h.looks.1 h.others) h.looks.2.0
 
-none_own : (n : ℕ) (left : List (Mark ℕ)) → left ≡ [] → own whose n left ≡ []
+pub none_own : (n : ℕ) (left : List (Mark ℕ)) → left ≡ [] → own whose n left ≡ []
 none_own n left none = ap (λ (ms : List (Mark ℕ)). own whose n ms) none
 
 waits_now : {M : Type 0} (n : ℕ) (who : Who) (d : Call) (f : First) (before after : DomainPass) (a old new : Celled) (held : JobRecord) (boot : Option ℕ) (looks : ℕ) (h : LooksIn {M = M} n who d f old new (look.Excluded held boot looks))
@@ -247,7 +258,7 @@ waits_now n who d f before after a old new held boot looks h goes renewed none =
     let live : live_boot (standing_in new).state ≡ boot = found_boot old new boot h.looks.2.1.boot_is (excluded_still n who d f old new held boot looks h) in
     record {
       fresh = goes.fresh;
-      goes = goes_by new.core.turning.chapter before after (own whose n left) [] goes.goes (none_own n left h.looks.2.0);
+      goes = goes_with n before after a new left (λ k. []) goes (none_own n left h.looks.2.0);
       share =
           pass_waits n who before after a old new (own whose n left) (Some who) goes renewed none
           (excluded_share n who d f old new held boot looks h (none_open n who before after a old new (own whose n left) goes renewed none));
@@ -257,30 +268,26 @@ waits_now n who d f before after a old new held boot looks h goes renewed none =
 
 -- it is refused
 
-refused_now : (n : ℕ) (who : Who) (d : Call) (why : RefusalCode) (jobs : HeldJobs) (before after : DomainPass) (a old new : Celled) (left : List (Mark ℕ)) (place : Front) → PassGoes n before after a new (own whose n left) → IsRenewed n who a old → Adds n old new left
+pub refused_now : (n : ℕ) (who : Who) (d : Call) (why : RefusalCode) (jobs : HeldJobs) (before after : DomainPass) (a old new : Celled) (left : List (Mark ℕ)) (place : Front) → PassGoes n before after a new (own whose n left) → IsRenewed n who a old → Adds n old new left
     → before.share.kept.call ≡ None → share_of (cell_in new) n ≡ record (share_of (cell_in old) n) { waits = None } → own whose n left ≡ mark.Refused n who d why jobs ∷ [] → IsLastPlace place new → IsRefusedNow why jobs who d before after place
 refused_now n who d why jobs before after a old new left place goes renewed adds none share own_are at = record {
   fresh = goes.fresh;
   chapter = new.core.turning.chapter;
-  goes =
-      subst (λ (k : ℕ). Goes 1 (tagged new.core.turning.chapter (mark.Refused k who d why jobs ∷ [])) before after) goes.number
-      (goes_by new.core.turning.chapter before after (own whose n left) (mark.Refused n who d why jobs ∷ []) goes.goes own_are);
+  goes = goes_with n before after a new left (λ k. mark.Refused k who d why jobs ∷ []) goes own_are;
   share = pass_waits n who before after a old new (own whose n left) None goes renewed none share;
-  placed =
-      subst (λ (k : ℕ). IsPlaced place new.core.turning.chapter (mark.Refused k who d why jobs) after) goes.number
-      (placed_last after n new (cell_in old).marks left [] (mark.Refused n who d why jobs) place goes.saw adds.marks adds.of_pass own_are at);
+  placed = placed_with n before after a old new left [] (λ k. mark.Refused k who d why jobs) place goes adds own_are at;
 }
 
 -- which change a turn leaves
 
-goes_of : (who : Who) (before after : DomainPass) (turn now : DomainTurn) (old : Celled) (left : List (Mark ℕ)) → IsLeft before after turn now → IsRenewed turn.pass.number who turn.value old → Adds turn.pass.number old now.value left
+pub goes_of : (who : Who) (before after : DomainPass) (turn now : DomainTurn) (old : Celled) (left : List (Mark ℕ)) → IsLeft before after turn now → IsRenewed turn.pass.number who turn.value old → Adds turn.pass.number old now.value left
     → PassGoes turn.pass.number before after turn.value now.value (own whose turn.pass.number left)
 goes_of who before after turn now old left l renewed adds =
     let n = turn.pass.number in
     pass_goes before after turn now (own whose n left) l (renewed_then n who (own whose n left) turn.value old now.value renewed adds.change adds.chapter)
 
-look_change : (n : ℕ) (who : Who) (d : Call) (f : First) (a old new : Celled) (left : List (Mark ℕ)) → IsRenewed n who a old → Adds n old new left → (more : List (Mark ℕ)) × Changes meaning n more a new
-look_change n who d f a old new left renewed adds = (own whose n left, renewed_then n who (own whose n left) a old new renewed adds.change adds.chapter)
+pub look_change : (n : ℕ) (who : Who) (a old new : Celled) (left : List (Mark ℕ)) → IsRenewed n who a old → Adds n old new left → (more : List (Mark ℕ)) × Changes meaning n more a new
+look_change n who a old new left renewed adds = (own whose n left, renewed_then n who (own whose n left) a old new renewed adds.change adds.chapter)
 
 none_adds : {M : Type 0} (n : ℕ) (who : Who) (d : Call) (f : First) (old new : Celled) (h : LooksIn {M = M} n who d f old new look.NoMemory) → Adds n old new h.looks.0
 none_adds n who d f old new h = look_adds n who d f old new h.looks.0 h.looks.1 h.others
@@ -291,24 +298,28 @@ full_leaves n who d f old new waiting h =
     let leaves = looks_leave old.core.turning new.core.turning n who d f (looked.WaitersFull waiting) h.looks in
     (leaves.0, look_adds n who d f old new leaves.0 leaves.1 h.others, leaves.2)
 
-given_up_leaves : {M : Type 0} (n : ℕ) (who : Who) (d : Call) (f : First) (old mid new : Celled) (held : JobRecord) (boot : Option ℕ) (looks : ℕ) → LooksIn {M = M} n who d f old mid (look.Excluded held boot looks) → GivesUp n who d mid new
+pub given_up_after : (n : ℕ) (who : Who) (d : Call) (old mid new : Celled) → history_of mid ≡ history_of old → KeepsOtherShares n old mid → GivesUp n who d mid new
     → (left : List (Mark ℕ)) × Adds n old new left × (own whose n left ≡ mark.Refused n who d code.OperationTimeout (jobs_in (cell_in mid)) ∷ [])
-given_up_leaves n who d f old mid new held boot looks h g =
+given_up_after n who d old mid new same keeps g =
     let left = g.given_up.0 in (
       left,
-      gave_up_adds n who d old mid new left (excluded_still n who d f old mid held boot looks h) h.others g.given_up.1 g.others,
+      gave_up_adds n who d old mid new left same keeps g.given_up.1 g.others,
       refusals_are_own (cell_in mid) (step.GiveUp n who d) n who d code.OperationTimeout left g.given_up.1.turn g.given_up.2,
     )
 
+given_up_leaves : {M : Type 0} (n : ℕ) (who : Who) (d : Call) (f : First) (old mid new : Celled) (held : JobRecord) (boot : Option ℕ) (looks : ℕ) → LooksIn {M = M} n who d f old mid (look.Excluded held boot looks) → GivesUp n who d mid new
+    → (left : List (Mark ℕ)) × Adds n old new left × (own whose n left ≡ mark.Refused n who d code.OperationTimeout (jobs_in (cell_in mid)) ∷ [])
+given_up_leaves n who d f old mid new held boot looks h g = given_up_after n who d old mid new (excluded_still n who d f old mid held boot looks h) h.others g
+
 attempts_change : {M : Type 0} (n : ℕ) (who : Who) (d : Call) (f : First) (turns : ℕ) (a old new : Celled) (r : Attempt M) → IsRenewed n who a old → Attempts n who d f turns old new r → (more : List (Mark ℕ)) × Changes meaning n more a new
-attempts_change n who d f turns a old new (attempt.Done r) renewed h = look_change n who d f a old new h.looks.0 renewed (look_adds n who d f old new h.looks.0 h.looks.1 h.others)
-attempts_change n who d f turns a old new (attempt.Away t x) renewed h = look_change n who d f a old new h.looks.0 renewed (look_adds n who d f old new h.looks.0 h.looks.1 h.others)
-attempts_change n who d f turns a old new (attempt.Waits boot) renewed (held, looks, h) = look_change n who d f a old new h.looks.0 renewed (look_adds n who d f old new h.looks.0 h.looks.1 h.others)
+attempts_change n who d f turns a old new (attempt.Done r) renewed h = look_change n who a old new h.looks.0 renewed (look_adds n who d f old new h.looks.0 h.looks.1 h.others)
+attempts_change n who d f turns a old new (attempt.Away t x) renewed h = look_change n who a old new h.looks.0 renewed (look_adds n who d f old new h.looks.0 h.looks.1 h.others)
+attempts_change n who d f turns a old new (attempt.Waits boot) renewed (held, looks, h) = look_change n who a old new h.looks.0 renewed (look_adds n who d f old new h.looks.0 h.looks.1 h.others)
 attempts_change n who d f turns a old new (attempt.GaveUp held) renewed (mid, boot, looks, h, g, is_late) =
-    let leaves = given_up_leaves n who d f old mid new held boot looks h g in look_change n who d f a old new leaves.0 renewed leaves.1
+    let leaves = given_up_leaves n who d f old mid new held boot looks h g in look_change n who a old new leaves.0 renewed leaves.1
 attempts_change n who d f turns a old new attempt.WaitersFull renewed (waiting, h) =
-    let leaves = full_leaves n who d f old new waiting h in look_change n who d f a old new leaves.0 renewed leaves.1
-attempts_change n who d f turns a old new attempt.NoMemory renewed h = look_change n who d f a old new h.looks.0 renewed (none_adds n who d f old new h)
+    let leaves = full_leaves n who d f old new waiting h in look_change n who a old new leaves.0 renewed leaves.1
+attempts_change n who d f turns a old new attempt.NoMemory renewed h = look_change n who a old new h.looks.0 renewed (none_adds n who d f old new h)
 
 pub tries_change : {M : Type 0} (n : ℕ) (who : Who) (d : Call) (f : First) (turns : ℕ) (a new : Celled) (r : Attempt M) → Tries n who d f turns a new r → (more : List (Mark ℕ)) × Changes meaning n more a new
 tries_change n who d f turns a new (attempt.Done r) (old, renewed, h) = attempts_change n who d f turns a old new (attempt.Done r) renewed h
@@ -327,14 +338,14 @@ none_now n who d f before after a old new h goes renewed none =
     let keeps = looks_keep old.core.turning new.core.turning n who d f looked.NoMemory h.looks in
     record {
       fresh = goes.fresh;
-      goes = goes_by new.core.turning.chapter before after (own whose n h.looks.0) [] goes.goes (none_own n h.looks.0 h.looks.2);
+      goes = goes_with n before after a new h.looks.0 (λ k. []) goes (none_own n h.looks.0 h.looks.2);
       share =
           pass_waits n who before after a old new (own whose n h.looks.0) None goes renewed none
           (same_but_waits (share_of (cell_in old) n) (share_of (cell_in new) n) None keeps.rest (none_open n who before after a old new (own whose n h.looks.0) goes renewed none) keeps.call (queues_tell (cell_in old) (cell_in new) n who looked.NoMemory h.queue));
     }
 
 -- there was no memory for the next chapter
-not_renewed_now : (who : Who) (before after : DomainPass) (turn now : DomainTurn) → IsLeft before after turn now → IsNotRenewed turn.pass.number who turn.value now.value → IsLeftNow before after
+pub not_renewed_now : (who : Who) (before after : DomainPass) (turn now : DomainTurn) → IsLeft before after turn now → IsNotRenewed turn.pass.number who turn.value now.value → IsLeftNow before after
 not_renewed_now who before after turn now l h =
     let n = turn.pass.number in
     let goes = pass_goes before after turn now [] l (not_renewed_changes n who turn.value now.value h) in
@@ -350,11 +361,14 @@ full_share n who d f old new waiting h none =
     let keeps = looks_keep old.core.turning new.core.turning n who d f (looked.WaitersFull waiting) h.looks in
     same_but_waits (share_of (cell_in old) n) (share_of (cell_in new) n) None keeps.rest none keeps.call keeps.waits
 
+pub given_up_waits : (n : ℕ) (who : Who) (d : Call) (old mid new : Celled) → share_of (cell_in mid) n ≡ record (share_of (cell_in old) n) { waits = Some who } → GivesUp n who d mid new
+    → share_of (cell_in new) n ≡ record (share_of (cell_in old) n) { waits = None }
+given_up_waits n who d old mid new waited g =
+    refusals_keep mid.core.turning new.core.turning n who d code.OperationTimeout g.given_up ∙ ap (λ (s : Share). record s { waits = None }) waited
+
 given_up_share : {M : Type 0} (n : ℕ) (who : Who) (d : Call) (f : First) (old mid new : Celled) (held : JobRecord) (boot : Option ℕ) (looks : ℕ) → LooksIn {M = M} n who d f old mid (look.Excluded held boot looks) → GivesUp n who d mid new
     → (share_of (cell_in old) n).call ≡ None → share_of (cell_in new) n ≡ record (share_of (cell_in old) n) { waits = None }
-given_up_share n who d f old mid new held boot looks h g none =
-    refusals_keep mid.core.turning new.core.turning n who d code.OperationTimeout g.given_up
-    ∙ ap (λ (s : Share). record s { waits = None }) (excluded_share n who d f old mid held boot looks h none)
+given_up_share n who d f old mid new held boot looks h g none = given_up_waits n who d old mid new (excluded_share n who d f old mid held boot looks h none) g
 
 attempted : {M : Type 0} (who : Who) (d : Call) (f : First) (turns : ℕ) (before after : DomainPass) (turn now : DomainTurn) (place : Front) (old : Celled) (r : Attempt M) → IsLeft before after turn now → IsRenewed turn.pass.number who turn.value old
     → Attempts turn.pass.number who d f turns old now.value r → before.share.kept.call ≡ None → IsLastPlace place now.value → HasTried who d f turns before after place r
@@ -403,14 +417,16 @@ tried who d f turns before after turn now place attempt.NoMemory l (inr (old, re
 
 -- from the calls of a turn
 
+-- a pass that has nothing open has nothing open in its turn
+pub free_found : (who : Who) (before : DomainPass) (turn : DomainTurn) → Enters meaning before turn → (before.spent ≡ false → IsFree before.share.kept who) → IsFree (share_of (cell_in turn.value) turn.pass.number) who
+free_found who before turn enters free = subst (λ (s : Share). IsFree s who) (kept_found before turn enters) (free enters.fresh)
+
 pub may_enter : (who : Who) (d : Call) (f : First) (before : DomainPass) (turn : DomainTurn) → Enters meaning before turn → IsReadyToLook who d f before → MayLook turn.pass.number who d f turn.value
-may_enter who d f before turn enters ready =
-    let same : before.share.kept ≡ share_of (cell_in turn.value) turn.pass.number = kept_found before turn enters in
-    record {
-      free = subst (λ (s : Share). IsFree s who) same (ready.free enters.fresh);
-      keeps = subst (λ (s : Share). KeepsFirst s who d f) same (ready.keeps enters.fresh);
-      known = knows_on f before.seen (history_of turn.value) (subst (λ (v : Celled). Begins rising_number before.seen (history_of v)) (sym enters.value) enters.seen) ready.known;
-    }
+may_enter who d f before turn enters ready = record {
+  free = free_found who before turn enters ready.free;
+  keeps = subst (λ (s : Share). KeepsFirst s who d f) (kept_found before turn enters) (ready.keeps enters.fresh);
+  known = knows_on f before.seen (history_of turn.value) (subst (λ (v : Celled). Begins rising_number before.seen (history_of v)) (sym enters.value) enters.seen) ready.known;
+}
 
 pub chapter_below : (before : DomainPass) (turn : DomainTurn) → Enters meaning before turn → turn.value.core.turning.chapter < 2 ^ 62
 chapter_below before turn enters =
@@ -419,27 +435,34 @@ chapter_below before turn enters =
     let same : turn.value.core.turning.chapter ≡ turn.entry.core.turning.chapter = ap (λ (v : Celled). v.core.turning.chapter) enters.value in
     omega (arith, low, high, same)
 
+-- a turn may be left after a change, and a few reads of it
+pub change_leaves : (before : DomainPass) (turn mid now : DomainTurn) (more : List (Mark ℕ)) → Enters meaning before turn → Changes meaning turn.pass.number more turn.value mid.value → mid ≡ record turn { value = mid.value } → now ≡ mid
+    → Changes meaning now.pass.number more now.entry now.value
+change_leaves before turn mid now more enters change same told =
+    may_leave before turn now more enters (kept_turn turn mid now same told)
+    (subst (λ (v : Celled). Changes meaning turn.pass.number more turn.value v) (sym (ap (λ (t : DomainTurn). t.value) told)) change)
+
+pub is_left : (before after : DomainPass) (turn mid now : DomainTurn) → Enters meaning before turn → mid ≡ record turn { value = mid.value } → now ≡ mid → IsLegalHistory (history_of mid.value) → IsCounted (at_base (cell_in mid.value).base) → after ≡ left_by meaning now
+    → IsLeft before after turn now
+is_left before after turn mid now enters same told legal counted left =
+    let value : mid.value ≡ now.value = ap (λ (t : DomainTurn). t.value) (sym told) in
+    record {
+      enters = enters;
+      kept = kept_turn turn mid now same told;
+      legal = subst (λ (v : Celled). IsLegalHistory (history_of v)) value legal;
+      counted = subst (λ (v : Celled). IsCounted (at_base (cell_in v).base)) value counted;
+      left = left;
+    }
+
 pub tried_leaves : {M : Type 0} (who : Who) (d : Call) (f : First) (turns : ℕ) (before : DomainPass) (turn mid now : DomainTurn) (r : Attempt M) → Enters meaning before turn → Tries turn.pass.number who d f turns turn.value mid.value r
     → mid ≡ record turn { value = mid.value } → now ≡ mid → (more : List (Mark ℕ)) × Changes meaning now.pass.number more now.entry now.value
 tried_leaves who d f turns before turn mid now r enters tries same told =
-    let value : now.value ≡ mid.value = ap (λ (t : DomainTurn). t.value) told in
-    let n = turn.pass.number in
-    let change = tries_change n who d f turns turn.value mid.value r tries in (
-      change.0,
-      may_leave before turn now change.0 enters (kept_turn turn mid now same told) (subst (λ (v : Celled). Changes meaning n change.0 turn.value v) (sym value) change.1),
-    )
+    let change = tries_change turn.pass.number who d f turns turn.value mid.value r tries in (change.0, change_leaves before turn mid now change.0 enters change.1 same told)
 
 pub tried_once : {M : Type 0} (who : Who) (d : Call) (f : First) (turns : ℕ) (before after : DomainPass) (turn mid now : DomainTurn) (place : Front) (r : Attempt M) → Enters meaning before turn → IsReadyToLook who d f before
     → Tries turn.pass.number who d f turns turn.value mid.value r → mid ≡ record turn { value = mid.value } → now ≡ mid → IsLastPlace place mid.value → IsLegalHistory (history_of mid.value) → IsCounted (at_base (cell_in mid.value).base)
     → after ≡ left_by meaning now → HasTried who d f turns before after place r
 tried_once who d f turns before after turn mid now place r enters ready tries same told at legal counted left =
     let value : mid.value ≡ now.value = ap (λ (t : DomainTurn). t.value) (sym told) in
-    tried who d f turns before after turn now place r
-    (record {
-      enters = enters;
-      kept = kept_turn turn mid now same told;
-      legal = subst (λ (v : Celled). IsLegalHistory (history_of v)) value legal;
-      counted = subst (λ (v : Celled). IsCounted (at_base (cell_in v).base)) value counted;
-      left = left;
-    })
+    tried who d f turns before after turn now place r (is_left before after turn mid now enters same told legal counted left)
     (subst (λ (v : Celled). Tries turn.pass.number who d f turns turn.value v r) value tries) (ready.free enters.fresh).no_call (subst (λ (v : Celled). IsLastPlace place v) value at)

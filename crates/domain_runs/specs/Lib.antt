@@ -1,5 +1,11 @@
 pub mod Attempting
 pub mod Called
 pub mod Ending
+pub mod Entered
+pub mod Entering
+pub mod Going
 pub mod Looking
+pub mod Operated
+pub mod Phases
+pub mod Phasing
 pub mod Turned
