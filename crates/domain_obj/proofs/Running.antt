@@ -17,6 +17,9 @@ use Rattle.domain_obj.specs.declared.place.At.{At}
 use Rattle.domain_runs.specs.Called.{HasCalled}
 use Rattle.domain_runs.specs.declared.ending.Called.{Called}
 use Rattle.domain_runs.specs.declared.ending.Called.TheVariants as called
+use Rattle.domain_runs.specs.Operated.{HasOperated}
+use Rattle.domain_runs.specs.declared.operating.operation.Operated.{Operated}
+use Rattle.domain_runs.specs.declared.operating.operation.Operated.TheVariants as operated
 
 -- a pass whose share is what it was, and that went some turns
 
@@ -60,6 +63,28 @@ cell_then who d before after report now (called.WaitersFull r place) h = same_ce
 cell_then who d before after report now called.NoMemory h = same_cell h.turns [] before after h.goes
 cell_then who d before after report now called.Spent h = spent_cell h.turns [] before h.last after h.goes h.spent
 cell_then who d before after report now called.SpentAway h = spent_cell h.turns _ before h.last after h.goes h.spent
+
+-- the same of a call that begins an operation or takes one up
+
+pub operated_ready : (who : Who) (d : Call) (before after : DomainPass) (report now : List (Ask × Answer)) (c : Operated) → HasOperated who d before after report now c → IsReady before → IsReady after
+operated_ready who d before after report now (operated.Ended r place) h ready = ready_stays h.turns _ before after h.goes h.share ready
+operated_ready who d before after report now (operated.Rests r place) h ready = ready_stays h.turns _ before after h.goes h.share ready
+operated_ready who d before after report now (operated.Refused r place) h ready = ready_stays h.turns _ before after h.goes h.share ready
+operated_ready who d before after report now (operated.TimedOut r place) h ready = ready_stays h.refused.turns _ before after h.refused.goes h.refused.share ready
+operated_ready who d before after report now (operated.WaitersFull r place) h ready = ready_stays h.turns _ before after h.goes h.share ready
+operated_ready who d before after report now operated.NoMemory h ready = ready_stays h.turns [] before after h.goes h.share ready
+operated_ready who d before after report now operated.Spent h ready = spent_ready h.last after h.spent
+operated_ready who d before after report now operated.SpentAmid h ready = spent_ready h.last after h.spent
+
+pub operated_cell : (who : Who) (d : Call) (before after : DomainPass) (report now : List (Ask × Answer)) (c : Operated) → HasOperated who d before after report now c → after.cell ≡ before.cell
+operated_cell who d before after report now (operated.Ended r place) h = same_cell h.turns _ before after h.goes
+operated_cell who d before after report now (operated.Rests r place) h = same_cell h.turns _ before after h.goes
+operated_cell who d before after report now (operated.Refused r place) h = same_cell h.turns _ before after h.goes
+operated_cell who d before after report now (operated.TimedOut r place) h = same_cell h.refused.turns _ before after h.refused.goes
+operated_cell who d before after report now (operated.WaitersFull r place) h = same_cell h.turns _ before after h.goes
+operated_cell who d before after report now operated.NoMemory h = same_cell h.turns [] before after h.goes
+operated_cell who d before after report now operated.Spent h = spent_cell h.turns [] before h.last after h.goes h.spent
+operated_cell who d before after report now operated.SpentAmid h = spent_cell h.turns _ before h.last after h.goes h.spent
 
 -- what it has seen
 

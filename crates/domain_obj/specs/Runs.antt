@@ -6,10 +6,12 @@ use Rattle.domain_calls.specs.InTurn.{DomainPass}
 use Rattle.domain_hearing.specs.Hearing.{HasHushed, HasLeft}
 use Rattle.domain_hearing.specs.declared.ends.Hushed.{Hushed}
 use Rattle.domain_obj.specs.Places.{IsAt}
-use Rattle.domain_obj.specs.Replies.{TellsCalled, called_at}
+use Rattle.domain_obj.specs.Replies.{TellsCalled, TellsOperated, called_at, operated_at}
 use Rattle.domain_obj.specs.declared.place.At.{At}
 use Rattle.domain_runs.specs.Called.{HasCalled}
+use Rattle.domain_runs.specs.Operated.{HasOperated}
 use Rattle.domain_runs.specs.declared.ending.Called.{Called}
+use Rattle.domain_runs.specs.declared.operating.operation.Operated.{Operated}
 
 module _ {E : Type 0} (ends faults : E → ℕ) (unheard : E → Option (List GuestEvent)) where
   -- the call came to this; then the pass heard the guest; its caller is told what came of it, and where
@@ -22,3 +24,14 @@ module _ {E : Type 0} (ends faults : E → ℕ) (unheard : E → Option (List Gu
     pub leaves : HasLeft last after hushed
     pub tells : TellsCalled called said
     pub is_at : IsAt (called_at called) after at
+
+  -- the same of a call that begins an operation or takes one up
+  pub record HasRunOperation (who : Who) (d : Call) (before after : DomainPass) (report now : List (Ask × Answer)) (said : Reply) (at : At) : Type 0 where
+    pub last : DomainPass
+    pub operated : Operated
+    pub hushed : Hushed
+    pub operates : HasOperated who d before last report now operated
+    pub hears : HasHushed ends faults unheard last after hushed
+    pub leaves : HasLeft last after hushed
+    pub tells : TellsOperated operated said
+    pub is_at : IsAt (operated_at operated) after at

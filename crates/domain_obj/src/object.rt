@@ -5,18 +5,19 @@ ghost use Rattle.domain_cell.specs.Meaning.{meaning};
 ghost use Rattle.domain_calls.specs.Running.{HasQueried};
 ghost use Rattle.domain_calls.specs.Running.{IsReady};
 ghost use Rattle.domain_hearing.specs.Hearing.{HasHushed, HasLeft};
-ghost use Rattle.domain_obj.specs.Runs.{HasRun};
+ghost use Rattle.domain_obj.specs.Runs.{HasRun, HasRunOperation};
+ghost use Rattle.domain_runs.specs.Entering.{Operates};
 ghost use Rattle.domain_spec.specs.Call.{begins, takes_up};
 ghost use Rattle.history_spec.specs.Chapter.{GoesOn, added};
 ghost use Rattle.history_spec.specs.Pass.{AreOf};
 ghost use Rattle.turn_cell.specs.Passes.{Closes, Enters, IsCutOff, IsFirst, SameShare, joined, left_by, turns_of_all};
 
 use crate::place::{At, place_at, seen_by};
-use crate::replies::told_of_call;
+use crate::replies::{told_of_call, told_of_operation};
 use domain_calls::{Desk, DomainPass, DomainTurn, Queried, query};
 use domain_cell::DomainCell;
 use domain_hearing::{Hushed, hear};
-use domain_runs::run_call;
+use domain_runs::{run_call, run_operation};
 use monitor_link::{Ears, Killer, Monitor};
 use std::alloc::Global;
 use std::marker::Model;
@@ -87,6 +88,32 @@ impl<M: Monitor + Drop, E: Ears + Drop, Z: Killer + Drop> DomainObj<M, E, Z> {
         let (pass, called) = run_call(rt, &self.cell, alloc, pass, who, call, desk);
         let (pass, hushed) = hear(rt, &self.cell, alloc, pass);
         let (reply, place) = told_of_call(alloc, called);
+        (pass, reply, place_at(place, seen_by(hushed)))
+    }
+
+    /// A call over the domain that begins an operation or takes one up. Where its job is excluded it waits, and is refused
+    /// after thirty looks (68), or at once where 32 others wait (203). Once it is let in its operation goes on phase after
+    /// phase, until it ends or rests; a phase that is excluded waits without a limit. The desk is asked while the pass has
+    /// no turn. Then the pass hears the guest. Without a ticket the call is refused with 211, and the pass that comes back
+    /// is spent: where the operation was let in it stays open. Without memory before that it is refused with 2, and nothing
+    /// is left of it.
+    pub fn run_op<D: Desk<M, E, Z>, R: Wait>(
+        &self,
+        rt: &R,
+        alloc: Global,
+        pass: DomainPass<M, E, Z>,
+        who: Who,
+        call: &Call,
+        desk: &mut D,
+    ) -> (DomainPass<M, E, Z>, Reply, At)
+        requires own { pass.cell ≡ self.now }
+        requires ready { IsReady pass }
+        requires operates { Operates call.now }
+        ensures { HasRunOperation E.ends E.faults E.unheard who call.now pass result.0 (D.report desk.old) (D.report desk.new) result.1 result.2 }
+    {
+        let (pass, operated) = run_operation(rt, &self.cell, alloc, pass, who, call, desk);
+        let (pass, hushed) = hear(rt, &self.cell, alloc, pass);
+        let (reply, place) = told_of_operation(alloc, operated);
         (pass, reply, place_at(place, seen_by(hushed)))
     }
 

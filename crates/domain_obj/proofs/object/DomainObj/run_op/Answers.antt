@@ -1,0 +1,27 @@
+use Rattle.std.proofs.Common.{sym, ◌∙◌}
+use Rattle.domain_obj.specs.Replies.{operated_at}
+use Rattle.domain_obj.proofs.Running.{at_then, operated_cell, operated_ready}
+use Rattle.domain_obj.proofs.object.DomainObj.run_op.Goals as goal
+
+pub hear-pass-requires-clause-own : goal.hear-pass-requires-clause-own
+hear-pass-requires-clause-own g c =
+    let a = c.args in
+    operated_cell a.who a.call.now a.pass c.run_operation-pass.result.0 (g.D.Desk.report a.desk.now) (g.D.Desk.report c.run_operation-pass.new.desk) c.run_operation-pass.result.1 c.run_operation-pass.ensures ∙ c.requires.own ∙ sym c.self.view_is
+
+pub hear-pass-requires-clause-ready : goal.hear-pass-requires-clause-ready
+hear-pass-requires-clause-ready g c =
+    let a = c.args in
+    operated_ready a.who a.call.now a.pass c.run_operation-pass.result.0 (g.D.Desk.report a.desk.now) (g.D.Desk.report c.run_operation-pass.new.desk) c.run_operation-pass.result.1 c.run_operation-pass.ensures c.requires.ready
+
+pub returns : goal.returns
+returns g c = record {
+  last = c.run_operation-pass.result.0;
+  operated = c.run_operation-pass.result.1;
+  hushed = c.hear-pass.result.1;
+  operates = c.run_operation-pass.ensures;
+  hears = c.hear-pass.ensures.heard;
+  leaves = c.hear-pass.ensures.leaves;
+  tells = c.told_of_operation-reply.ensures.reply;
+  is_at = at_then g.E.Ears.ends g.E.Ears.faults g.E.Ears.unheard c.run_operation-pass.result.0 c.hear-pass.result.0 c.hear-pass.result.1 (operated_at c.run_operation-pass.result.1) c.told_of_operation-reply.result.1 c.seen_by.result c.place_at.result c.hear-pass.ensures.heard
+      c.told_of_operation-reply.ensures.place c.seen_by.ensures c.place_at.ensures.place c.place_at.ensures.seen;
+}
