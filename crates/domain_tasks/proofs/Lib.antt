@@ -1,0 +1,6 @@
+pub mod Marks
+pub mod Following
+pub mod Stopping
+pub mod Coming
+pub mod Answering
+pub mod Tasking

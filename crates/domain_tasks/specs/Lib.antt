@@ -1,0 +1,4 @@
+pub mod Passes
+pub mod Telling
+pub mod Serving
+pub mod Tasked

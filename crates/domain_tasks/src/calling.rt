@@ -1,0 +1,91 @@
+// A call of a domain.
+ghost use Rattle.std.specs.Prelude.{◌≡◌, ◌⊎◌, None, is_some, false, true};
+ghost use Rattle.domain_calls.specs.Running.{IsReady};
+ghost use Rattle.domain_runs.specs.Entering.{Operates};
+ghost use Rattle.domain_spec.specs.Call.{begins, takes_up};
+ghost use Rattle.domain_tasks.specs.Serving.{HasCalled, HasDone};
+
+use domain_calls::{Desk, DomainPass, Seen};
+use domain_history::takes_up;
+use domain_obj::{At, DomainObj};
+use monitor_link::{Ears, Killer, Monitor};
+use std::alloc::Global;
+use std::sync::Wait;
+use virt_types::{Call, Front, Reply, Who};
+
+// Whether a call begins an operation.
+fn begins(call: &Call) -> bool
+    ensures { result ≡ is_some (begins call.now) }
+{
+    match call {
+        Call::Start => true,
+        Call::Create(_) => true,
+        Call::Restore { .. } => true,
+        Call::Save(_) => true,
+        Call::Dump(_) => true,
+        Call::Snapshot(_) => true,
+        Call::Revert(_) => true,
+        Call::Perform => true,
+        Call::Prepare { .. } => true,
+        _ => false,
+    }
+}
+
+// Whether a call begins an operation, or takes one up.
+fn operates(call: &Call) -> bool
+    ensures some { result ≡ true → Operates call.now }
+    ensures begins_none { result ≡ false → begins call.now ≡ None }
+    ensures takes_none { result ≡ false → takes_up call.now ≡ None }
+{
+    if begins(call) {
+        return true;
+    }
+    match takes_up(call) {
+        Some(_) => true,
+        None => false,
+    }
+}
+
+// The call is run; one that begins an operation or takes one up, with its phases.
+fn run_either<M: Monitor + Drop, E: Ears + Drop, Z: Killer + Drop, D: Desk<M, E, Z>, R: Wait>(
+    rt: &R,
+    alloc: Global,
+    domain: &DomainObj<M, E, Z>,
+    pass: DomainPass<M, E, Z>,
+    who: Who,
+    call: &Call,
+    desk: &mut D,
+) -> (DomainPass<M, E, Z>, Reply, At)
+    requires own { pass.cell ≡ domain.now }
+    requires ready { IsReady pass }
+    ensures { HasDone E.ends E.faults E.unheard who call.now pass result.0 (D.report desk.old) (D.report desk.new) result.1 result.2 }
+{
+    if operates(call) {
+        domain.run_op(rt, alloc, pass, who, call, desk)
+    } else {
+        domain.run(rt, alloc, pass, who, call, desk)
+    }
+}
+
+/// A call is run, and then the pass hears the guest. With what is said of it, the place of its last mark, and what the pass
+/// has seen.
+pub fn run<M: Monitor + Drop, E: Ears + Drop, Z: Killer + Drop, D: Desk<M, E, Z>, R: Wait>(
+    rt: &R,
+    alloc: Global,
+    domain: &DomainObj<M, E, Z>,
+    pass: DomainPass<M, E, Z>,
+    who: Who,
+    call: &Call,
+    desk: &mut D,
+) -> (DomainPass<M, E, Z>, Reply, Option<Front>, Seen)
+    requires own { pass.cell ≡ domain.now }
+    requires ready { IsReady pass }
+    ensures { HasCalled E.ends E.faults E.unheard who call.now pass result.0 (D.report desk.old) (D.report desk.new) result.1 result.2 result.3 }
+{
+    let (pass, said, at) = run_either(rt, alloc, domain, pass, who, call, desk);
+    let seen = Seen {
+        front: at.seen,
+        occupied: at.occupied,
+    };
+    (pass, said, Some(at.place), seen)
+}

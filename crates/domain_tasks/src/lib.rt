@@ -1,0 +1,10 @@
+//! What a request does with one domain once its pass is at hand: a query is read, or a call run, and its caller is told
+//! what came of it.
+#![tactic(auto)]
+
+mod calling;
+mod reading;
+mod tasks;
+mod telling;
+
+pub use tasks::{Tasked, run_task};

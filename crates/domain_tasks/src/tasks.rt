@@ -1,0 +1,75 @@
+// What a request does with one domain.
+ghost use Rattle.std.specs.Prelude.{◌≡◌};
+ghost use Rattle.domain_calls.specs.Running.{IsReady};
+ghost use Rattle.domain_tasks.specs.Serving.{HasServed};
+ghost use Rattle.domain_tasks.specs.Tasked.{HasTasked};
+
+use crate::calling::run;
+use crate::reading::{UNSEEN, read};
+use crate::telling::{not_built, tell};
+use domain_calls::{Desk, DomainPass, Seen};
+use domain_obj::DomainObj;
+use domain_requests::Task;
+use monitor_link::{Ears, Killer, Monitor};
+use std::alloc::Global;
+use std::sync::Wait;
+use virt_types::{Front, Reply, Who};
+
+/// What came of a task.
+#[derive(Drop)]
+pub struct Tasked {
+    /// What its caller is told.
+    pub reply: Reply,
+    /// The place that the reply rests on: that of the call's last mark, or how far the history went where a query was read.
+    /// Where there was no ticket for a query, or nothing was asked of the domain, the reply rests on none.
+    pub place: Option<Front>,
+    /// What the pass has seen of the domain, where something was asked of it. It speaks of a pass for which tickets are
+    /// left.
+    pub seen: Seen,
+}
+
+// What the domain says of a task, the place that this rests on, and what the pass has seen.
+fn serve<M: Monitor + Drop, E: Ears + Drop, Z: Killer + Drop, D: Desk<M, E, Z>, R: Wait>(
+    rt: &R,
+    alloc: Global,
+    domain: &DomainObj<M, E, Z>,
+    pass: DomainPass<M, E, Z>,
+    who: Who,
+    task: &Task,
+    desk: &mut D,
+) -> (DomainPass<M, E, Z>, Reply, Option<Front>, Seen)
+    requires own { pass.cell ≡ domain.now }
+    requires ready { IsReady pass }
+    ensures { HasServed E.ends E.faults E.unheard who task.now pass result.0 (D.report desk.old) (D.report desk.new) result.1 result.2 result.3 }
+{
+    match task {
+        Task::Read(query) => read(rt, alloc, domain, pass, query, desk),
+        Task::Run(call) => run(rt, alloc, domain, pass, who, call, desk),
+        Task::Register => (pass, not_built(alloc), None, UNSEEN),
+        Task::Deregister => (pass, not_built(alloc), None, UNSEEN),
+    }
+}
+
+/// A query is read in a turn of the pass. A call is run: one that begins an operation or takes one up, with its phases; and
+/// then the pass hears the guest. Registrations are not built yet: they are refused (206), and nothing is done.
+pub fn run_task<M: Monitor + Drop, E: Ears + Drop, Z: Killer + Drop, D: Desk<M, E, Z>, R: Wait>(
+    rt: &R,
+    alloc: Global,
+    domain: &DomainObj<M, E, Z>,
+    pass: DomainPass<M, E, Z>,
+    who: Who,
+    task: &Task,
+    desk: &mut D,
+) -> (DomainPass<M, E, Z>, Tasked)
+    requires own { pass.cell ≡ domain.now }
+    requires ready { IsReady pass }
+    ensures { HasTasked E.ends E.faults E.unheard who task.now pass result.0 (D.report desk.old) (D.report desk.new) result.1.reply result.1.place result.1.seen }
+{
+    let (pass, said, place, seen) = serve(rt, alloc, domain, pass, who, task, desk);
+    let tasked = Tasked {
+        reply: tell(alloc, said),
+        place,
+        seen,
+    };
+    (pass, tasked)
+}
