@@ -10,6 +10,8 @@ mod handed;
 mod laws;
 mod maker;
 mod report;
+#[cfg(test)]
+mod tests;
 
 pub use desk::RowDesk;
 pub use handed::Handed;
