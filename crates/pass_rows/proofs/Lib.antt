@@ -1,0 +1,9 @@
+pub mod Lists
+pub mod Cuts
+pub mod Slots
+pub mod Idle
+pub mod Splits
+pub mod Gluing
+pub mod Together
+pub mod Gathering
+pub mod Cells

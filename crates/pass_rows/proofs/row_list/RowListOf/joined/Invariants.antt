@@ -1,0 +1,9 @@
+use Rattle.std.proofs.Common.{vec_len}
+use Rattle.pass_rows.proofs.Together.{Going}
+use Rattle.pass_rows.proofs.row_list.RowListOf.joined.Given as goal
+
+abbrev pub decreases-loop-row : goal.decreases-loop-row
+decreases-loop-row g l = vec_len l.rows
+
+abbrev pub invariant-loop-row : goal.invariant-loop-row
+invariant-loop-row g l = Going g.L.Kept.meaning g.S.Kept.meaning g.D.Kept.meaning l.list l.store l.domains l.fn.self.list l.rows.items l.all

@@ -1,0 +1,7 @@
+pub mod Resting
+pub mod Cutting
+pub mod Others
+pub mod Rows
+pub mod Six
+pub mod Joining
+pub mod Closing
