@@ -185,7 +185,7 @@ enum Said {
     Other,
 }
 
-fn as_said(answer: &Answer, is_linked: bool) -> Said {
+fn said(answer: &Answer, is_linked: bool) -> Said {
     match answer {
         Answer::Ok(AnswerValue::Front(front)) => Said::Front(front.chapter, front.marks),
         Answer::Ok(AnswerValue::Nothing) if is_linked => Said::Made,
@@ -219,7 +219,7 @@ fn said_to_each<R: Wait, P: Handed>(
     let mut is_whole = true;
     for asked in asks {
         let (answer, link) = desk.answer(monitor, asked);
-        is_whole = all.push(as_said(&answer, link.is_some())).is_ok() && is_whole;
+        is_whole = all.push(said(&answer, link.is_some())).is_ok() && is_whole;
     }
     let (guests, pass) = desk.into_parts();
     drop(guests);
