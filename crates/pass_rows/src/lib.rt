@@ -1,6 +1,7 @@
 //! Rows of passes, one of each cell, by which activities take turns at all of them.
 #![tactic(auto)]
 
+mod cell;
 mod cutting;
 mod joining;
 mod laws;
@@ -10,7 +11,12 @@ mod row;
 mod row_list;
 mod six_rows;
 mod splitting;
+#[cfg(test)]
+mod still;
+#[cfg(test)]
+mod tests;
 
+pub use cell::CellOf;
 pub use laws::{all_close, parts_add_up, rows_gather};
 pub use passes::{OtherPasses, Passes};
 pub use resting::{PassState, RestingPass};
