@@ -1,9 +1,9 @@
 use crate::fixtures::definition;
 use domain_spec::Mark;
+use domain_turns::OperationLook;
 use guest_model::{SimEars, SimGuests, SimKiller, SimMonitor};
 use history_spec::Stamp;
 use monitor_link::Guests;
-use operation_turns::OperationLook;
 use played_cell::{Phased, Played, Told, Went};
 use std::alloc::Global;
 use std::io;

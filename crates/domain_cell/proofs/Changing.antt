@@ -20,7 +20,7 @@ use Rattle.turn_shares.specs.Chapters.{GoesOnBy, IsNextChapter, marks_kept}
 use Rattle.turn_shares.specs.Shares.{IsStepOf, whose}
 use Rattle.turn_shares.proofs.Chapters.{turns_go_on}
 use Rattle.turn_shares.proofs.Marks.{marks_are_own}
-use Rattle.guest_links.proofs.Linking.{same_true}
+use Rattle.domain_cell.proofs.Linking.{same_true}
 
 next_of : (t : CoreStep ℕ) (before next : ℕ) → next ≡ chapter_after before t → IsNextChapter t before next
 next_of (step.Rotate number who) before next e = e

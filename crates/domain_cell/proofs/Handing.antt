@@ -11,37 +11,37 @@ use Rattle.domain_spec.specs.Asks.{is_ended_answer, is_lost_answer}
 use Rattle.domain_spec.specs.CanTake.{CanLook, CanTake}
 use Rattle.domain_spec.specs.Cell.{Cell, LentEars, Queue, standing_of}
 use Rattle.domain_spec.specs.Lawful.{IsUnsent}
-use Rattle.domain_core.specs.Answering.{MayAnswer, MayGoBack}
-use Rattle.domain_core.specs.Clients.{with_queue}
-use Rattle.domain_ledger.specs.declared.ledger.Back.{Back as CoreBack}
-use Rattle.domain_ledger.specs.declared.ledger.Back.TheVariants as core_back
+use Rattle.domain_cell.specs.Answering.{MayAnswer, MayGoBack}
+use Rattle.domain_cell.specs.Clients.{with_queue}
+use Rattle.domain_turns.specs.OfLedger.{Back as CoreBack}
+use Rattle.domain_turns.specs.OfLedger.back_variants as core_back
 use Rattle.domain_turns.specs.Answering.{GoesBack}
 use Rattle.domain_turns.specs.Looking.{Looks}
 use Rattle.domain_turns.specs.Turning.{HasTurned, Takes, Turning}
 use Rattle.domain_turns.specs.declared.looking.Looked.{Looked}
-use Rattle.guest_links.specs.Held.{IsLinked, IsOutWith, boot_heard, out_by}
-use Rattle.guest_links.specs.Linked.{Linked, has_monitor, kept_link, link_by, link_made, with_monitor}
-use Rattle.guest_links.specs.Tickets.{HasMonitor, IsAnswered, IsAnsweredAs, back_of, back_ticket, look_ticket, looked_of, phase_ticket, phased_of}
-use Rattle.guest_links.specs.declared.ticket.Back.{Back}
-use Rattle.guest_links.specs.declared.ticket.Look.{Look}
-use Rattle.guest_links.specs.declared.ticket.PhaseLook.{PhaseLook}
-use Rattle.guest_links.specs.declared.ticket.Ticket.{Ticket}
-use Rattle.guest_links.proofs.Linking.{Hands, IsAside, same_keeps, aside_linked, back_hands, begin_linked, look_hands, operation_turned, phase_hands, take_up_linked}
+use Rattle.domain_cell.specs.Held.{IsLinked, IsOutWith, boot_heard, out_by}
+use Rattle.domain_cell.specs.Linked.{Linked, has_monitor, kept_link, link_by, link_made, with_monitor}
+use Rattle.domain_cell.specs.Tickets.{HasMonitor, IsAnswered, IsAnsweredAs, back_of, back_ticket, look_ticket, looked_of, phase_ticket, phased_of}
+use Rattle.domain_cell.specs.declared.ticket.Back.{Back}
+use Rattle.domain_cell.specs.declared.ticket.Look.{Look}
+use Rattle.domain_cell.specs.declared.ticket.PhaseLook.{PhaseLook}
+use Rattle.domain_cell.specs.declared.ticket.Ticket.{Ticket}
+use Rattle.domain_cell.proofs.Linking.{Hands, IsAside, same_keeps, aside_linked, back_hands, begin_linked, look_hands, operation_turned, phase_hands, take_up_linked}
 use Rattle.domain_spec.proofs.TurnProofs.{holds_after, holds_led}
-use Rattle.turn_marks.specs.Steady.{IsSteady}
-use Rattle.turn_marks.proofs.Steadying.{turns_keep_steady}
-use Rattle.domain_core.proofs.Whole.{looks_turned}
-use Rattle.domain_core.proofs.Operating.{phase_turned}
+use Rattle.turn_shares.specs.Steady.{IsSteady}
+use Rattle.turn_shares.proofs.Steadying.{turns_keep_steady}
+use Rattle.domain_cell.proofs.Whole.{looks_turned}
+use Rattle.domain_cell.proofs.Operating.{phase_turned}
 use Rattle.domain_cell.specs.Celled.{IsCell}
 use Rattle.domain_spec.specs.declared.standing.Base.{Base}
 use Rattle.domain_spec.specs.Fold.{at_base, standing}
 use Rattle.domain_spec.specs.Laws.{IsCounted}
 use Rattle.domain_spec.specs.Legal.{IsLegal}
-use Rattle.operation_turns.specs.Beginning.{Looks as OperationLooks}
-use Rattle.operation_turns.specs.declared.beginning.OperationLook.{OperationLook}
-use Rattle.made_boots.specs.Made.{AsksThis, made_boot, makes}
-use Rattle.operation_turns.specs.Phasing.{Phases}
-use Rattle.operation_turns.specs.declared.phasing.PhaseLook.{PhaseLook as CorePhase}
+use Rattle.domain_turns.specs.Beginning.{Looks as OperationLooks}
+use Rattle.domain_turns.specs.declared.beginning.OperationLook.{OperationLook}
+use Rattle.turn_shares.specs.Made.{AsksThis, made_boot, makes}
+use Rattle.domain_turns.specs.Phasing.{Phases}
+use Rattle.domain_turns.specs.declared.phasing.PhaseLook.{PhaseLook as CorePhase}
 
 -- what holds after a turn
 

@@ -9,19 +9,19 @@ use Rattle.domain_spec.specs.declared.open.OpenJob.{OpenJob}
 use Rattle.domain_spec.specs.declared.standing.Standing.{Standing}
 use Rattle.domain_spec.specs.CanTake.{CanTake, IsAway}
 use Rattle.domain_spec.specs.Cell.{Cell, OpenCall, Share, as_let_in, asks_so_far, call_of, share_of, standing_of}
-use Rattle.domain_ledger.specs.declared.ledger.Back.{Back as CoreBack}
+use Rattle.domain_turns.specs.OfLedger.{Back as CoreBack}
 use Rattle.domain_turns.specs.Looking.{Looks}
 use Rattle.domain_turns.specs.Turning.{AsksLast, HasTurned, chapter_after}
 use Rattle.domain_cell.specs.Celled.{CellShare, Celled, KeepsOtherShares, cell_in, cell_share, chapter_of, monitor_of, standing_in}
-use Rattle.guest_links.specs.Held.{out_by}
-use Rattle.guest_links.specs.Tickets.{look_ticket, looked_of, phase_ticket, phased_of}
-use Rattle.guest_links.specs.declared.ticket.Look.{Look}
-use Rattle.guest_links.specs.declared.ticket.Look.TheVariants as look
-use Rattle.guest_links.specs.declared.ticket.PhaseLook.{PhaseLook}
-use Rattle.guest_links.specs.declared.ticket.PhaseLook.TheVariants as phase
-use Rattle.guest_links.proofs.Linking.{IsInChapter, asks_job}
-use Rattle.made_boots.specs.Made.{made_boot}
-use Rattle.operation_turns.specs.Phasing.{Phases}
+use Rattle.domain_cell.specs.Held.{out_by}
+use Rattle.domain_cell.specs.Tickets.{look_ticket, looked_of, phase_ticket, phased_of}
+use Rattle.domain_cell.specs.declared.ticket.Look.{Look}
+use Rattle.domain_cell.specs.declared.ticket.Look.TheVariants as look
+use Rattle.domain_cell.specs.declared.ticket.PhaseLook.{PhaseLook}
+use Rattle.domain_cell.specs.declared.ticket.PhaseLook.TheVariants as phase
+use Rattle.domain_cell.proofs.Linking.{IsInChapter, asks_job}
+use Rattle.turn_shares.specs.Made.{made_boot}
+use Rattle.domain_turns.specs.Phasing.{Phases}
 use Rattle.turn_shares.specs.Shares.{KeepsOthers}
 use Rattle.turn_shares.proofs.Jobs.{differ}
 

@@ -6,12 +6,12 @@ use Rattle.domain_spec.specs.Cell.{Cell, HeldEvent, LentEars, OpenCall, Share, s
 use Rattle.domain_spec.specs.Fold.{at_base}
 use Rattle.domain_spec.specs.Laws.{IsCounted}
 use Rattle.domain_spec.specs.Legal.{IsLegal}
-use Rattle.domain_core.specs.Core.{Core, new_core}
+use Rattle.domain_cell.specs.Core.{Core, new_core}
 use Rattle.domain_turns.specs.Turning.{Turning}
-use Rattle.guest_links.specs.Held.{IsLinked}
-use Rattle.guest_links.specs.Linked.{Linked}
-use Rattle.made_boots.specs.Made.{made_boot}
-use Rattle.turn_marks.specs.Steady.{IsSteady}
+use Rattle.domain_cell.specs.Held.{IsLinked}
+use Rattle.domain_cell.specs.Linked.{Linked}
+use Rattle.turn_shares.specs.Made.{made_boot}
+use Rattle.turn_shares.specs.Steady.{IsSteady}
 
 -- the domain between two turns, and the boot whose monitor is out with the ticket of the open call
 pub record Celled : Type 0 where

@@ -1,4 +1,14 @@
+pub mod Answering
 pub mod Celled
 pub mod Changing
+pub mod Clients
+pub mod Core
+pub mod Held
 pub mod Keeping
+pub mod Linked
 pub mod Meaning
+pub mod OfOperations
+pub mod OfShares
+pub mod OfTurns
+pub mod Shares
+pub mod Tickets

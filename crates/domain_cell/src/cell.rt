@@ -1,21 +1,20 @@
 // A domain's cell: a domain between two turns, with the link of its guest.
 ghost use Rattle.std.specs.Prelude.{◌≡◌, IfOk, is_some, length};
-ghost use Rattle.operation_turns.specs.Resting.{rested_in};
-ghost use Rattle.domain_ledger.specs.Operations.{IsToldAtEnd};
+ghost use Rattle.domain_turns.specs.Resting.{rested_in};
+ghost use Rattle.domain_turns.specs.OfLedger.{IsToldAtEnd};
 ghost use Rattle.domain_spec.specs.Fold.{at_base};
 ghost use Rattle.domain_spec.specs.Laws.{IsCounted};
 ghost use Rattle.domain_spec.specs.Legal.{IsLegal};
 ghost use Rattle.domain_spec.specs.Read.{read};
-ghost use Rattle.client_turns.specs.Places.{last_place};
-ghost use Rattle.domain_core.specs.Core.{is_occupied};
+ghost use Rattle.domain_turns.specs.Places.{last_place};
+ghost use Rattle.domain_cell.specs.Core.{is_occupied};
 ghost use Rattle.domain_cell.specs.Celled.{cell_in, new_cell, standing_in};
 ghost use Rattle.domain_cell.specs.Meaning.{history_of};
-ghost use Rattle.guest_links.specs.Held.{IsOutWith};
-ghost use Rattle.turn_marks.specs.Steady.{IsSteady};
+ghost use Rattle.domain_cell.specs.Held.{IsOutWith};
+ghost use Rattle.turn_shares.specs.Steady.{IsSteady};
 
-use domain_core::DomainTurns;
-use domain_history::Chronicle;
-use guest_links::Here;
+use crate::{DomainTurns, Here};
+use domain_turns::Chronicle;
 use monitor_link::{Ears, Killer, Monitor};
 use std::alloc::Global;
 use std::marker::Model;

@@ -3,90 +3,117 @@ ghost use Rattle.std.specs.Prelude.{◌≡◌, ◌<◌, ◌^◌, ◌∷◌, [], 
 ghost use Rattle.domain_spec.specs.CanTake.{CanTake};
 ghost use Rattle.domain_spec.specs.Kept.{left_queue};
 ghost use Rattle.domain_spec.specs.declared.core_step.CoreStep.TheVariants as step;
-ghost use Rattle.domain_spec.specs.declared.mark.Mark.TheVariants as mark;
-ghost use Rattle.domain_core.specs.Clients.{WatchesSo, with_queue};
-ghost use Rattle.domain_cell.specs.Celled.{KeepsOtherShares, cell_in};
+ghost use Rattle.domain_cell.specs.Clients.{WatchesSo, with_queue};
 ghost use Rattle.domain_listeners.specs.Listening.{HandsOut, listening_of};
+ghost use Rattle.domain_spec.specs.declared.mark.Mark.TheVariants as mark;
 ghost use Rattle.domain_turns.specs.Turning.{Takes};
-ghost use Rattle.client_turns.specs.ClientLaws.{IsDropping, IsTaking};
+ghost use Rattle.turn_shares.specs.Shares.{KeepsOthers};
+ghost use Rattle.domain_turns.specs.ClientLaws.{IsDropping, IsTaking};
 
-use crate::cell::DomainCell;
-use client_turns::WatchFault;
+use crate::turns::{DomainTurns, are_apart};
 use domain_listeners::Taken;
-use guest_links::keep;
+use domain_turns::{WatchFault, drop_events, rotate, take_events, unwatch, watch};
 use history_spec::Stamp;
-use monitor_link::{Ears, Killer, Monitor};
 use std::alloc::Global;
 use virt_types::{NoMemory, Who};
 
-impl<M: Monitor + Drop, E: Ears + Drop, Z: Killer + Drop> DomainCell<M, E, Z> {
+impl DomainTurns {
     /// Registers a client for the transitions that come from now on, under the least number below 16 that no
     /// registration has.
+    #[tactic(auto, using(crate::proofs::Watching::watch_turn, crate::proofs::Watching::watch_keeps))]
     pub fn watch(&mut self, alloc: Global, by: Stamp) -> Result<u32, WatchFault>
-        ensures watches { WatchesSo by.number self.old.core.turning self.new.core.turning result }
-        ensures excluded { self.new.core.excluded ≡ None }
-        ensures out { self.new.out ≡ self.old.out }
-        ensures others { KeepsOtherShares by.number self.old self.new }
+        ensures watches { WatchesSo by.number self.old.turning self.new.turning result }
+        ensures others { KeepsOthers by.number self.old.turning.cell self.new.turning.cell }
+        ensures excluded { self.new.excluded ≡ None }
     {
-        let watched = self.turns.watch(alloc, by);
-        keep(&mut self.link, self.turns.made());
+        self.kept.is_away();
+        self.kept.state();
+        are_apart(&self.kept);
+        self.excluded = None;
+        let watched = watch(&mut self.kept, self.rooms.len(), alloc, by);
+        self.kept.is_away();
+        self.kept.state();
         watched
     }
 
     /// Ends a registration for which nothing pends, by the pass that made it. It takes no memory.
+    #[tactic(auto, using(crate::proofs::Watching::own_quiet, crate::proofs::Watching::leave_turn, crate::proofs::Watching::watch_keeps))]
     pub fn unwatch(&mut self, by: Stamp, client: u32)
-        requires can { CanTake (cell_in self.old) (step.Unwatch by.number client) }
-        ensures leaves { Takes self.old.core.turning self.new.core.turning (step.Unwatch by.number client) (λ left. left ≡ mark.Unwatch by.number client ∷ []) }
-        ensures excluded { self.new.core.excluded ≡ None }
-        ensures out { self.new.out ≡ self.old.out }
-        ensures others { KeepsOtherShares by.number self.old self.new }
+        requires can { CanTake self.old.turning.cell (step.Unwatch by.number client) }
+        ensures leaves { Takes self.old.turning self.new.turning (step.Unwatch by.number client) (λ left. left ≡ mark.Unwatch by.number client ∷ []) }
+        ensures others { KeepsOthers by.number self.old.turning.cell self.new.turning.cell }
+        ensures excluded { self.new.excluded ≡ None }
     {
-        self.turns.unwatch(by, client);
-        keep(&mut self.link, self.turns.made());
+        self.kept.is_away();
+        self.kept.state();
+        self.kept.has(client);
+        self.excluded = None;
+        unwatch(&mut self.kept, by, client);
+        self.kept.is_away();
+        self.kept.state();
     }
 
     /// Hands out all that pends for a client, or its loss, once, where nothing does. Where there is no memory
     /// nothing changes.
+    #[tactic(auto, using(crate::proofs::Watching::own_there, crate::proofs::Watching::take_turn, crate::proofs::Watching::watch_keeps))]
     pub fn take_events(&mut self, alloc: Global, by: Stamp, client: u32) -> Result<Taken, NoMemory>
-        requires can { CanTake (cell_in self.old) (step.Take by.number client) }
-        ensures given { IfOk result (λ taken. HandsOut (listening_of self.old.core.turning.listeners client) taken) }
-        ensures takes { OnOk result (IsTaking by.number client self.old.core.turning self.new.core.turning) }
-        ensures err { OnErr result (self.new.core.turning ≡ self.old.core.turning) }
-        ensures excluded { self.new.core.excluded ≡ None }
-        ensures out { self.new.out ≡ self.old.out }
-        ensures others { KeepsOtherShares by.number self.old self.new }
+        requires can { CanTake self.old.turning.cell (step.Take by.number client) }
+        ensures given { IfOk result (λ taken. HandsOut (listening_of self.old.turning.listeners client) taken) }
+        ensures takes { OnOk result (IsTaking by.number client self.old.turning self.new.turning) }
+        ensures err { OnErr result (self.new.turning ≡ self.old.turning) }
+        ensures others { KeepsOthers by.number self.old.turning.cell self.new.turning.cell }
+        ensures excluded { self.new.excluded ≡ None }
     {
-        let taken = self.turns.take_events(alloc, by, client);
-        keep(&mut self.link, self.turns.made());
-        taken
+        self.kept.is_away();
+        self.kept.state();
+        self.kept.has(client);
+        self.excluded = None;
+        drop(by);
+        take_events(&mut self.kept, alloc, client)
     }
 
     /// Lets go of all that pends for a client, and then of a loss that is due. It takes no memory.
+    #[tactic(auto, using(crate::proofs::Watching::own_there, crate::proofs::Watching::drop_turn, crate::proofs::Watching::watch_keeps))]
     pub fn drop_events(&mut self, by: Stamp, client: u32)
-        requires can { CanTake (cell_in self.old) (step.Take by.number client) }
-        ensures drops { IsDropping by.number client self.old.core.turning self.new.core.turning }
-        ensures excluded { self.new.core.excluded ≡ None }
-        ensures out { self.new.out ≡ self.old.out }
-        ensures others { KeepsOtherShares by.number self.old self.new }
+        requires can { CanTake self.old.turning.cell (step.Take by.number client) }
+        ensures drops { IsDropping by.number client self.old.turning self.new.turning }
+        ensures others { KeepsOthers by.number self.old.turning.cell self.new.turning.cell }
+        ensures excluded { self.new.excluded ≡ None }
     {
-        self.turns.drop_events(by, client);
-        keep(&mut self.link, self.turns.made());
+        self.kept.is_away();
+        self.kept.state();
+        self.kept.has(client);
+        self.excluded = None;
+        drop(by);
+        drop_events(&mut self.kept, client);
     }
 
     /// Ends the chapter: the next one begins with the state, the operation that is under way, and who is
     /// registered. Where there is no memory all stays, but the caller waits no more.
+    #[tactic(auto, using(crate::proofs::Watching::rotate_turn, crate::proofs::Watching::rotate_free, crate::proofs::Watching::rotate_keeps))]
     pub fn rotate(&mut self, alloc: Global, by: Stamp, who: Who) -> Result<(), NoMemory>
-        requires can { CanTake (cell_in self.old) (step.Rotate by.number who) }
-        requires number { self.old.core.turning.chapter < 2 ^ 62 }
-        ensures ok { OnOk result (Takes self.old.core.turning self.new.core.turning (step.Rotate by.number who) (λ left. left ≡ [])) }
-        ensures queue { OnOk result ((cell_in self.new).queue ≡ (cell_in self.old).queue) }
-        ensures err { OnErr result (self.new.core.turning ≡ with_queue self.old.core.turning (left_queue (cell_in self.old).queue by.number who)) }
-        ensures excluded { self.new.core.excluded ≡ None }
-        ensures out { self.new.out ≡ self.old.out }
-        ensures others { KeepsOtherShares by.number self.old self.new }
+        requires can { CanTake self.old.turning.cell (step.Rotate by.number who) }
+        requires number { self.old.turning.chapter < 2 ^ 62 }
+        ensures ok { OnOk result (Takes self.old.turning self.new.turning (step.Rotate by.number who) (λ left. left ≡ [])) }
+        ensures queue { OnOk result (self.new.turning.cell.queue ≡ self.old.turning.cell.queue) }
+        ensures err { OnErr result (self.new.turning ≡ with_queue self.old.turning (left_queue self.old.turning.cell.queue by.number who)) }
+        ensures others { KeepsOthers by.number self.old.turning.cell self.new.turning.cell }
+        ensures excluded { self.new.excluded ≡ None }
     {
-        let rotated = self.turns.rotate(alloc, by, who);
-        keep(&mut self.link, self.turns.made());
+        self.kept.is_away();
+        self.kept.state();
+        are_apart(&self.kept);
+        self.excluded = None;
+        let rotated = rotate(
+            &mut self.kept,
+            &mut self.queue,
+            self.rooms.len(),
+            alloc,
+            by,
+            who,
+        );
+        self.kept.is_away();
+        self.kept.state();
         rotated
     }
 }

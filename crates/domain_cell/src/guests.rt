@@ -1,115 +1,104 @@
-// What guests do by themselves, and the parts of their links.
-ghost use Rattle.std.specs.Prelude.{◌≡◌, IfOk, None, OnErr, length, nat_lt, true};
+// What guests do by themselves, and the ears by which they are heard.
+ghost use Rattle.std.specs.Prelude.{◌≡◌, IfOk, None, OnErr, length, nat_lt};
 ghost use Rattle.domain_spec.specs.Cell.{standing_of};
 ghost use Rattle.domain_spec.specs.Reading.{is_live};
 ghost use Rattle.domain_spec.specs.declared.core_step.CoreStep.TheVariants as step;
-ghost use Rattle.domain_core.specs.Core.{HasOut, with_ears};
-ghost use Rattle.domain_cell.specs.Celled.{KeepsOtherShares, boot_to_lend, cell_in, standing_in};
-ghost use Rattle.guest_links.specs.Linked.{has_ears, link_lent};
-ghost use Rattle.guest_links.specs.Tickets.{IsHeardCounted, lent_boot};
+ghost use Rattle.domain_cell.specs.Core.{HasOut, with_ears};
 ghost use Rattle.domain_turns.specs.Turning.{Takes};
 ghost use Rattle.turn_shares.specs.Shares.{KeepsOthers};
-ghost use Rattle.guest_turns.specs.Guests.{AreUntold, applies_now, boot_to_hear, ears_lent, event_marks, exit_marks};
+ghost use Rattle.domain_turns.specs.Guests.{AreUntold, applies_now, boot_to_hear, ears_lent, event_marks, exit_marks};
 
-use crate::cell::DomainCell;
-use domain_core::DomainTurns;
-use guest_links::{Here, keep, kill, put_ears, take_ears};
+use crate::turns::{DomainTurns, are_apart};
+use domain_turns::{event, exit, lend, take_back};
 use history_spec::Stamp;
-use monitor_link::{Ears, Killer, Monitor};
 use std::alloc::Global;
 use virt_types::{EndReason, GuestEvent, NoMemory};
 
-// Lends the ears of the guest that is there.
-fn lend<M, E, Z>(
-    turns: &mut DomainTurns,
-    link: &mut Option<Here<M, E, Z>>,
-    alloc: Global,
-    by: Stamp,
-) -> Result<Option<(u64, E)>, NoMemory>
-    requires ears { turns.old.turning.cell.ears ≡ None → has_ears link.old ≡ true }
-    ensures boot { IfOk result (λ lent. lent_boot lent ≡ boot_to_hear (standing_of turns.old.turning.cell).state turns.old.turning.cell.held turns.old.turning.cell.ears) }
-    ensures lent { IfOk result (λ lent. turns.new.turning ≡ with_ears turns.old.turning (ears_lent by.number (lent_boot lent) turns.old.turning.cell.ears)) }
-    ensures link { IfOk result (λ lent. link.new ≡ link_lent (lent_boot lent) link.old) }
-    ensures err { OnErr result (turns.new.turning ≡ turns.old.turning) }
-    ensures stays { OnErr result (link.new ≡ link.old) }
-    ensures others { KeepsOthers by.number turns.old.turning.cell turns.new.turning.cell }
-{
-    match turns.lend_ears(alloc, by) {
-        Ok(Some(boot)) => match take_ears(link) {
-            Some(ears) => Ok(Some((boot, ears))),
-            None => unreachable!(),
-        },
-        Ok(None) => Ok(None),
-        Err(NoMemory) => Err(NoMemory),
-    }
-}
-
-impl<M: Monitor + Drop, E: Ears + Drop, Z: Killer + Drop> DomainCell<M, E, Z> {
-    /// Ends the guest that is there, without asking it; nothing where none is. It may wait for the guest.
-    pub fn kill(&mut self)
-        ensures { self.new ≡ self.old }
-    {
-        kill(&mut self.link);
-    }
-
+impl DomainTurns {
     /// A boot ended so, as the ears told that are out: where it is live that is marked, and its listeners hear it.
     /// It takes no memory.
-    pub fn exit(&mut self, by: Stamp, boot: u64, why: EndReason, ears: &E)
-        requires own { HasOut by.number boot (cell_in self.old).ears }
-        requires untold { AreUntold (cell_in self.old).ears boot }
-        requires counted { IsHeardCounted (E.ends ears.now) (E.faults ears.now) why }
-        ensures exits { Takes self.old.core.turning self.new.core.turning (step.Exit boot why) (λ left. left ≡ exit_marks (is_live (standing_in self.old).state boot) boot why self.old.core.turning.listeners) }
-        ensures excluded { self.new.core.excluded ≡ None }
-        ensures out { self.new.out ≡ self.old.out }
-        ensures others { KeepsOtherShares by.number self.old self.new }
+    #[tactic(auto, using(crate::proofs::Hearing::exit_turn, crate::proofs::Hearing::exit_keeps, domain_turns::proofs::Keeping::untold_room))]
+    pub fn exit(&mut self, by: Stamp, boot: u64, why: EndReason)
+        requires own { HasOut by.number boot self.old.turning.cell.ears }
+        requires ears { AreUntold self.old.turning.cell.ears boot }
+        ensures exits { Takes self.old.turning self.new.turning (step.Exit boot why) (λ left. left ≡ exit_marks (is_live (standing_of self.old.turning.cell).state boot) boot why self.old.turning.listeners) }
+        ensures others { KeepsOthers by.number self.old.turning.cell self.new.turning.cell }
+        ensures excluded { self.new.excluded ≡ None }
     {
-        self.turns.exit(by, boot, why);
-        keep(&mut self.link, self.turns.made());
+        self.kept.is_away();
+        self.kept.state();
+        are_apart(&self.kept);
+        self.excluded = None;
+        drop(by);
+        exit(&mut self.kept, &mut self.rooms, &mut self.ears, boot, why);
+        self.kept.is_away();
+        self.kept.state();
     }
 
     /// A guest did this, as the ears told that are out. An event of a boot that is not live is dropped; another
     /// applies where no call is open, and else is held until none is. The answer is false where 64 are held. It
     /// takes no memory.
-    pub fn event(&mut self, by: Stamp, boot: u64, event: GuestEvent) -> bool
-        requires own { HasOut by.number boot (cell_in self.old).ears }
-        requires untold { AreUntold (cell_in self.old).ears boot }
-        ensures result { result ≡ nat_lt (length (cell_in self.old).held) 64 }
-        ensures happens { Takes self.old.core.turning self.new.core.turning (step.Event boot event) (λ left. left ≡ event_marks (applies_now (standing_in self.old) (standing_in self.old).job boot) (record { boot = boot; event = event }) (standing_in self.old).state self.old.core.turning.listeners) }
-        ensures excluded { self.new.core.excluded ≡ None }
-        ensures out { self.new.out ≡ self.old.out }
-        ensures others { KeepsOtherShares by.number self.old self.new }
+    #[tactic(auto, using(crate::proofs::Hearing::event_turn, crate::proofs::Hearing::event_keeps))]
+    pub fn event(&mut self, by: Stamp, boot: u64, event_heard: GuestEvent) -> bool
+        requires own { HasOut by.number boot self.old.turning.cell.ears }
+        requires ears { AreUntold self.old.turning.cell.ears boot }
+        ensures result { result ≡ nat_lt (length self.old.turning.cell.held) 64 }
+        ensures happens { Takes self.old.turning self.new.turning (step.Event boot event_heard) (λ left. left ≡ event_marks (applies_now (standing_of self.old.turning.cell) (standing_of self.old.turning.cell).job boot) (record { boot = boot; event = event_heard }) (standing_of self.old.turning.cell).state self.old.turning.listeners) }
+        ensures others { KeepsOthers by.number self.old.turning.cell self.new.turning.cell }
+        ensures excluded { self.new.excluded ≡ None }
     {
-        let can_hold = self.turns.event(by, boot, event);
-        keep(&mut self.link, self.turns.made());
+        self.kept.is_away();
+        self.kept.state();
+        are_apart(&self.kept);
+        self.excluded = None;
+        drop(by);
+        let can_hold = event(
+            &mut self.kept,
+            &mut self.held,
+            &mut self.rooms,
+            &mut self.ears,
+            boot,
+            event_heard,
+        );
+        self.kept.is_away();
+        self.kept.state();
         can_hold
     }
 
-    /// Lends the ears of the guest that is there to the pass of this stamp, with room for one thing that they tell.
-    /// None where no guest is there, its ears are out, or 64 events are held. It leaves no mark; where there is no
-    /// memory the ears stay.
-    pub fn lend_ears(&mut self, alloc: Global, by: Stamp) -> Result<Option<(u64, E)>, NoMemory>
-        ensures boot { IfOk result (λ lent. lent_boot lent ≡ boot_to_lend self.old) }
-        ensures lent { IfOk result (λ lent. self.new.core.turning ≡ with_ears self.old.core.turning (ears_lent by.number (lent_boot lent) (cell_in self.old).ears)) }
-        ensures err { OnErr result (self.new.core.turning ≡ self.old.core.turning) }
-        ensures out { self.new.out ≡ self.old.out }
-        ensures others { KeepsOtherShares by.number self.old self.new }
+    /// Lends the ears of the live boot to the pass of this stamp, with room for one thing that they tell. None where
+    /// no boot is live, the ears are out, or 64 events are held. It leaves no mark; where there is no memory the
+    /// ears stay.
+    #[tactic(auto, using(crate::proofs::Hearing::event_keeps))]
+    pub fn lend_ears(&mut self, alloc: Global, by: Stamp) -> Result<Option<u64>, NoMemory>
+        ensures boot { IfOk result (λ boot. boot ≡ boot_to_hear (standing_of self.old.turning.cell).state self.old.turning.cell.held self.old.turning.cell.ears) }
+        ensures lent { IfOk result (λ boot. self.new.turning ≡ with_ears self.old.turning (ears_lent by.number boot self.old.turning.cell.ears)) }
+        ensures err { OnErr result (self.new.turning ≡ self.old.turning) }
+        ensures others { KeepsOthers by.number self.old.turning.cell self.new.turning.cell }
+        ensures excluded { self.new.excluded ≡ None }
     {
-        match self.turns.made() {
-            Some(_) => lend(&mut self.turns, &mut self.link, alloc, by),
-            None => Ok(None),
-        }
+        self.excluded = None;
+        lend(
+            &mut self.kept,
+            &mut self.held,
+            &mut self.rooms,
+            &mut self.ears,
+            alloc,
+            by,
+        )
     }
 
-    /// Takes the ears back, which were lent to the pass of this stamp; they are let go where their boot is not live
-    /// any more. It leaves no mark.
-    pub fn return_ears(&mut self, by: Stamp, boot: u64, ears: E)
-        requires own { HasOut by.number boot (cell_in self.old).ears }
-        ensures back { self.new.core.turning ≡ with_ears self.old.core.turning None }
-        ensures excluded { self.new.core.excluded ≡ None }
-        ensures out { self.new.out ≡ self.old.out }
-        ensures others { KeepsOtherShares by.number self.old self.new }
+    /// Takes the ears back. The answer is whether their boot is live still; else they are of no more use. It leaves
+    /// no mark.
+    #[tactic(auto, using(crate::proofs::Hearing::back_keeps))]
+    pub fn return_ears(&mut self, by: Stamp, boot: u64) -> bool
+        requires own { HasOut by.number boot self.old.turning.cell.ears }
+        ensures live { result ≡ is_live (standing_of self.old.turning.cell).state boot }
+        ensures back { self.new.turning ≡ with_ears self.old.turning None }
+        ensures others { KeepsOthers by.number self.old.turning.cell self.new.turning.cell }
+        ensures excluded { self.new.excluded ≡ None }
     {
-        self.turns.return_ears(by, boot);
-        put_ears(&mut self.link, boot, ears);
+        self.excluded = None;
+        drop(by);
+        take_back(&self.kept, &mut self.ears, boot)
     }
 }

@@ -1,12 +1,32 @@
 // Laws of the definitions: each function's contract is one, and its body does nothing.
-ghost use Rattle.domain_cell.specs.Changing.{StillTurnsChange, TurnsChange};
+ghost use Rattle.domain_cell.specs.Shares.{FreeSharesBegin, FreeSharesLook, FreeSharesTakeUp, OpenSharesGoBack, OperationSharesEnd, OperationSharesPhase};
 
-/// A step of a pass's number changes what that pass may change, by the marks of its own.
-pub fn turns_change()
-    ensures { TurnsChange }
+/// A pass of which nothing is open may look.
+pub fn free_shares_look()
+    ensures { FreeSharesLook }
 {}
 
-/// So does a turn that leaves the history as it is, by no mark.
-pub fn still_turns_change()
-    ensures { StillTurnsChange }
+/// It may begin an operation.
+pub fn free_shares_begin()
+    ensures { FreeSharesBegin }
+{}
+
+/// It may take one up.
+pub fn free_shares_take_up()
+    ensures { FreeSharesTakeUp }
+{}
+
+/// A pass whose open call waits for an answer may be answered.
+pub fn open_shares_go_back()
+    ensures { OpenSharesGoBack }
+{}
+
+/// A pass that has an operation open may go on with its due phase.
+pub fn operation_shares_phase()
+    ensures { OperationSharesPhase }
+{}
+
+/// It may end the operation once that is over.
+pub fn operation_shares_end()
+    ensures { OperationSharesEnd }
 {}

@@ -5,13 +5,29 @@
 
 mod calls;
 mod cell;
+mod cell_clients;
+mod cell_guests;
+mod cell_laws;
+mod cell_operations;
 mod clients;
 mod guests;
 mod kept;
 mod laws;
+mod link;
+mod looking;
+mod made;
 mod operations;
+mod ticket;
+mod turns;
 
 pub use cell::DomainCell;
-pub use guest_links::{Back, Look, PhaseLook, Ticket};
+pub use cell_laws::{still_turns_change, turns_change};
+pub use domain_turns::{Chronicle, OperationLook, Step, WatchFault, takes_up};
 pub use kept::Share;
-pub use laws::{still_turns_change, turns_change};
+pub use laws::{
+    free_shares_begin, free_shares_look, free_shares_take_up, open_shares_go_back,
+    operation_shares_end, operation_shares_phase,
+};
+pub use link::{Here, keep, keep_or_take, kill, put_ears, put_monitor, take_ears, take_monitor};
+pub use ticket::{Back, Look, PhaseLook, Ticket, hand_back, hand_look, hand_phase};
+pub use turns::DomainTurns;

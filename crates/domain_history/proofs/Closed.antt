@@ -28,11 +28,11 @@ use Rattle.domain_driver.specs.declared.calls.CallParts.{CallParts}
 use Rattle.domain_driver.specs.declared.phases.PhaseParts.{PhaseParts}
 use Rattle.domain_driver.specs.declared.phases.PhaseParts.TheVariants as phase_parts
 use Rattle.domain_spec.specs.declared.standing.Registration.{Registration}
-use Rattle.domain_tidy.specs.Guests.{HasOwnGuest}
-use Rattle.domain_tidy.specs.Tidy.{IsTidy}
-use Rattle.domain_tidy.proofs.OwnGuests.{mark_keeps_guests}
-use Rattle.domain_tidy.proofs.TidyCalls.{exit_tidy}
-use Rattle.domain_tidy.proofs.TidyMarks.{every_mark}
+use Rattle.domain_asks.specs.Guests.{HasOwnGuest}
+use Rattle.domain_asks.specs.Tidy.{IsTidy}
+use Rattle.domain_asks.proofs.OwnGuests.{mark_keeps_guests}
+use Rattle.domain_asks.proofs.TidyCalls.{exit_tidy}
+use Rattle.domain_asks.proofs.TidyMarks.{every_mark}
 use Rattle.domain_history.specs.Closing.{CanDo, CanPhase, after_loss, done_in, done_mark, done_marks, done_of, left_by, loss, phase_mark, phase_marks, phased_in, phased_of, told_in, told_of}
 use Rattle.domain_history.specs.Numbered.{all_numbered, numbered}
 use Rattle.domain_history.specs.Standing.{Stands, in_force}

@@ -1,3 +1,3 @@
 pub mod Closed
-pub mod Standing
 pub mod Numbers
+pub mod Standing

@@ -17,10 +17,10 @@ use Rattle.domain_spec.specs.Legal.{IsLawful, IsLegal}
 use Rattle.domain_spec.specs.Phase.{without_operation}
 use Rattle.domain_spec.specs.Reading.{live_boot}
 use Rattle.domain_spec.proofs.LawProofs.{legal-append, standing-append}
-use Rattle.domain_tidy.specs.Guests.{HasOwnGuest}
-use Rattle.domain_tidy.specs.Tidy.{IsTidy}
-use Rattle.domain_tidy.proofs.OwnGuests.{mark_keeps_guests}
-use Rattle.domain_tidy.proofs.TidyMarks.{every_mark}
+use Rattle.domain_asks.specs.Guests.{HasOwnGuest}
+use Rattle.domain_asks.specs.Tidy.{IsTidy}
+use Rattle.domain_asks.proofs.OwnGuests.{mark_keeps_guests}
+use Rattle.domain_asks.proofs.TidyMarks.{every_mark}
 use Rattle.domain_history.specs.Numbered.{all_numbered, numbered}
 use Rattle.domain_history.specs.Standing.{Stands, in_force}
 

@@ -1,3 +1,3 @@
+pub mod Closing
 pub mod Numbered
 pub mod Standing
-pub mod Closing

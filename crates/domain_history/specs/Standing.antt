@@ -10,8 +10,8 @@ use Rattle.domain_spec.specs.declared.standing.Base.{Base}
 use Rattle.domain_spec.specs.declared.standing.Standing.{Standing}
 use Rattle.domain_spec.specs.Fold.{at_base, standing}
 use Rattle.domain_spec.specs.Legal.{IsLegal}
-use Rattle.domain_tidy.specs.Guests.{HasOwnGuest}
-use Rattle.domain_tidy.specs.Tidy.{IsTidy}
+use Rattle.domain_asks.specs.Guests.{HasOwnGuest}
+use Rattle.domain_asks.specs.Tidy.{IsTidy}
 use Rattle.domain_history.specs.Numbered.{all_numbered}
 
 -- a chapter's history, and for how many more marks there is room

@@ -6,8 +6,8 @@ ghost use Rattle.domain_spec.specs.Exit.{event_state, event_transitions};
 ghost use Rattle.domain_spec.specs.Fold.{after, at_base, job_at_exit, taken_up};
 ghost use Rattle.domain_spec.specs.Legal.{IsLawful, IsLegal};
 ghost use Rattle.domain_spec.specs.declared.mark.Mark.TheVariants as mark;
-ghost use Rattle.domain_tidy.specs.Guests.{HasOwnGuest};
-ghost use Rattle.domain_tidy.specs.Tidy.{IsTidy};
+ghost use Rattle.domain_asks.specs.Guests.{HasOwnGuest};
+ghost use Rattle.domain_asks.specs.Tidy.{IsTidy};
 ghost use Rattle.domain_history.specs.Closing.{CanDo, CanPhase, done_in, phased_in, reply_in, told_in};
 ghost use Rattle.domain_history.specs.Numbered.{all_numbered};
 ghost use Rattle.domain_history.specs.Standing.{in_force};
@@ -16,13 +16,13 @@ ghost use Rattle.domain_state.specs.Beginnings.{HasNumber};
 use crate::base::{ChapterBase, KeptRegistration};
 use crate::chronicle::Chronicle;
 use crate::closing::{close_call, close_phase};
+use crate::named_call;
 use crate::open::{LetIn, Underway};
 use core_rules::{end_guest, live_boot};
 use domain_driver::{CallParts, PhaseParts};
 use domain_spec::{HeldJobs, Mark, Outcome};
 use domain_state::{begin, due_phase, end_operation, follow_event, opened_state, take_up};
 use history_spec::Stamp;
-use operation_calls::named_call;
 use std::alloc::Global;
 use std::marker::Model;
 use std::mem;
@@ -156,7 +156,7 @@ fn empty(alloc: Global, room: usize) -> Result<RoomyList<Mark<Stamp>>, NoMemory>
 impl Chapter {
     /// The first chapter of a domain, as the store was opened: with this stored definition and its
     /// autostart, or vacant.
-    #[tactic(auto, using(crate::proofs::Standing::opens, domain_tidy::proofs::TidyCalls::opened_tidy))]
+    #[tactic(auto, using(crate::proofs::Standing::opens, domain_asks::proofs::TidyCalls::opened_tidy))]
     pub fn opened(
         alloc: Global,
         stored: Option<DomainDef>,

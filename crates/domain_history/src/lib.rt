@@ -7,10 +7,14 @@ mod chapter;
 mod chronicle;
 mod closing;
 mod held;
+mod judging;
+mod naming;
 mod open;
 
 pub use base::{ChapterBase, KeptRegistration};
 pub use chapter::Chapter;
 pub use chronicle::Chronicle;
 pub use held::{job_held, meets_another, operation_held, takes_up};
+pub use judging::goes_on;
+pub use naming::named_call;
 pub use open::{LetIn, Underway};

@@ -21,11 +21,11 @@ use Rattle.domain_spec.specs.Sequential.{asked, goes_on_as_operation, makes_asks
 use Rattle.domain_spec.specs.TakeUp.{rests_for, step_at, takes_it_up}
 use Rattle.core_rules.specs.declared.next.Next.TheVariants as next
 use Rattle.core_rules.specs.Next.{next_of}
-use Rattle.ask_course.specs.Along.{Asked}
-use Rattle.call_away.specs.AwayLaws.{made}
-use Rattle.call_away.specs.Going.{first_course, let_in}
-use Rattle.call_away.proofs.Finishing.{nothing_next, unsent_none}
-use Rattle.call_away.proofs.Planning.{still_planned}
+use Rattle.domain_asks.specs.Along.{Asked}
+use Rattle.domain_asks.specs.AwayLaws.{made}
+use Rattle.domain_asks.specs.Going.{first_course, let_in}
+use Rattle.domain_asks.proofs.Finishing.{nothing_next, unsent_none}
+use Rattle.domain_asks.proofs.Planning.{still_planned}
 use Rattle.domain_driver.specs.Fits.{FitsCall}
 use Rattle.domain_driver.specs.declared.calls.CallParts.{CallParts}
 use Rattle.domain_history.specs.Closing.{CanDo, done_in, told_in}

@@ -8,9 +8,9 @@ use Rattle.domain_spec.specs.Call.{begins, job_of, takes_up}
 use Rattle.domain_spec.specs.Fold.{after}
 use Rattle.domain_spec.specs.Legal.{IsLawful}
 use Rattle.core_rules.specs.declared.next.Next.TheVariants as next
-use Rattle.ask_course.specs.Along.{Asked}
-use Rattle.ask_course.specs.Starving.{AreAsks, next_in, starved}
-use Rattle.call_away.specs.Going.{first_course}
+use Rattle.domain_asks.specs.Along.{Asked}
+use Rattle.domain_asks.specs.Starving.{AreAsks, next_in, starved}
+use Rattle.domain_asks.specs.Going.{first_course}
 use Rattle.domain_history.specs.Standing.{HistoryWithRoom}
 use Rattle.domain_ledger.specs.Away.{IsOut}
 use Rattle.domain_ledger.specs.Ledger.{admitted, with_marks}

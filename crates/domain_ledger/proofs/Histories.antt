@@ -16,13 +16,13 @@ use Rattle.domain_spec.specs.Sequential.{seq}
 use Rattle.core_rules.specs.declared.next.Next.{Next}
 use Rattle.core_rules.specs.declared.next.Next.TheVariants as next
 use Rattle.core_rules.specs.Next.{is_ask}
-use Rattle.ask_course.specs.Along.{Asked, answered}
-use Rattle.ask_course.specs.Starving.{AreAsks, next_in, starved}
-use Rattle.call_away.specs.AwayLaws.{made}
-use Rattle.call_away.specs.Away.{IsAway}
-use Rattle.call_away.specs.Going.{IsAnsweredLive, IsLetIn, first_course, let_in}
-use Rattle.call_away.proofs.Finishing.{is_done_ended}
-use Rattle.call_away.proofs.Going.{first_is_away, first_is_done, is_done_then, stays_away}
+use Rattle.domain_asks.specs.Along.{Asked, answered}
+use Rattle.domain_asks.specs.Starving.{AreAsks, next_in, starved}
+use Rattle.domain_asks.specs.AwayLaws.{made}
+use Rattle.domain_asks.specs.Away.{IsAway}
+use Rattle.domain_asks.specs.Going.{IsAnsweredLive, IsLetIn, first_course, let_in}
+use Rattle.domain_asks.proofs.Finishing.{is_done_ended}
+use Rattle.domain_asks.proofs.Going.{first_is_away, first_is_done, is_done_then, stays_away}
 use Rattle.domain_driver.specs.Fits.{FitsCall}
 use Rattle.domain_driver.specs.declared.calls.CallParts.{CallParts}
 use Rattle.domain_history.specs.Closing as chapter

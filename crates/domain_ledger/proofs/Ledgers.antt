@@ -20,14 +20,14 @@ use Rattle.domain_spec.specs.Legal.{IsLawful, MarksLoss}
 use Rattle.domain_spec.specs.Reading.{carries_ended, is_live}
 use Rattle.domain_spec.proofs.ExitProofs.{live_boot-exit}
 use Rattle.core_rules.specs.declared.next.Next.TheVariants as next
-use Rattle.ask_course.specs.Along.{Asked, answered}
-use Rattle.ask_course.specs.Starving.{next_in, starved}
-use Rattle.call_away.specs.Going.{first_course}
-use Rattle.call_away.specs.Away.{IsAway}
-use Rattle.call_away.proofs.Staying.{end_keeps, exit_keeps}
-use Rattle.phase_away.specs.Copying.{with_answer}
-use Rattle.phase_away.specs.PhaseAway.{IsPhaseAway}
-use Rattle.phase_away.proofs.Keeping.{is_gone, phase_exit_keeps, true_not_false}
+use Rattle.domain_asks.specs.Along.{Asked, answered}
+use Rattle.domain_asks.specs.Starving.{next_in, starved}
+use Rattle.domain_asks.specs.Going.{first_course}
+use Rattle.domain_asks.specs.Away.{IsAway}
+use Rattle.domain_asks.proofs.Staying.{end_keeps, exit_keeps}
+use Rattle.domain_asks.specs.PhaseCopying.{with_answer}
+use Rattle.domain_asks.specs.PhaseAway.{IsPhaseAway}
+use Rattle.domain_asks.proofs.Keeping.{is_gone, phase_exit_keeps, true_not_false}
 use Rattle.domain_driver.specs.Fits.{FitsCall, FitsPhase}
 use Rattle.domain_driver.specs.declared.phases.PhaseParts.{PhaseParts}
 use Rattle.domain_driver.specs.declared.phases.PhaseParts.TheVariants as made_for
@@ -36,7 +36,7 @@ use Rattle.domain_history.specs.Closing.{reply_in}
 use Rattle.domain_history.specs.Numbered.{numbered}
 use Rattle.domain_history.specs.Standing.{HistoryWithRoom, in_force}
 use Rattle.domain_history.proofs.Standing.{one_more}
-use Rattle.domain_tidy.specs.Tidy.{IsTidy}
+use Rattle.domain_asks.specs.Tidy.{IsTidy}
 use Rattle.domain_ledger.specs.Away.{IsOut, IsPhaseOut, course_out}
 use Rattle.domain_ledger.specs.Ledger.{CanAnswer, CanAnswerAs, Chaptered, GoesBack, IsAsking, IsClosed, IsPhaseClosed, Ledgered, LetsIn, MayAnswer, admitted, answered_as, answered_in, now_in}
 use Rattle.domain_ledger.specs.Operations.{EntersPhase, IsFirst, MayPhase, entered}

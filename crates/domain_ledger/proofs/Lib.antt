@@ -1,10 +1,13 @@
 pub mod Beginning
-pub mod LastReply
 pub mod Entering
 pub mod Histories
+pub mod LastReply
 pub mod Ledgers
+pub mod Operated
 pub mod PhaseAnswers
 pub mod PhaseEntering
 pub mod PhaseHistories
 pub mod Rotating
+pub mod Silent
 pub mod Told
+pub mod Turned

@@ -11,11 +11,11 @@ use Rattle.domain_spec.specs.declared.standing.Standing.{Standing}
 use Rattle.domain_spec.specs.Asks.{value_of}
 use Rattle.domain_spec.specs.Phase.{plan_in}
 use Rattle.domain_spec.specs.PhaseAsks.{copied_bytes}
-use Rattle.ask_course.specs.Along.{Asked, answered}
-use Rattle.ask_course.specs.Copying.{is_image, writes_second, writing, written}
-use Rattle.ask_course.specs.Starving.{starved}
-use Rattle.phase_away.specs.Copying.{plan_after, with_answer, with_copy}
-use Rattle.phase_away.proofs.Writing.{in_written}
+use Rattle.domain_asks.specs.Along.{Asked, answered}
+use Rattle.domain_asks.specs.Copying.{is_image, writes_second, writing, written}
+use Rattle.domain_asks.specs.Starving.{starved}
+use Rattle.domain_asks.specs.PhaseCopying.{plan_after, with_answer, with_copy}
+use Rattle.domain_asks.proofs.Writing.{in_written}
 use Rattle.domain_driver.specs.Fits.{FitsPhase}
 use Rattle.domain_driver.specs.declared.phases.PhaseParts.{PhaseParts}
 use Rattle.domain_driver.specs.declared.phases.PhaseParts.TheVariants as made_for

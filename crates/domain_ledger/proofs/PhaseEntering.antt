@@ -14,15 +14,15 @@ use Rattle.domain_spec.specs.Legal.{IsLawful}
 use Rattle.domain_spec.specs.PhaseAsks.{copied_bytes}
 use Rattle.core_rules.specs.declared.next.Next.TheVariants as next
 use Rattle.core_rules.specs.Next.{is_ask}
-use Rattle.ask_course.specs.Along.{Asked}
-use Rattle.ask_course.specs.Copying.{written}
-use Rattle.ask_course.specs.Starving.{AreAsks, next_in, starved}
-use Rattle.call_away.specs.AwayLaws.{made}
-use Rattle.phase_away.specs.Copying.{plan_after, with_answer}
+use Rattle.domain_asks.specs.Along.{Asked}
+use Rattle.domain_asks.specs.Copying.{written}
+use Rattle.domain_asks.specs.Starving.{AreAsks, next_in, starved}
+use Rattle.domain_asks.specs.AwayLaws.{made}
+use Rattle.domain_asks.specs.PhaseCopying.{plan_after, with_answer}
 use Rattle.domain_driver.specs.declared.phases.PhaseParts.{PhaseParts}
 use Rattle.domain_history.specs.Closing.{CanPhase, phased_in}
 use Rattle.domain_history.specs.Standing.{HistoryWithRoom}
-use Rattle.domain_tidy.specs.Guests.{HasOwnGuest}
+use Rattle.domain_asks.specs.Guests.{HasOwnGuest}
 use Rattle.virt_types.specs.Room.{Roomy}
 use Rattle.domain_ledger.specs.Away.{HasCopyRoom, HasPhaseRooms, IsOut}
 use Rattle.domain_ledger.specs.Ledger.{step_in, with_marks}

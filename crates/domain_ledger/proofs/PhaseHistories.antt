@@ -24,22 +24,22 @@ use Rattle.domain_spec.specs.Reading.{carries_ended, live_boot}
 use Rattle.core_rules.specs.declared.next.Next.{Next}
 use Rattle.core_rules.specs.declared.next.Next.TheVariants as next
 use Rattle.core_rules.specs.Next.{is_ask, next_of}
-use Rattle.ask_course.specs.Along.{Asked}
-use Rattle.ask_course.specs.Starving.{AreAsks, next_in, starved}
-use Rattle.call_away.specs.AwayLaws.{made}
-use Rattle.phase_away.specs.Copying.{with_answer}
-use Rattle.phase_away.specs.PhaseAway.{IsPhaseAway}
-use Rattle.phase_away.specs.PhaseGoing.{IsPhaseAnswered, IsPhaseNow}
-use Rattle.phase_away.specs.PhaseLaws.{IsPhasedBy}
-use Rattle.phase_away.proofs.Going.{first_phase_is_away, first_phase_is_done, is_phased_then, phase_stays_away}
-use Rattle.phase_away.proofs.Phasing.{is_phased_ended, is_phased_starved}
+use Rattle.domain_asks.specs.Along.{Asked}
+use Rattle.domain_asks.specs.Starving.{AreAsks, next_in, starved}
+use Rattle.domain_asks.specs.AwayLaws.{made}
+use Rattle.domain_asks.specs.PhaseCopying.{with_answer}
+use Rattle.domain_asks.specs.PhaseAway.{IsPhaseAway}
+use Rattle.domain_asks.specs.PhaseGoing.{IsPhaseAnswered, IsPhaseNow}
+use Rattle.domain_asks.specs.PhaseLaws.{IsPhasedBy}
+use Rattle.domain_asks.proofs.PhaseGoing.{first_phase_is_away, first_phase_is_done, is_phased_then, phase_stays_away}
+use Rattle.domain_asks.proofs.Phasing.{is_phased_ended, is_phased_starved}
 use Rattle.domain_driver.specs.Fits.{FitsPhase}
 use Rattle.domain_driver.specs.declared.phases.PhaseParts.{PhaseParts}
 use Rattle.domain_history.specs.Closing as chapter
 use Rattle.domain_history.specs.Closing.{CanPhase, due_of, phased_in, phased_of}
 use Rattle.domain_history.specs.Numbered.{all_numbered}
 use Rattle.domain_history.specs.Standing.{HistoryWithRoom, in_force}
-use Rattle.domain_tidy.specs.Guests.{HasOwnGuest}
+use Rattle.domain_asks.specs.Guests.{HasOwnGuest}
 use Rattle.domain_ledger.specs.Away.{HasCopyRoom, HasPhaseRooms, IsOut, IsPhaseKept, IsPhaseOut}
 use Rattle.domain_ledger.specs.Ledger.{Chaptered, IsPhaseClosed, IsPhaseLawful, loss, phase_closing, phased_by, step_in, with_marks}
 use Rattle.domain_ledger.specs.Operations.{IsFirstOf, unasked}

@@ -5,10 +5,10 @@ use Rattle.domain_spec.specs.declared.open.OpenJob.{OpenJob}
 use Rattle.domain_spec.specs.declared.open.OpenOperation.{OpenOperation}
 use Rattle.domain_spec.specs.declared.planned.PlannedAsk.{PlannedAsk}
 use Rattle.domain_spec.specs.declared.standing.Standing.{Standing}
-use Rattle.ask_course.specs.Along.{Asked}
-use Rattle.ask_course.specs.Copying.{writes_second}
-use Rattle.call_away.specs.Away.{IsAway}
-use Rattle.phase_away.specs.PhaseAway.{IsPhaseAway}
+use Rattle.domain_asks.specs.Along.{Asked}
+use Rattle.domain_asks.specs.Copying.{writes_second}
+use Rattle.domain_asks.specs.Away.{IsAway}
+use Rattle.domain_asks.specs.PhaseAway.{IsPhaseAway}
 use Rattle.domain_driver.specs.Fits.{FitsCall, FitsPhase}
 use Rattle.domain_ledger.specs.declared.away.Away.{Away}
 use Rattle.domain_ledger.specs.declared.out.Out.{Out}

@@ -5,8 +5,8 @@ use Rattle.domain_spec.specs.declared.standing.Standing.{Standing}
 use Rattle.domain_spec.specs.Sequential.{goes_on_as_operation}
 use Rattle.domain_spec.specs.TakeUp.{takes_it_up}
 use Rattle.core_rules.specs.declared.next.Next.TheVariants as next
-use Rattle.ask_course.specs.Starving.{next_in}
-use Rattle.call_away.specs.Going.{first_course}
+use Rattle.domain_asks.specs.Starving.{next_in}
+use Rattle.domain_asks.specs.Going.{first_course}
 use Rattle.domain_ledger.specs.declared.begin_turns.Copies.{Copies}
 
 -- the call asks nothing, begins nothing and takes nothing up

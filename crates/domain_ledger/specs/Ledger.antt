@@ -22,12 +22,12 @@ use Rattle.domain_spec.specs.Sequential.{meets_ended, seq}
 use Rattle.domain_spec.specs.TakeUp.{step_at}
 use Rattle.domain_spec.specs.Types.reason
 use Rattle.core_rules.specs.declared.next.Next.TheVariants as next
-use Rattle.ask_course.specs.Along.{Asked, answered}
-use Rattle.ask_course.specs.Starving.{next_in, starved}
-use Rattle.call_away.specs.Away.{IsUnsent}
-use Rattle.call_away.specs.AwayLaws.{made}
-use Rattle.call_away.specs.Going.{first_course}
-use Rattle.phase_away.specs.Copying.{with_answer}
+use Rattle.domain_asks.specs.Along.{Asked, answered}
+use Rattle.domain_asks.specs.Starving.{next_in, starved}
+use Rattle.domain_asks.specs.Away.{IsUnsent}
+use Rattle.domain_asks.specs.AwayLaws.{made}
+use Rattle.domain_asks.specs.Going.{first_course}
+use Rattle.domain_asks.specs.PhaseCopying.{with_answer}
 use Rattle.domain_history.specs.Closing.{due_of}
 use Rattle.domain_ledger.specs.declared.ledger.Back.{Back}
 use Rattle.domain_ledger.specs.declared.ledger.Back.TheVariants as back

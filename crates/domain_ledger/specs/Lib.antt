@@ -1,7 +1,9 @@
 pub mod Away
 pub mod BeginTurn
 pub mod Ledger
+pub mod Operated
 pub mod Operations
 pub mod PhaseTurn
 pub mod Told
 pub mod Turn
+pub mod Turned

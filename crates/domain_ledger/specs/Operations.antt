@@ -13,10 +13,10 @@ use Rattle.domain_spec.specs.Reading.{live_boot}
 use Rattle.domain_spec.specs.Refusals.{no_memory}
 use Rattle.domain_spec.specs.Sequential.{goes_on_as_operation}
 use Rattle.domain_spec.specs.TakeUp.{takes_it_up}
-use Rattle.ask_course.specs.Along.{Asked}
-use Rattle.ask_course.specs.Starving.{starved}
-use Rattle.call_away.specs.Going.{first_course}
-use Rattle.phase_away.specs.PhaseGoing.{first_phase}
+use Rattle.domain_asks.specs.Along.{Asked}
+use Rattle.domain_asks.specs.Starving.{starved}
+use Rattle.domain_asks.specs.Going.{first_course}
+use Rattle.domain_asks.specs.PhaseGoing.{first_phase}
 use Rattle.domain_ledger.specs.Ledger.{Chaptered, IsAsking, IsClosed, IsPhaseClosed, Ledgered, admitted, now_in, standing_in, with_marks}
 use Rattle.domain_ledger.specs.declared.ledger.Begun.{Begun}
 use Rattle.domain_ledger.specs.declared.ledger.Begun.TheVariants as begun

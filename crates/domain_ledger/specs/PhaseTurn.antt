@@ -8,10 +8,10 @@ use Rattle.domain_spec.specs.declared.standing.Standing.{Standing}
 use Rattle.domain_spec.specs.Asks.{is_ended_answer}
 use Rattle.domain_spec.specs.Reading.{carries_ended, live_boot}
 use Rattle.core_rules.specs.declared.next.Next.TheVariants as next
-use Rattle.ask_course.specs.Along.{Asked}
-use Rattle.ask_course.specs.Starving.{AreAsks, next_in, starved}
-use Rattle.call_away.specs.AwayLaws.{made}
-use Rattle.phase_away.specs.Copying.{with_answer}
+use Rattle.domain_asks.specs.Along.{Asked}
+use Rattle.domain_asks.specs.Starving.{AreAsks, next_in, starved}
+use Rattle.domain_asks.specs.AwayLaws.{made}
+use Rattle.domain_asks.specs.PhaseCopying.{with_answer}
 use Rattle.domain_driver.specs.Fits.{FitsPhase}
 use Rattle.domain_driver.specs.declared.phases.PhaseParts.{PhaseParts}
 use Rattle.domain_history.specs.Closing.{CanPhase, phased_in}

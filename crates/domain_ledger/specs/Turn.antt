@@ -6,10 +6,10 @@ use Rattle.domain_spec.specs.declared.open.OpenJob.{OpenJob}
 use Rattle.domain_spec.specs.declared.standing.Standing.{Standing}
 use Rattle.domain_spec.specs.Sequential.{meets_ended}
 use Rattle.core_rules.specs.declared.next.Next.TheVariants as next
-use Rattle.ask_course.specs.Along.{Asked, answered}
-use Rattle.ask_course.specs.Starving.{AreAsks, next_in, starved}
-use Rattle.call_away.specs.AwayLaws.{made}
-use Rattle.call_away.specs.Going.{first_course}
+use Rattle.domain_asks.specs.Along.{Asked, answered}
+use Rattle.domain_asks.specs.Starving.{AreAsks, next_in, starved}
+use Rattle.domain_asks.specs.AwayLaws.{made}
+use Rattle.domain_asks.specs.Going.{first_course}
 use Rattle.domain_driver.specs.Fits.{FitsCall}
 use Rattle.domain_driver.specs.declared.calls.CallParts.{CallParts}
 use Rattle.domain_history.specs.Closing.{CanDo, done_in, told_in}

@@ -3,10 +3,9 @@ ghost use Rattle.std.specs.Prelude.{◌≡◌, ◌≤◌, ◌<◌, [], IfOk};
 ghost use Rattle.domain_driver.specs.Fits.{FitsCall};
 ghost use Rattle.domain_ledger.specs.Away.{HasRooms};
 ghost use Rattle.domain_ledger.specs.Turn.{IsReady};
-ghost use Rattle.domain_tidy.specs.Tidy.{planned};
+ghost use Rattle.domain_asks.specs.Tidy.{planned};
 
-use ask_course::Course;
-use call_plan::course_of;
+use domain_asks::{Course, course_of};
 use domain_driver::{CallParts, parts};
 use std::alloc::Global;
 use virt_types::{Call, NoMemory, RoomyList, State, TransitionList, TryCopy, both};

@@ -5,7 +5,7 @@ ghost use Rattle.domain_spec.specs.Legal.{IsLawful};
 ghost use Rattle.domain_spec.specs.Sequential.{goes_on_as_operation};
 ghost use Rattle.domain_spec.specs.TakeUp.{rests_for, takes_it_up};
 ghost use Rattle.domain_spec.specs.declared.mark.Mark.TheVariants as mark;
-ghost use Rattle.call_away.specs.Going.{first_course};
+ghost use Rattle.domain_asks.specs.Going.{first_course};
 ghost use Rattle.domain_ledger.specs.BeginTurn.{AreCopies, IsRefusedNow};
 ghost use Rattle.domain_ledger.specs.Ledger.{IsClosed, admitted, with_marks};
 ghost use Rattle.domain_ledger.specs.Turn.{IsReady, force_in, shown};

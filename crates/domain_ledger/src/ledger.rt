@@ -14,8 +14,8 @@ ghost use Rattle.domain_ledger.specs.Ledger.{GoesBack, LetsIn, MayAnswer, StaysA
 ghost use Rattle.domain_ledger.specs.Operations.{Begins, EntersPhase, IsToldAtEnd, MayPhase, TakesUp};
 ghost use Rattle.domain_ledger.specs.Told.{told_last, told_of};
 ghost use Rattle.domain_ledger.specs.Turn.{force_in};
-ghost use Rattle.domain_tidy.specs.Guests.{HasOwnGuest};
-ghost use Rattle.domain_tidy.specs.Tidy.{IsTidy};
+ghost use Rattle.domain_asks.specs.Guests.{HasOwnGuest};
+ghost use Rattle.domain_asks.specs.Tidy.{IsTidy};
 
 use crate::away::prepare;
 use crate::begin_turns::{begin, copied, refuse, take_up, takes_it_up};
@@ -24,11 +24,10 @@ use crate::out::Out;
 use crate::phase_out::{Step, prepare_phase};
 use crate::phase_turns::{PhaseTurn, enter_phase, resume_phase};
 use crate::turns::{Turn, enter, resume};
-use domain_history::{Chapter, Chronicle, KeptRegistration, LetIn, Underway};
+use domain_history::{Chapter, Chronicle, KeptRegistration, LetIn, Underway, goes_on};
 use domain_spec::{HeldJobs, Mark};
 use domain_state::exit_event;
 use history_spec::Stamp;
-use operation_calls::goes_on;
 use std::alloc::Global;
 use std::marker::Model;
 use std::mem;

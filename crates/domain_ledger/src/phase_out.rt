@@ -3,10 +3,10 @@ ghost use Rattle.std.specs.Prelude.{◌≡◌, [], IfOk, Some, true};
 ghost use Rattle.domain_spec.specs.Asks.{value_of};
 ghost use Rattle.domain_spec.specs.PhaseAsks.{copied_bytes};
 ghost use Rattle.core_rules.specs.Next.{is_ask};
-ghost use Rattle.ask_course.specs.Copying.{written};
-ghost use Rattle.ask_course.specs.Starving.{next_in};
-ghost use Rattle.phase_away.specs.Copying.{plan_after, with_answer};
-ghost use Rattle.phase_away.specs.PhaseGoing.{first_phase};
+ghost use Rattle.domain_asks.specs.Copying.{written};
+ghost use Rattle.domain_asks.specs.Starving.{next_in};
+ghost use Rattle.domain_asks.specs.PhaseCopying.{plan_after, with_answer};
+ghost use Rattle.domain_asks.specs.PhaseGoing.{first_phase};
 ghost use Rattle.domain_driver.specs.Fits.{FitsPhase};
 ghost use Rattle.domain_ledger.specs.Away.{HasCopyRoom, HasPhaseRooms};
 ghost use Rattle.domain_ledger.specs.Operations.{IsFirstOf};
@@ -14,12 +14,11 @@ ghost use Rattle.domain_ledger.specs.PhaseTurn.{IsMadeFor, IsPhaseReady, IsReady
 ghost use Rattle.domain_ledger.specs.Turn.{force_in};
 
 use crate::away::rooms;
-use ask_course::Course;
 use core_rules::{StateRoom, live_boot};
+use domain_asks::{Course, phase_course_of};
 use domain_driver::{PhaseParts, phase_parts};
 use domain_history::Chapter;
 use domain_spec::OpenOperation;
-use phase_plan::course_of;
 use std::alloc::Global;
 use virt_types::{Answer, Bytes, Call, NoMemory, State, TransitionList, TryCopy, both};
 
@@ -118,7 +117,7 @@ fn planned(
     ensures course { IfOk result (λ made. made.0 ≡ first_phase state.now operation.now) }
     ensures copy { IfOk result (λ made. HasCopyRoom made.0.answers made.0.plan made.1) }
 {
-    match course_of(alloc, state, operation) {
+    match phase_course_of(alloc, state, operation) {
         Ok(course) => match copy_room(alloc, &course) {
             Ok(copy) => Ok((course, copy)),
             Err(e) => Err(e),

@@ -1,6 +1,6 @@
 // The turns of an open phase, over the chapter.
 ghost use Rattle.std.specs.Prelude.{◌≡◌, ◌≤◌, ◌+◌, ◌++◌, None, Some};
-ghost use Rattle.call_away.specs.AwayLaws.{made};
+ghost use Rattle.domain_asks.specs.AwayLaws.{made};
 ghost use Rattle.domain_history.specs.Closing.{CanPhase, phased_in};
 ghost use Rattle.domain_ledger.specs.Away.{HasPhaseRooms, IsOut};
 ghost use Rattle.domain_ledger.specs.Ledger.{step_in, step_to};
@@ -8,7 +8,7 @@ ghost use Rattle.domain_ledger.specs.Operations.{MayPhase};
 ghost use Rattle.domain_ledger.specs.PhaseTurn.{CanPhaseOn, IsPhaseReady, MayAnswerPhase, PhaseEnters, PhaseResumes, PhaseStaysAway, PhaseTurnsTo, phase_is_over};
 ghost use Rattle.domain_ledger.specs.Turn.{force_in};
 ghost use Rattle.domain_ledger.specs.declared.out.Out.TheVariants as out;
-ghost use Rattle.domain_tidy.specs.Guests.{HasOwnGuest};
+ghost use Rattle.domain_asks.specs.Guests.{HasOwnGuest};
 
 use crate::phase_out::{PhaseOut, PhaseReady, Step};
 use core_rules::carries_ended;

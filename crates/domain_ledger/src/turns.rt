@@ -3,7 +3,7 @@ ghost use Rattle.std.specs.Prelude.{◌≡◌, ◌≤◌, ◌+◌, ◌++◌, Non
 ghost use Rattle.domain_spec.specs.Call.{begins, job_of, takes_up};
 ghost use Rattle.domain_spec.specs.Legal.{IsLawful};
 ghost use Rattle.domain_spec.specs.declared.mark.Mark.TheVariants as mark;
-ghost use Rattle.call_away.specs.AwayLaws.{made};
+ghost use Rattle.domain_asks.specs.AwayLaws.{made};
 ghost use Rattle.domain_history.specs.Closing.{CanDo, done_in, told_in};
 ghost use Rattle.domain_ledger.specs.Away.{HasRooms, IsOut};
 ghost use Rattle.domain_ledger.specs.Turn.{CanGoOn, Enters, IsReady, MayAnswerCall, Resumes, StaysAway, TurnsTo, force_in, is_over};

@@ -1,12 +1,12 @@
 -- Where a call left its last mark, and what its pass has seen.
 use Rattle.std.specs.Prelude.{◌≡◌, false, Option, None, Some}
 use Rattle.virt_types.specs.declared.caller.Front.{Front}
-use Rattle.domain_calls.specs.InTurn.{DomainPass}
-use Rattle.domain_calls.specs.Running.{IsSeen}
-use Rattle.domain_hearing.specs.declared.ends.Hushed.{Hushed}
-use Rattle.domain_hearing.specs.declared.ends.Hushed.TheVariants as hushed
-use Rattle.domain_calls.specs.declared.place.Seen.{Seen}
-use Rattle.domain_obj.specs.declared.place.At.{At}
+use Rattle.domain_obj.specs.InTurn.{DomainPass}
+use Rattle.domain_obj.specs.Running.{IsSeen}
+use Rattle.domain_obj.specs.declared.ends.Hushed.{Hushed}
+use Rattle.domain_obj.specs.declared.ends.Hushed.TheVariants as hushed
+use Rattle.domain_obj.specs.declared.place.Seen.{Seen}
+use Rattle.domain_obj.specs.declared.places.At.{At}
 
 -- the place of the last mark; where there is none, how far the pass has seen
 abbrev pub place_or : Option Front → Front → Front

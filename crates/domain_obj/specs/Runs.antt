@@ -2,16 +2,16 @@
 use Rattle.std.specs.Prelude.{◌≡◌, ℕ, List, Option}
 use Rattle.domain_spec.specs.Types.{Answer, Ask, Call, Reply, Who}
 use Rattle.virt_types.specs.declared.ask.GuestEvent.{GuestEvent}
-use Rattle.domain_calls.specs.InTurn.{DomainPass}
-use Rattle.domain_hearing.specs.Hearing.{HasHushed, HasLeft}
-use Rattle.domain_hearing.specs.declared.ends.Hushed.{Hushed}
+use Rattle.domain_obj.specs.InTurn.{DomainPass}
+use Rattle.domain_obj.specs.Hearing.{HasHushed, HasLeft}
+use Rattle.domain_obj.specs.declared.ends.Hushed.{Hushed}
 use Rattle.domain_obj.specs.Places.{IsAt}
 use Rattle.domain_obj.specs.Replies.{TellsCalled, TellsOperated, called_at, operated_at}
-use Rattle.domain_obj.specs.declared.place.At.{At}
-use Rattle.domain_runs.specs.Called.{HasCalled}
-use Rattle.domain_runs.specs.Operated.{HasOperated}
-use Rattle.domain_runs.specs.declared.ending.Called.{Called}
-use Rattle.domain_runs.specs.declared.operating.operation.Operated.{Operated}
+use Rattle.domain_obj.specs.declared.places.At.{At}
+use Rattle.domain_obj.specs.Called.{HasCalled}
+use Rattle.domain_obj.specs.Operated.{HasOperated}
+use Rattle.domain_obj.specs.declared.ending.Called.{Called}
+use Rattle.domain_obj.specs.declared.operating.operation.Operated.{Operated}
 
 module _ {E : Type 0} (ends faults : E → ℕ) (unheard : E → Option (List GuestEvent)) where
   -- the call came to this; then the pass heard the guest; its caller is told what came of it, and where

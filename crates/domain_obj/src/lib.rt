@@ -1,9 +1,45 @@
-//! A domain, at which calls take turns: each call of a pass is done in turns of its own, and holds none while it asks.
+//! A domain, at which calls take turns: each call of a pass is done in turns of its own, from its first look to its end, and
+//! holds none while it asks; and a pass hears the guest.
 #![tactic(auto)]
 
+mod asking;
+mod attempting;
+mod attempts;
+mod calls;
+mod ending;
+mod ends;
+mod finishing;
+mod hearing;
+mod lending;
+mod next;
 mod object;
+mod once;
+mod operating;
 mod place;
+mod places;
+mod queries;
 mod replies;
+mod running;
+mod said;
+mod telling;
+mod turns;
 
+pub use asking::Desk;
+pub use calls::{Answered, answer_once};
+pub use domain_cell::{Ticket, takes_up};
+pub use ending::Called;
+pub use ends::Hushed;
+pub use finishing::{Finished, finish};
+pub use hearing::hear;
+pub use next::{Next, next_in};
 pub use object::DomainObj;
-pub use place::At;
+pub use operating::operation::{Operated, run_operation};
+pub use place::Seen;
+pub use places::At;
+pub use queries::{Queried, query};
+pub use running::run_call;
+pub use said::Told;
+pub use turns::{
+    DomainPass, DomainTurn, back_in, end_long_chapter, give_up_in, last_in, look_in, occupied_in,
+    read_in, seen_in, told_legal,
+};

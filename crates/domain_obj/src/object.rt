@@ -2,22 +2,20 @@
 ghost use Rattle.std.specs.Prelude.{◌≡◌, ◌≤◌, ◌<◌, ◌^◌, ◌+◌, ◌-◌, IfErr, IfOk, None, false, true};
 ghost use Rattle.domain_cell.specs.Celled.{new_cell};
 ghost use Rattle.domain_cell.specs.Meaning.{meaning};
-ghost use Rattle.domain_calls.specs.Running.{HasQueried};
-ghost use Rattle.domain_calls.specs.Running.{IsReady};
-ghost use Rattle.domain_hearing.specs.Hearing.{HasHushed, HasLeft};
+ghost use Rattle.domain_obj.specs.Running.{HasQueried};
+ghost use Rattle.domain_obj.specs.Running.{IsReady};
+ghost use Rattle.domain_obj.specs.Hearing.{HasHushed, HasLeft};
 ghost use Rattle.domain_obj.specs.Runs.{HasRun, HasRunOperation};
-ghost use Rattle.domain_runs.specs.Entering.{Operates};
+ghost use Rattle.domain_obj.specs.Entering.{Operates};
 ghost use Rattle.domain_spec.specs.Call.{begins, takes_up};
 ghost use Rattle.history_spec.specs.Chapter.{GoesOn, added};
 ghost use Rattle.history_spec.specs.Pass.{AreOf};
 ghost use Rattle.turn_cell.specs.Passes.{Closes, Enters, IsCutOff, IsFirst, SameShare, joined, left_by, turns_of_all};
 
-use crate::place::{At, place_at, seen_by};
+use crate::places::{At, place_at, seen_by};
 use crate::replies::{told_of_call, told_of_operation};
-use domain_calls::{Desk, DomainPass, DomainTurn, Queried, query};
+use crate::{Desk, DomainPass, DomainTurn, Hushed, Queried, hear, query, run_call, run_operation};
 use domain_cell::DomainCell;
-use domain_hearing::{Hushed, hear};
-use domain_runs::{run_call, run_operation};
 use monitor_link::{Ears, Killer, Monitor};
 use std::alloc::Global;
 use std::marker::Model;

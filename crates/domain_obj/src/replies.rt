@@ -2,7 +2,7 @@
 ghost use Rattle.std.specs.Prelude.{◌≡◌};
 ghost use Rattle.domain_obj.specs.Replies.{TellsCalled, TellsOperated, TellsSpent, called_at, operated_at};
 
-use domain_runs::{Called, Operated};
+use crate::{Called, Operated};
 use refusal_replies::{ReplyRoom, no_memory};
 use std::alloc::Global;
 use virt_types::{Front, NoMemory, Reply};

@@ -10,24 +10,24 @@ use Rattle.domain_spec.specs.declared.mark.Mark.TheVariants as mark
 use Rattle.domain_spec.specs.declared.step.Outcome.{Outcome}
 use Rattle.domain_spec.specs.declared.step.Outcome.TheVariants as outcome
 use Rattle.domain_spec.specs.Call.{job_of}
-use Rattle.domain_calls.specs.InTurn.{DomainPass}
-use Rattle.domain_calls.specs.Placing.{IsPlaced}
-use Rattle.domain_calls.specs.Refusing.{IsRefusedSo}
-use Rattle.domain_calls.specs.Running.{Goes, IsSpent}
-use Rattle.domain_calls.proofs.Placing.{placed_later}
-use Rattle.domain_ledger.specs.Operations.{IsToldAtEnd}
+use Rattle.domain_obj.specs.InTurn.{DomainPass}
+use Rattle.domain_obj.specs.Placing.{IsPlaced}
+use Rattle.domain_obj.specs.Refusing.{IsRefusedSo}
+use Rattle.domain_obj.specs.Running.{Goes, IsSpent}
+use Rattle.domain_obj.proofs.Placing.{placed_later}
+use Rattle.domain_obj.specs.OfCells.{IsToldAtEnd}
 use Rattle.domain_obj.specs.Places.{place_or}
-use Rattle.domain_obj.specs.declared.place.At.{At}
+use Rattle.domain_obj.specs.declared.places.At.{At}
 use Rattle.domain_obj.specs.Replies.{TellsCalled, TellsOperated, called_at, operated_at}
-use Rattle.domain_runs.specs.Called.{HasCalled}
-use Rattle.domain_runs.specs.Entered.{IsFirst, begun_by}
-use Rattle.domain_runs.specs.Operated.{HasOperated}
-use Rattle.domain_runs.specs.Phases.{LeadsTo, marks_of_all}
-use Rattle.domain_runs.specs.Phasing.{PhaseDone, marks_of, phase_mark}
-use Rattle.domain_runs.specs.declared.ending.Called.{Called}
-use Rattle.domain_runs.specs.declared.ending.Called.TheVariants as called
-use Rattle.domain_runs.specs.declared.operating.operation.Operated.{Operated}
-use Rattle.domain_runs.specs.declared.operating.operation.Operated.TheVariants as operated
+use Rattle.domain_obj.specs.Called.{HasCalled}
+use Rattle.domain_obj.specs.Entered.{IsFirst, begun_by}
+use Rattle.domain_obj.specs.Operated.{HasOperated}
+use Rattle.domain_obj.specs.Phases.{LeadsTo, marks_of_all}
+use Rattle.domain_obj.specs.Phasing.{PhaseDone, marks_of, phase_mark}
+use Rattle.domain_obj.specs.declared.ending.Called.{Called}
+use Rattle.domain_obj.specs.declared.ending.Called.TheVariants as called
+use Rattle.domain_obj.specs.declared.operating.operation.Operated.{Operated}
+use Rattle.domain_obj.specs.declared.operating.operation.Operated.TheVariants as operated
 use Rattle.outcome_spec.specs.Done.{IsCallOf, IsDone, call_in, reply_of, rest_of}
 use Rattle.outcome_spec.specs.Marks.{HasLeft}
 use Rattle.reply_texts.specs.Printed.{told}

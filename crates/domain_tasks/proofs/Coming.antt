@@ -2,16 +2,16 @@
 use Rattle.std.proofs.Common.{◌≡◌, ℕ, List, []}
 use Rattle.domain_spec.specs.Types.{Answer, Ask, Call, Who}
 use Rattle.domain_spec.specs.declared.mark.Mark.{Mark}
-use Rattle.domain_calls.specs.InTurn.{DomainPass}
-use Rattle.domain_calls.specs.Running.{Goes, IsReady, IsSpent}
-use Rattle.domain_hearing.specs.Hearing.{HasLeft}
-use Rattle.domain_hearing.specs.declared.ends.Hushed.{Hushed}
-use Rattle.domain_runs.specs.Called.{HasCalled}
-use Rattle.domain_runs.specs.Operated.{HasOperated}
-use Rattle.domain_runs.specs.declared.ending.Called.{Called}
-use Rattle.domain_runs.specs.declared.ending.Called.TheVariants as called
-use Rattle.domain_runs.specs.declared.operating.operation.Operated.{Operated}
-use Rattle.domain_runs.specs.declared.operating.operation.Operated.TheVariants as operated
+use Rattle.domain_obj.specs.InTurn.{DomainPass}
+use Rattle.domain_obj.specs.Running.{Goes, IsReady, IsSpent}
+use Rattle.domain_obj.specs.Hearing.{HasLeft}
+use Rattle.domain_obj.specs.declared.ends.Hushed.{Hushed}
+use Rattle.domain_obj.specs.Called.{HasCalled}
+use Rattle.domain_obj.specs.Operated.{HasOperated}
+use Rattle.domain_obj.specs.declared.ending.Called.{Called}
+use Rattle.domain_obj.specs.declared.ending.Called.TheVariants as called
+use Rattle.domain_obj.specs.declared.operating.operation.Operated.{Operated}
+use Rattle.domain_obj.specs.declared.operating.operation.Operated.TheVariants as operated
 use Rattle.domain_tasks.proofs.Following.{Follows, Keeps, follows_left, follows_spent, follows_still, keeps_left, keeps_on, keeps_spent, of_goes, ready_left, ready_spent, ready_stays}
 
 -- it left some marks, keeps what it had as long as a ticket is left, and may call again if it might before

@@ -4,13 +4,13 @@ use Rattle.history_spec.specs.Begins.{Begins}
 use Rattle.history_spec.proofs.Beginnings.{begins_itself, begins_through}
 use Rattle.domain_spec.specs.Chapter.{rising_number}
 use Rattle.domain_spec.specs.declared.mark.Mark.{Mark}
-use Rattle.domain_cell.specs.Celled.{CellShare}
-use Rattle.domain_cell.specs.Keeping.{no_mark_lowers}
-use Rattle.domain_calls.specs.InTurn.{DomainPass}
-use Rattle.domain_calls.specs.Running.{DomainHistory, Goes, IsAtRest, IsReady, IsSpent}
-use Rattle.domain_hearing.specs.Hearing.{HasLeft}
-use Rattle.domain_hearing.specs.declared.ends.Hushed.{Hushed}
-use Rattle.domain_hearing.specs.declared.ends.Hushed.TheVariants as hushed
+use Rattle.domain_obj.specs.OfCells.{CellShare}
+use Rattle.domain_obj.specs.OfCells.{no_mark_lowers}
+use Rattle.domain_obj.specs.InTurn.{DomainPass}
+use Rattle.domain_obj.specs.Running.{DomainHistory, Goes, IsAtRest, IsReady, IsSpent}
+use Rattle.domain_obj.specs.Hearing.{HasLeft}
+use Rattle.domain_obj.specs.declared.ends.Hushed.{Hushed}
+use Rattle.domain_obj.specs.declared.ends.Hushed.TheVariants as hushed
 use Rattle.outcome_spec.specs.Rows.{IsLater}
 use Rattle.turn_cell.specs.Turning.{SamePass}
 use Rattle.domain_tasks.specs.Passes.{known}

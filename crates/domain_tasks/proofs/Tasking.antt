@@ -7,12 +7,12 @@ use Rattle.history_spec.proofs.Beginnings.{begins_itself}
 use Rattle.domain_spec.specs.Chapter.{rising_number}
 use Rattle.domain_spec.specs.Read.{read}
 use Rattle.domain_spec.specs.Types.{Answer, Ask, Call, Reply, Who}
-use Rattle.domain_calls.specs.InTurn.{DomainPass}
-use Rattle.domain_calls.specs.Running.{HasQueried, IsReady, IsSeen, Reads, standing_after}
-use Rattle.domain_calls.specs.declared.place.Seen.{Seen}
-use Rattle.domain_calls.specs.declared.queries.Queried.{Queried}
-use Rattle.domain_calls.specs.declared.queries.Queried.TheVariants as queried
-use Rattle.domain_obj.specs.declared.place.At.{At}
+use Rattle.domain_obj.specs.InTurn.{DomainPass}
+use Rattle.domain_obj.specs.Running.{HasQueried, IsReady, IsSeen, Reads, standing_after}
+use Rattle.domain_obj.specs.declared.place.Seen.{Seen}
+use Rattle.domain_obj.specs.declared.queries.Queried.{Queried}
+use Rattle.domain_obj.specs.declared.queries.Queried.TheVariants as queried
+use Rattle.domain_obj.specs.declared.places.At.{At}
 use Rattle.domain_requests.specs.declared.task.Task.{Task}
 use Rattle.domain_requests.specs.declared.task.Task.TheVariants as task
 use Rattle.outcome_spec.specs.Histories.{front_of}

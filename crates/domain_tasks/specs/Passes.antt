@@ -1,5 +1,5 @@
 -- What is known of a pass of a domain, as outcomes speak of it.
-use Rattle.domain_calls.specs.InTurn.{DomainPass}
+use Rattle.domain_obj.specs.InTurn.{DomainPass}
 use Rattle.outcome_spec.specs.Rows.{DomainPass as KnownPass}
 
 -- its number, what it has seen, its own marks, and whether no ticket is left

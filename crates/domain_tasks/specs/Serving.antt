@@ -1,14 +1,14 @@
 -- What a task came to in a domain: a query was read, or a call run.
 use Rattle.std.specs.Prelude.{◌≡◌, ◌⊎◌, ℕ, List, IfSome, Option, None, Some}
-use Rattle.domain_calls.specs.InTurn.{DomainPass}
-use Rattle.domain_calls.specs.Running.{HasQueried}
-use Rattle.domain_calls.specs.declared.place.Seen.{Seen}
-use Rattle.domain_calls.specs.declared.queries.Queried.{Queried}
+use Rattle.domain_obj.specs.InTurn.{DomainPass}
+use Rattle.domain_obj.specs.Running.{HasQueried}
+use Rattle.domain_obj.specs.declared.place.Seen.{Seen}
+use Rattle.domain_obj.specs.declared.queries.Queried.{Queried}
 use Rattle.domain_obj.specs.Runs.{HasRun, HasRunOperation}
-use Rattle.domain_obj.specs.declared.place.At.{At}
+use Rattle.domain_obj.specs.declared.places.At.{At}
 use Rattle.domain_requests.specs.declared.task.Task.{Task}
 use Rattle.domain_requests.specs.declared.task.Task.TheVariants as task
-use Rattle.domain_runs.specs.Entering.{Operates}
+use Rattle.domain_obj.specs.Entering.{Operates}
 use Rattle.domain_spec.specs.Call.{begins, takes_up}
 use Rattle.domain_spec.specs.Types.{Answer, Ask, Call, Reply, Who}
 use Rattle.virt_types.specs.declared.ask.GuestEvent.{GuestEvent}

@@ -1,8 +1,8 @@
 -- What a request does with one domain, once its pass is at hand.
 use Rattle.std.specs.Prelude.{◌≡◌, ◌⊎◌, ◌^◌, ℕ, List, decimal, true, false, Option, Some}
-use Rattle.domain_calls.specs.InTurn.{DomainPass}
-use Rattle.domain_calls.specs.Running.{IsReady, IsSeen}
-use Rattle.domain_calls.specs.declared.place.Seen.{Seen}
+use Rattle.domain_obj.specs.InTurn.{DomainPass}
+use Rattle.domain_obj.specs.Running.{IsReady, IsSeen}
+use Rattle.domain_obj.specs.declared.place.Seen.{Seen}
 use Rattle.domain_requests.specs.declared.task.Task.{Task}
 use Rattle.domain_requests.specs.declared.task.Task.TheVariants as task
 use Rattle.domain_spec.specs.Chapter.{rising_number}

@@ -1,8 +1,8 @@
 -- What the caller is told of what the domain said.
 use Rattle.std.specs.Prelude.{◌≡◌, ◌⊎◌, Bool, true, false, Option, None, Some}
-use Rattle.domain_calls.specs.declared.place.Seen.{Seen}
-use Rattle.domain_calls.specs.declared.queries.Queried.{Queried}
-use Rattle.domain_calls.specs.declared.queries.Queried.TheVariants as queried
+use Rattle.domain_obj.specs.declared.place.Seen.{Seen}
+use Rattle.domain_obj.specs.declared.queries.Queried.{Queried}
+use Rattle.domain_obj.specs.declared.queries.Queried.TheVariants as queried
 use Rattle.domain_obj.specs.Replies.{TellsSpent}
 use Rattle.domain_spec.specs.Refusals.{bare}
 use Rattle.refusal_replies.specs.Replies.{no_memory_reply}

@@ -1,13 +1,11 @@
 // A call of a domain.
 ghost use Rattle.std.specs.Prelude.{◌≡◌, ◌⊎◌, None, is_some, false, true};
-ghost use Rattle.domain_calls.specs.Running.{IsReady};
-ghost use Rattle.domain_runs.specs.Entering.{Operates};
+ghost use Rattle.domain_obj.specs.Running.{IsReady};
+ghost use Rattle.domain_obj.specs.Entering.{Operates};
 ghost use Rattle.domain_spec.specs.Call.{begins, takes_up};
 ghost use Rattle.domain_tasks.specs.Serving.{HasCalled, HasDone};
 
-use domain_calls::{Desk, DomainPass, Seen};
-use domain_history::takes_up;
-use domain_obj::{At, DomainObj};
+use domain_obj::{At, Desk, DomainObj, DomainPass, Seen, takes_up};
 use monitor_link::{Ears, Killer, Monitor};
 use std::alloc::Global;
 use std::sync::Wait;

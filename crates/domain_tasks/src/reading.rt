@@ -4,8 +4,7 @@ ghost use Rattle.domain_tasks.specs.Serving.{HasRead};
 ghost use Rattle.domain_tasks.specs.Telling.{TellsQueried, front_by, seen_by};
 
 use crate::telling::spent;
-use domain_calls::{Desk, DomainPass, Queried, Seen};
-use domain_obj::DomainObj;
+use domain_obj::{Desk, DomainObj, DomainPass, Queried, Seen};
 use monitor_link::{Ears, Killer, Monitor};
 use refusal_replies::no_memory;
 use std::alloc::Global;

@@ -1,14 +1,13 @@
 // What a request does with one domain.
 ghost use Rattle.std.specs.Prelude.{◌≡◌};
-ghost use Rattle.domain_calls.specs.Running.{IsReady};
+ghost use Rattle.domain_obj.specs.Running.{IsReady};
 ghost use Rattle.domain_tasks.specs.Serving.{HasServed};
 ghost use Rattle.domain_tasks.specs.Tasked.{HasTasked};
 
 use crate::calling::run;
 use crate::reading::{UNSEEN, read};
 use crate::telling::{not_built, tell};
-use domain_calls::{Desk, DomainPass, Seen};
-use domain_obj::DomainObj;
+use domain_obj::{Desk, DomainObj, DomainPass, Seen};
 use domain_requests::Task;
 use monitor_link::{Ears, Killer, Monitor};
 use std::alloc::Global;

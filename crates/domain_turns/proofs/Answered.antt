@@ -20,9 +20,9 @@ use Rattle.domain_spec.specs.Reading.{is_live}
 use Rattle.domain_spec.specs.Registrations.{with_pending}
 use Rattle.domain_spec.specs.Steps.{AnswersBy, Ends}
 use Rattle.domain_spec.specs.Turns.{AllHaveRoom, AnswersAfter}
-use Rattle.ask_course.specs.Along.{Asked, answered}
-use Rattle.ask_course.specs.Starving.{starved}
-use Rattle.call_turns.proofs.Turned.{starved_find_none}
+use Rattle.domain_asks.specs.Along.{Asked, answered}
+use Rattle.domain_asks.specs.Starving.{starved}
+use Rattle.domain_ledger.proofs.Turned.{starved_find_none}
 use Rattle.domain_ledger.specs.Away.{WaitsWith}
 use Rattle.domain_ledger.specs.Ledger.{Chaptered, answered_as, answered_in, closing, standing_in}
 use Rattle.domain_ledger.specs.Told.{told_last}

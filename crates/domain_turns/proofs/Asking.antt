@@ -14,12 +14,12 @@ use Rattle.domain_spec.specs.Reading.{carries_ended}
 use Rattle.domain_spec.specs.Sequential.{asked, still_asked}
 use Rattle.core_rules.specs.declared.next.Next.TheVariants as next
 use Rattle.core_rules.specs.Next.{next_of}
-use Rattle.ask_course.specs.Along.{Asked}
-use Rattle.ask_course.specs.Starving.{next_in}
-use Rattle.call_away.specs.Away.{IsAway}
-use Rattle.call_away.proofs.Planning.{asked_planned, still_planned}
-use Rattle.phase_away.specs.PhaseAway.{IsPhaseAway}
-use Rattle.phase_away.proofs.Keeping.{is_there}
+use Rattle.domain_asks.specs.Along.{Asked}
+use Rattle.domain_asks.specs.Starving.{next_in}
+use Rattle.domain_asks.specs.Away.{IsAway}
+use Rattle.domain_asks.proofs.Planning.{asked_planned, still_planned}
+use Rattle.domain_asks.specs.PhaseAway.{IsPhaseAway}
+use Rattle.domain_asks.proofs.Keeping.{is_there}
 use Rattle.domain_ledger.specs.Away.{IsPhaseWaiting, WaitsWith}
 use Rattle.domain_ledger.specs.Ledger.{standing_in}
 use Rattle.domain_record.specs.Record.{Recorded, force_of}

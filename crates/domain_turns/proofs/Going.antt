@@ -11,8 +11,8 @@ use Rattle.domain_spec.specs.Registrations.{with_pending}
 use Rattle.domain_spec.specs.Steps.{AnswersBy}
 use Rattle.domain_spec.specs.Turns.{GoOn, GoesOnBy, IsOwn}
 use Rattle.domain_spec.proofs.LawProofs.{standing-append}
-use Rattle.ask_course.specs.Along.{Asked}
-use Rattle.call_turns.proofs.Turned.{done_is_left}
+use Rattle.domain_asks.specs.Along.{Asked}
+use Rattle.domain_ledger.proofs.Turned.{done_is_left}
 use Rattle.domain_ledger.specs.Ledger.{closing}
 use Rattle.domain_ledger.specs.Told.{told_last}
 use Rattle.domain_listeners.specs.Listening.{registrations}

@@ -15,7 +15,7 @@ use Rattle.domain_spec.specs.Fold.{after}
 use Rattle.domain_spec.specs.Kept.{LooksOn, due_events, held_by, left_queue}
 use Rattle.domain_spec.specs.Lawful.{IsRefused}
 use Rattle.domain_spec.specs.Turns.{AllHaveRoom, AnswersAfter}
-use Rattle.ask_course.specs.Along.{Asked}
+use Rattle.domain_asks.specs.Along.{Asked}
 use Rattle.domain_ledger.specs.Away.{WaitsWith}
 use Rattle.domain_ledger.specs.Ledger.{Chaptered, standing_in}
 use Rattle.domain_listeners.specs.Listening.{registrations}

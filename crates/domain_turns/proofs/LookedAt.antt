@@ -16,10 +16,10 @@ use Rattle.domain_spec.specs.Legal.{MarksLoss}
 use Rattle.domain_spec.specs.Registrations.{with_pending}
 use Rattle.domain_spec.specs.Steps.{LetsIn}
 use Rattle.domain_spec.specs.Turns.{AnswersAfter, GoOn}
-use Rattle.ask_course.specs.Along.{Asked}
-use Rattle.ask_course.specs.Starving.{starved}
-use Rattle.call_away.specs.Going.{first_course}
-use Rattle.call_turns.proofs.Turned.{let_in_is_left, starved_find_none}
+use Rattle.domain_asks.specs.Along.{Asked}
+use Rattle.domain_asks.specs.Starving.{starved}
+use Rattle.domain_asks.specs.Going.{first_course}
+use Rattle.domain_ledger.proofs.Turned.{let_in_is_left, starved_find_none}
 use Rattle.domain_ledger.specs.Ledger.{Chaptered, IsDoneLawful, IsTold, closing, standing_in}
 use Rattle.domain_ledger.specs.Told.{told_last}
 use Rattle.domain_listeners.specs.Listening.{registrations}

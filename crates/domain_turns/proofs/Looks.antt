@@ -17,7 +17,7 @@ use Rattle.domain_spec.specs.JobTable.{May}
 use Rattle.domain_spec.specs.Kept.{LooksOn, left_queue}
 use Rattle.domain_spec.specs.Open.{Excludes, MayAdmit, job_held, operation_held}
 use Rattle.domain_spec.specs.Reading.{live_boot}
-use Rattle.ask_course.specs.Along.{Asked}
+use Rattle.domain_asks.specs.Along.{Asked}
 use Rattle.domain_ledger.specs.Ledger.{standing_in}
 use Rattle.domain_queue.specs.Waiting.{callers_in}
 use Rattle.domain_record.specs.Record.{IsAsking, Recorded, admit_of, force_of}

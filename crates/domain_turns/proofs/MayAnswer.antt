@@ -19,10 +19,10 @@ use Rattle.domain_spec.specs.Fold.{after, carries, job_at_exit}
 use Rattle.domain_spec.specs.Lawful.{IsUnsentUntilMade}
 use Rattle.domain_spec.specs.Reading.{boot_in, carries_ended, is_boot_in, is_live, live_boot, live_of}
 use Rattle.domain_spec.specs.Sequential.{meets_ended}
-use Rattle.ask_course.specs.Along.{Asked, answered}
-use Rattle.ask_course.specs.Starving.{starved}
-use Rattle.call_turns.proofs.Turned.{starved_find_none}
-use Rattle.call_away.specs.Away.{IsAway, IsOfKind, IsOnGuest, NoneSince}
+use Rattle.domain_asks.specs.Along.{Asked, answered}
+use Rattle.domain_asks.specs.Starving.{starved}
+use Rattle.domain_ledger.proofs.Turned.{starved_find_none}
+use Rattle.domain_asks.specs.Away.{IsAway, IsOfKind, IsOnGuest, NoneSince}
 use Rattle.domain_ledger.specs.Away.{IsPhaseWaiting, WaitsWith}
 use Rattle.domain_ledger.specs.Ledger.{CanAnswerAs, MayAnswer, answered_in}
 use Rattle.domain_ledger.specs.Told.{told_last}

@@ -7,7 +7,7 @@ use Rattle.domain_spec.specs.declared.standing.Standing.{Standing}
 use Rattle.domain_spec.specs.Asks.{is_ended_answer}
 use Rattle.domain_spec.specs.Cell.{HeldEvent}
 use Rattle.domain_spec.specs.Reading.{is_live}
-use Rattle.ask_course.specs.Along.{Asked}
+use Rattle.domain_asks.specs.Along.{Asked}
 use Rattle.domain_ledger.specs.Away.{WaitsWith}
 use Rattle.domain_ledger.specs.Ledger.{MayAnswer}
 use Rattle.domain_ledger.specs.declared.ledger.Back.TheVariants as back

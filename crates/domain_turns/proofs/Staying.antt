@@ -17,9 +17,9 @@ use Rattle.domain_spec.specs.Reading.{is_live}
 use Rattle.domain_spec.specs.Registrations.{with_pending}
 use Rattle.domain_spec.specs.Sequential.{seq}
 use Rattle.domain_spec.proofs.LawProofs.{standing-append}
-use Rattle.ask_course.specs.Along.{Asked, answered}
-use Rattle.ask_course.specs.Starving.{starved}
-use Rattle.phase_away.specs.Copying.{with_answer}
+use Rattle.domain_asks.specs.Along.{Asked, answered}
+use Rattle.domain_asks.specs.Starving.{starved}
+use Rattle.domain_asks.specs.PhaseCopying.{with_answer}
 use Rattle.domain_ledger.specs.Ledger.{answered_in, closing, loss, phase_closing, phased_by}
 use Rattle.domain_ledger.specs.Told.{told_last}
 use Rattle.domain_ledger.specs.declared.ledger.Back.{Back}

@@ -5,9 +5,9 @@ use Rattle.domain_spec.specs.declared.open.OpenOperation.{OpenOperation}
 use Rattle.domain_spec.specs.declared.standing.Standing.{Standing}
 use Rattle.domain_spec.specs.CanTake.{WaitsForAnswer}
 use Rattle.domain_spec.specs.Cell.{HeldEvent, LentEars, Queue}
-use Rattle.ask_course.specs.Along.{Asked}
-use Rattle.call_turns.proofs.Turned.{away_waits}
-use Rattle.phase_turns.proofs.Operated.{away_phase_waits}
+use Rattle.domain_asks.specs.Along.{Asked}
+use Rattle.domain_ledger.proofs.Turned.{away_waits}
+use Rattle.domain_ledger.proofs.Operated.{away_phase_waits}
 use Rattle.domain_ledger.specs.Away.{IsPhaseWaiting, WaitsWith}
 use Rattle.domain_ledger.specs.Ledger.{standing_in}
 use Rattle.domain_record.specs.Record.{Recorded, force_of}

@@ -9,10 +9,10 @@ use Rattle.domain_spec.specs.Asks.{is_ended_answer}
 use Rattle.domain_spec.specs.Call.{is_on_stored}
 use Rattle.domain_spec.specs.Cell.{HeldEvent, share_of}
 use Rattle.domain_spec.specs.Kept.{events_in}
-use Rattle.ask_course.specs.Along.{Asked, answered}
-use Rattle.ask_course.specs.Starving.{starved}
-use Rattle.call_away.specs.Away.{IsUnsent}
-use Rattle.phase_away.specs.Copying.{with_answer}
+use Rattle.domain_asks.specs.Along.{Asked, answered}
+use Rattle.domain_asks.specs.Starving.{starved}
+use Rattle.domain_asks.specs.Away.{IsUnsent}
+use Rattle.domain_asks.specs.PhaseCopying.{with_answer}
 use Rattle.domain_ledger.specs.Ledger.{answered_in}
 use Rattle.domain_ledger.specs.declared.ledger.Back.{Back}
 use Rattle.domain_ledger.specs.declared.ledger.Back.TheVariants as back

@@ -11,17 +11,17 @@ use Rattle.domain_spec.specs.declared.step.Outcome.TheVariants as outcome
 use Rattle.domain_spec.specs.CanTake.{CanTake, WaitsForAnswer}
 use Rattle.domain_spec.specs.Cell.{Cell, OpenCall, as_let_in, asks_so_far, call_of, operation_of, share_of, standing_of}
 use Rattle.domain_cell.specs.Celled.{Celled, cell_in, cell_share, monitor_of, standing_in}
-use Rattle.domain_core.specs.Shares.{AwaitsAnswer}
-use Rattle.domain_core.proofs.Shares.{open_back}
-use Rattle.domain_ledger.specs.Ledger.{step_to}
-use Rattle.domain_ledger.specs.declared.phase_out.Step.{Step}
-use Rattle.domain_turns.specs.Phased.{led_to}
-use Rattle.domain_turns.specs.Turning.{AsksLast, Takes, Turning}
-use Rattle.guest_links.specs.Tickets.{IsAnswered, IsAnsweredAs, comes}
+use Rattle.domain_cell.specs.Shares.{AwaitsAnswer}
+use Rattle.domain_cell.proofs.Shares.{open_back}
+use Rattle.domain_cell.specs.OfTurns.{step_to}
+use Rattle.domain_cell.specs.OfTurns.{Step}
+use Rattle.domain_cell.specs.OfTurns.{led_to}
+use Rattle.domain_cell.specs.OfTurns.{AsksLast, Takes, Turning}
+use Rattle.domain_cell.specs.Tickets.{IsAnswered, IsAnsweredAs, comes}
 use Rattle.domain_spec.specs.Asks.{is_ok_answer}
-use Rattle.guest_links.proofs.Linking.{asks_job}
-use Rattle.made_boots.specs.Made.{AsksThis}
-use Rattle.operation_turns.specs.Phasing.{IsDue}
+use Rattle.domain_cell.proofs.Linking.{asks_job}
+use Rattle.domain_cell.specs.OfShares.{AsksThis}
+use Rattle.domain_cell.specs.OfTurns.{IsDue}
 use Rattle.played_cell.specs.Playing.{Asking, Asks, IsOfPhase, Operates}
 use Rattle.played_cell.proofs.Closing.{back_keeps, phase_keeps}
 

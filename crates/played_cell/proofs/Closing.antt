@@ -14,8 +14,8 @@ use Rattle.domain_spec.specs.Cell.{Cell, standing_of}
 use Rattle.domain_spec.specs.Fold.{after, after_phase, after_take_up, job_at_exit, standing}
 use Rattle.domain_spec.specs.Lawful.{IsPhased}
 use Rattle.domain_spec.specs.Turns.{BeginsBy, GoOn, GoesOnBy, MayLeave}
-use Rattle.domain_turns.specs.Turning.{HasDone, Takes, Turning}
-use Rattle.turn_shares.proofs.Jobs.{on_base}
+use Rattle.domain_cell.specs.OfTurns.{HasDone, Takes, Turning}
+use Rattle.domain_cell.proofs.OfShares.{on_base}
 
 phase_closes : (s : Standing) (j : Option OpenJob) (o : Option OpenOperation) (number : ℕ) (who : Who) (p : Phase) (asks : List Ask) (answers : List Answer) (next : Outcome) (events : List Transition)
     → s.operation ≡ o → IsPhased s j o number who p asks answers next events → (after s (mark.Phase number who p asks answers next events)).job ≡ None

@@ -6,9 +6,9 @@ use Rattle.domain_spec.specs.declared.mark.Mark.{Mark}
 use Rattle.domain_spec.specs.Cell.{LentEars}
 use Rattle.domain_spec.specs.Kept.{told_of}
 use Rattle.domain_cell.specs.Celled.{Celled, KeepsOtherShares, cell_in}
-use Rattle.domain_core.specs.Core.{HasOut, with_ears}
-use Rattle.domain_turns.specs.Turning.{Takes, Turning}
-use Rattle.guest_turns.specs.Guests.{AreUntold, ears_lent}
+use Rattle.domain_cell.specs.Core.{HasOut, with_ears}
+use Rattle.domain_cell.specs.OfTurns.{Takes, Turning}
+use Rattle.domain_cell.specs.OfTurns.{AreUntold, ears_lent}
 
 pub keeps_then : (a b c : Celled) (n : ℕ) → KeepsOtherShares n a b → KeepsOtherShares n b c → KeepsOtherShares n a c
 keeps_then a b c n ab bc m unlike = bc m unlike ∙ ab m unlike

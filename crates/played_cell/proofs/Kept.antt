@@ -4,7 +4,7 @@ use Rattle.domain_spec.specs.Types.{Who}
 use Rattle.domain_spec.specs.Cell.{share_of}
 use Rattle.domain_cell.specs.Celled.{CellShare, Celled, KeepsOtherShares, cell_in, cell_share}
 use Rattle.domain_cell.specs.Meaning.{nothing_kept}
-use Rattle.domain_core.specs.Shares.{IsFree}
+use Rattle.domain_cell.specs.Shares.{IsFree}
 use Rattle.played_cell.specs.Playing.{AreTwo, Asking, Asks, ClientFits, HasClient, IsFresh, OpenFits, Operates, Operating, OperationFits, Plays, Watching, client_number, first_or, open_number, operation_number}
 
 -- nothing of a new number is open

@@ -12,28 +12,28 @@ use Rattle.domain_spec.specs.declared.standing.Standing.{Standing}
 use Rattle.domain_spec.specs.declared.step.Outcome.{Outcome}
 use Rattle.domain_spec.specs.Cell.{operation_of}
 use Rattle.domain_spec.specs.Fold.{standing}
-use Rattle.domain_ledger.specs.Ledger.{step_to}
-use Rattle.domain_turns.specs.Phased.{led_to}
-use Rattle.domain_turns.specs.Turning.{Takes}
-use Rattle.turn_shares.proofs.Jobs.{on_base}
+use Rattle.domain_cell.specs.OfTurns.{step_to}
+use Rattle.domain_cell.specs.OfTurns.{led_to}
+use Rattle.domain_cell.specs.OfTurns.{Takes}
+use Rattle.domain_cell.proofs.OfShares.{on_base}
 use Rattle.domain_cell.specs.Celled.{Celled, cell_in, cell_share, standing_in}
 use Rattle.domain_cell.specs.Meaning.{nothing_kept}
-use Rattle.domain_core.proofs.Shares.{free_begin, free_look, share_end, share_phase}
-use Rattle.domain_ledger.specs.declared.phase_out.Step.{Step}
-use Rattle.domain_turns.specs.Answering.{GoesBack}
-use Rattle.domain_turns.specs.Looking.{Looks}
-use Rattle.guest_links.specs.Tickets.{HasMonitor, IsAnswered, IsAnsweredAs, back_of, back_ticket, comes, look_ticket, looked_of, phase_ticket, phased_of}
-use Rattle.guest_links.specs.declared.ticket.Back.{Back}
-use Rattle.guest_links.specs.declared.ticket.Back.TheVariants as back
-use Rattle.guest_links.specs.declared.ticket.Look.{Look}
-use Rattle.guest_links.specs.declared.ticket.Look.TheVariants as look
-use Rattle.guest_links.specs.declared.ticket.PhaseLook.{PhaseLook}
-use Rattle.guest_links.specs.declared.ticket.PhaseLook.TheVariants as phase
-use Rattle.operation_turns.specs.Beginning.{LooksToBegin}
-use Rattle.operation_turns.specs.Ending.{CanEnd}
-use Rattle.operation_turns.specs.Phasing.{IsDue, Phases}
-use Rattle.operation_turns.specs.declared.beginning.OperationLook.{OperationLook}
-use Rattle.operation_turns.specs.declared.beginning.OperationLook.TheVariants as begin
+use Rattle.domain_cell.proofs.Shares.{free_begin, free_look, share_end, share_phase}
+use Rattle.domain_cell.specs.OfTurns.{Step}
+use Rattle.domain_cell.specs.OfTurns.{GoesBack}
+use Rattle.domain_cell.specs.OfTurns.{Looks}
+use Rattle.domain_cell.specs.Tickets.{HasMonitor, IsAnswered, IsAnsweredAs, back_of, back_ticket, comes, look_ticket, looked_of, phase_ticket, phased_of}
+use Rattle.domain_cell.specs.declared.ticket.Back.{Back}
+use Rattle.domain_cell.specs.declared.ticket.Back.TheVariants as back
+use Rattle.domain_cell.specs.declared.ticket.Look.{Look}
+use Rattle.domain_cell.specs.declared.ticket.Look.TheVariants as look
+use Rattle.domain_cell.specs.declared.ticket.PhaseLook.{PhaseLook}
+use Rattle.domain_cell.specs.declared.ticket.PhaseLook.TheVariants as phase
+use Rattle.domain_cell.specs.OfTurns.{LooksToBegin}
+use Rattle.domain_cell.specs.OfTurns.{CanEnd}
+use Rattle.domain_cell.specs.OfTurns.{IsDue, Phases}
+use Rattle.domain_cell.specs.OfTurns.{OperationLook}
+use Rattle.domain_cell.specs.OfTurns.operation_look_variants as begin
 use Rattle.played_cell.specs.Playing.{Asking, Asks, IsOfPhase}
 use Rattle.played_cell.specs.Turned.{HasBegun, HasLooked, HasPhase, HasReturned, WentOn}
 use Rattle.played_cell.proofs.Asked.{asks_now, back_asks_on, can_back, has_ticket, is_answered, operates_now, phase_asks_on}

@@ -7,10 +7,10 @@ use Rattle.domain_spec.specs.declared.standing.Registration.{Registration}
 use Rattle.domain_spec.specs.CanTake.{CanTake}
 use Rattle.domain_spec.specs.Cell.{Taken}
 use Rattle.domain_spec.specs.Registrations.{registrations_at}
-use Rattle.client_turns.specs.declared.watching.WatchFault.{WatchFault}
+use Rattle.domain_cell.specs.OfTurns.{WatchFault}
 use Rattle.domain_cell.specs.Celled.{Celled, cell_in, cell_share}
-use Rattle.domain_core.specs.Clients.{WatchesSo}
-use Rattle.turn_shares.proofs.Telling.{shares_tell}
+use Rattle.domain_cell.specs.Clients.{WatchesSo}
+use Rattle.domain_cell.proofs.OfShares.{shares_tell}
 use Rattle.played_cell.specs.Playing.{HasClient}
 use Rattle.played_cell.specs.Turned.{HasWatched}
 

@@ -6,12 +6,12 @@ use Rattle.domain_spec.specs.declared.open.OpenOperation.{OpenOperation}
 use Rattle.domain_spec.specs.Cell.{Taken}
 use Rattle.domain_cell.specs.Celled.{CellShare, Celled, cell_share}
 use Rattle.domain_cell.specs.Meaning.{nothing_kept}
-use Rattle.domain_core.specs.Shares.{AwaitsAnswer}
-use Rattle.domain_ledger.specs.declared.phase_out.Step.{Step}
-use Rattle.domain_ledger.specs.declared.phase_out.Step.TheVariants as step
-use Rattle.domain_turns.specs.Turning.{AsksLast}
-use Rattle.operation_turns.specs.Ending.{CanEnd}
-use Rattle.operation_turns.specs.Phasing.{IsDue}
+use Rattle.domain_cell.specs.Shares.{AwaitsAnswer}
+use Rattle.domain_cell.specs.OfTurns.{Step}
+use Rattle.domain_cell.specs.OfTurns.step_variants as step
+use Rattle.domain_cell.specs.OfTurns.{AsksLast}
+use Rattle.domain_cell.specs.OfTurns.{CanEnd}
+use Rattle.domain_cell.specs.OfTurns.{IsDue}
 
 -- a call that asks, or a phase of this caller: the ask that waits, and whether it has the monitor
 pub record Asking : Type 0 where

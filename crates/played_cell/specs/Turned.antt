@@ -3,16 +3,16 @@ use Rattle.std.specs.Prelude.{◌≡◌, ℕ, is_some, Option, None, Some, Resul
 use Rattle.domain_spec.specs.Types.{Who}
 use Rattle.domain_spec.specs.declared.open.OpenOperation.{OpenOperation}
 use Rattle.domain_cell.specs.Celled.{Celled, cell_share, standing_in}
-use Rattle.domain_ledger.specs.declared.phase_out.Step.{Step}
-use Rattle.guest_links.specs.declared.ticket.Back.{Back}
-use Rattle.guest_links.specs.declared.ticket.Back.TheVariants as back
-use Rattle.guest_links.specs.declared.ticket.Look.{Look}
-use Rattle.guest_links.specs.declared.ticket.Look.TheVariants as look
-use Rattle.guest_links.specs.declared.ticket.PhaseLook.{PhaseLook}
-use Rattle.guest_links.specs.declared.ticket.PhaseLook.TheVariants as phase
-use Rattle.operation_turns.specs.Phasing.{IsDue}
-use Rattle.operation_turns.specs.declared.beginning.OperationLook.{OperationLook}
-use Rattle.operation_turns.specs.declared.beginning.OperationLook.TheVariants as begin
+use Rattle.domain_cell.specs.OfTurns.{Step}
+use Rattle.domain_cell.specs.declared.ticket.Back.{Back}
+use Rattle.domain_cell.specs.declared.ticket.Back.TheVariants as back
+use Rattle.domain_cell.specs.declared.ticket.Look.{Look}
+use Rattle.domain_cell.specs.declared.ticket.Look.TheVariants as look
+use Rattle.domain_cell.specs.declared.ticket.PhaseLook.{PhaseLook}
+use Rattle.domain_cell.specs.declared.ticket.PhaseLook.TheVariants as phase
+use Rattle.domain_cell.specs.OfTurns.{IsDue}
+use Rattle.domain_cell.specs.OfTurns.{OperationLook}
+use Rattle.domain_cell.specs.OfTurns.operation_look_variants as begin
 use Rattle.played_cell.specs.Playing.{Asks, HasClient, Operates}
 
 -- the operation of a phase that was answered

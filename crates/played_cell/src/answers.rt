@@ -1,7 +1,7 @@
 // What the asks of a story are answered.
 ghost use Rattle.std.specs.Prelude.{◌≡◌, is_some, true, ◌∷◌};
 ghost use Rattle.domain_spec.specs.Asks.{is_ok_answer};
-ghost use Rattle.guest_links.specs.Tickets.{IsAnsweredAs, IsCounted, comes};
+ghost use Rattle.domain_cell.specs.Tickets.{IsAnsweredAs, IsCounted, comes};
 
 use domain_cell::Ticket;
 use monitor_link::{Link, Monitor};

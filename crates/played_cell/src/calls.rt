@@ -4,9 +4,7 @@ ghost use Rattle.domain_spec.specs.Call.{begins};
 
 use crate::played::{OpenCall, OpenOperation, Played, keep_first, new_pass};
 use crate::plays::{Returned, go_back, look, rotate};
-use domain_cell::{Back, Look};
-use domain_history::takes_up;
-use domain_ledger::Step;
+use domain_cell::{Back, Look, Step, takes_up};
 use monitor_link::{Ears, Killer, Link, Monitor};
 use std::alloc::Global;
 use virt_types::{Call, Reply, Who};

@@ -5,8 +5,7 @@ ghost use Rattle.played_cell.specs.Playing.{HasClient};
 ghost use Rattle.played_cell.specs.Turned.{HasWatched};
 
 use crate::played::{Client, Played, keep_first, new_pass};
-use client_turns::WatchFault;
-use domain_cell::DomainCell;
+use domain_cell::{DomainCell, WatchFault};
 use domain_listeners::Taken;
 use history_spec::Stamp;
 use monitor_link::{Ears, Killer, Monitor};

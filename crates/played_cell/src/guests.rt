@@ -1,8 +1,8 @@
 // What a guest does by itself, in a story.
 ghost use Rattle.domain_cell.specs.Celled.{KeepsOtherShares, cell_in};
-ghost use Rattle.domain_core.specs.Core.{HasOut};
-ghost use Rattle.guest_links.specs.Tickets.{IsHeardCounted};
-ghost use Rattle.guest_turns.specs.Guests.{AreUntold};
+ghost use Rattle.domain_cell.specs.Core.{HasOut};
+ghost use Rattle.domain_cell.specs.Tickets.{IsHeardCounted};
+ghost use Rattle.domain_cell.specs.OfTurns.{AreUntold};
 
 use crate::played::{Played, new_pass};
 use domain_cell::DomainCell;

@@ -2,10 +2,8 @@
 use crate::calls::does_begin;
 use crate::played::{OpenCall, OpenOperation, Played, keep_first, new_pass};
 use crate::plays::{begin, end, phase};
-use domain_cell::PhaseLook;
-use domain_ledger::Step;
+use domain_cell::{OperationLook, PhaseLook, Step};
 use monitor_link::{Ears, Killer, Monitor};
-use operation_turns::OperationLook;
 use std::alloc::Global;
 use virt_types::{Call, Reply, Who};
 

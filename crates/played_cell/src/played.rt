@@ -2,9 +2,7 @@
 ghost use Rattle.std.specs.Prelude.{◌≡◌, ◌+◌, ℕ, is_some};
 ghost use Rattle.played_cell.specs.Playing.{first_or};
 
-use domain_cell::{DomainCell, Ticket};
-use domain_history::Chronicle;
-use domain_ledger::Step;
+use domain_cell::{Chronicle, DomainCell, Step, Ticket};
 use history_spec::Stamp;
 use monitor_link::{Ears, Killer, Monitor};
 use std::alloc::Global;

@@ -3,18 +3,17 @@ ghost use Rattle.std.specs.Prelude.{◌≡◌, is_some, true, None, Some};
 ghost use Rattle.domain_spec.specs.Call.{begins, takes_up};
 ghost use Rattle.domain_cell.specs.Celled.{KeepsOtherShares, cell_share, standing_in};
 ghost use Rattle.domain_cell.specs.Meaning.{nothing_kept};
-ghost use Rattle.operation_turns.specs.Ending.{CanEnd};
-ghost use Rattle.operation_turns.specs.Phasing.{IsDue};
+ghost use Rattle.domain_cell.specs.OfTurns.{CanEnd};
+ghost use Rattle.domain_cell.specs.OfTurns.{IsDue};
 ghost use Rattle.played_cell.specs.Playing.{Asks};
 ghost use Rattle.played_cell.specs.Turned.{HasBegun, HasLooked, HasPhase, HasReturned};
 
 use crate::answers::{Answered, answer};
 use crate::played::OpenCall;
-use domain_cell::{Back, DomainCell, Look, PhaseLook};
+use domain_cell::{Back, DomainCell, Look, OperationLook, PhaseLook};
 use domain_spec::First;
 use history_spec::Stamp;
 use monitor_link::{Ears, Killer, Link, Monitor};
-use operation_turns::OperationLook;
 use std::alloc::Global;
 use virt_types::{Call, Reply, Who};
 

@@ -17,13 +17,13 @@ use Rattle.domain_spec.specs.Types.given
 use Rattle.def_keeper.specs.declared.mark.StoreFault.{StoreFault}
 use Rattle.def_keeper.specs.declared.mark.StoreFault.TheVariants as store
 use Rattle.def_keeper.specs.Keeper.{Keeping}
-use Rattle.guest_links.specs.Tickets.{IsAnsweredAs, IsCounted, comes}
+use Rattle.domain_obj.specs.OfCells.{IsAnsweredAs, IsCounted, comes}
 use Rattle.monitor_link.specs.declared.exchange.Exchange.{Exchange}
 use Rattle.monitor_link.specs.declared.link.Link.{Link}
 use Rattle.monitor_link.specs.Causes.{IsFaultCaused}
 use Rattle.store_asks.specs.Answers.{HasAnswered as KeeperAnswers}
 use Rattle.store_asks.specs.Asks.{change_answer, image_answer, no_network}
-use Rattle.turn_marks.specs.Told.{told}
+use Rattle.domain_obj.specs.OfCells.{told}
 use Rattle.row_desk.specs.Asking.{AsksMaker, AsksStore, HasAnswered, IsAnsweredByStore, IsForStore, IsMade, IsSent, SendsToGuest, link_of, made_answer, unmade}
 use Rattle.row_desk.specs.Served.{HasMade, HasServed}
 use Rattle.row_desk.specs.Stored.{stored_in}

@@ -12,7 +12,7 @@ use Rattle.domain_spec.specs.Types.answer
 use Rattle.def_keeper.specs.declared.mark.StoreMark.{StoreMark}
 use Rattle.def_keeper.specs.Turns.{meaning, no_mark_lowers}
 use Rattle.history_spec.specs.Chapter.{tagged}
-use Rattle.turn_marks.specs.Told.{told}
+use Rattle.domain_obj.specs.OfCells.{told}
 use Rattle.row_desk.specs.Asking.{IsAnsweredByStore, IsForStore}
 use Rattle.row_desk.specs.Served.{Goes, HasMade, HasServed}
 use Rattle.row_desk.specs.Stored.{AreStored, answers_in, is_stored, is_tried, stored_in}

@@ -21,7 +21,7 @@ use Rattle.def_keeper.specs.Marks.{StoreHistory}
 use Rattle.store_asks.specs.Keeping.{front_of}
 use Rattle.store_asks.specs.Told.{IsDeedOf}
 use Rattle.store_asks.specs.Turning.{AreTried, EndsIn, IsTried, LastTells, MarksTell}
-use Rattle.turn_marks.specs.Told.{told}
+use Rattle.domain_obj.specs.OfCells.{told}
 use Rattle.row_desk.specs.Asking.{IsForStore}
 use Rattle.row_desk.specs.Stored.{AreStored, IsStored, answers_in, is_tried, stored_in}
 

@@ -1,16 +1,15 @@
 // A row's desk is one that calls over a domain ask.
 ghost use Rattle.std.specs.Prelude.{◌≡◌, [], ◌∷◌, ◌++◌, is_some};
-ghost use Rattle.domain_calls.specs.Asking.{FitsAsk, IsAsked, IsBetween};
-ghost use Rattle.guest_links.specs.Tickets.{IsCounted};
-ghost use Rattle.turn_marks.specs.Told.{told};
+ghost use Rattle.domain_obj.specs.Asking.{FitsAsk, IsAsked, IsBetween};
+ghost use Rattle.domain_obj.specs.OfCells.{IsCounted};
+ghost use Rattle.domain_obj.specs.OfCells.{told};
 
 use crate::desk::RowDesk;
 use crate::handed::Handed;
 use crate::maker::Maker;
 use def_keeper::Opening;
-use domain_calls::{Desk, DomainPass};
+use domain_obj::{Desk, DomainPass, Ticket};
 use files_disk::Files;
-use guest_links::Ticket;
 use monitor_link::Link;
 use std::sync::Wait;
 use virt_types::{Answer, Ask};

@@ -1,10 +1,10 @@
 // The desk of one row, for one call.
 ghost use Rattle.std.specs.Prelude.{◌≡◌, [], ◌∷◌, ◌++◌, is_some};
 ghost use Rattle.domain_spec.specs.Asks.{is_ok_answer};
-ghost use Rattle.guest_links.specs.Tickets.{IsAnsweredAs, IsCounted, comes};
+ghost use Rattle.domain_obj.specs.OfCells.{IsAnsweredAs, IsCounted, comes};
 ghost use Rattle.row_desk.specs.Asking.{AsksMaker, AsksStore, SendsToGuest};
 ghost use Rattle.row_desk.specs.Served.{HasMade, HasServed};
-ghost use Rattle.turn_marks.specs.Told.{told};
+ghost use Rattle.domain_obj.specs.OfCells.{told};
 
 use crate::door::StoreDoor;
 use crate::guests::{make, send};

@@ -1,9 +1,9 @@
 use Rattle.std.proofs.Common.{◌≡◌, ℕ, false, Some, refl, sym, ap, ◌∙◌, subst}
 use Rattle.domain_spec.specs.Types.{Ask}
 use Rattle.core_rules.specs.declared.next.Next.TheVariants as next
-use Rattle.ask_course.specs.Along.{Asked, answered}
-use Rattle.ask_course.specs.Starving.{AreAsks, next_in, starved}
-use Rattle.call_away.specs.AwayLaws.{made}
+use Rattle.domain_asks.specs.Along.{Asked, answered}
+use Rattle.domain_asks.specs.Starving.{AreAsks, next_in, starved}
+use Rattle.domain_asks.specs.AwayLaws.{made}
 use Rattle.domain_history.specs.Closing.{CanDo}
 use Rattle.domain_ledger.specs.Away.{IsOut}
 use Rattle.domain_ledger.specs.Turn.{CanGoOn, force_in, is_over, shown}

@@ -1,6 +1,6 @@
 use Rattle.std.proofs.Common.{[], ◌∷◌, refl}
-use Rattle.ask_course.specs.Starving.{starved}
-use Rattle.call_away.specs.Going.{first_course}
+use Rattle.domain_asks.specs.Starving.{starved}
+use Rattle.domain_asks.specs.Going.{first_course}
 use Rattle.domain_ledger.specs.Ledger.{now_in}
 use Rattle.domain_listeners.specs.Listening.{registrations}
 use Rattle.domain_record.specs.Following.{IsFollowed}

@@ -1,7 +1,7 @@
 use Rattle.std.proofs.Common.{ℕ, is_some, sym, subst}
 use Rattle.domain_cell.specs.Celled.{cell_share}
-use Rattle.domain_turns.specs.Answering.{GoesBack}
-use Rattle.guest_links.specs.Tickets.{back_of}
+use Rattle.domain_cell.specs.OfTurns.{GoesBack}
+use Rattle.domain_cell.specs.Tickets.{back_of}
 use Rattle.played_cell.specs.Playing.{Asking, Asks}
 use Rattle.played_cell.specs.Turned.{HasReturned}
 use Rattle.played_cell.proofs.Turned.{has_returned}

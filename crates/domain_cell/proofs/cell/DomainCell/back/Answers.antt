@@ -1,7 +1,7 @@
 use Rattle.std.proofs.Common.{is_some, sym, ap, ◌∙◌, subst}
 use Rattle.domain_cell.specs.Celled.{Celled, cell_in}
-use Rattle.guest_links.specs.Linked.{has_monitor}
-use Rattle.guest_links.specs.Tickets.{IsAnswered, back_ticket}
+use Rattle.domain_cell.specs.Linked.{has_monitor}
+use Rattle.domain_cell.specs.Tickets.{IsAnswered, back_ticket}
 use Rattle.domain_cell.proofs.Handing.{back_handed, may_go_back, ticket_has}
 use Rattle.domain_cell.proofs.cell.DomainCell.back.Goals as goal
 

@@ -1,8 +1,8 @@
 use Rattle.std.proofs.Common.{is_some, sym, subst}
 use Rattle.domain_spec.specs.CanTake.{CanLook}
 use Rattle.domain_cell.specs.Celled.{Celled, cell_in}
-use Rattle.guest_links.specs.Linked.{has_monitor}
-use Rattle.guest_links.specs.Tickets.{look_ticket}
+use Rattle.domain_cell.specs.Linked.{has_monitor}
+use Rattle.domain_cell.specs.Tickets.{look_ticket}
 use Rattle.domain_cell.proofs.Handing.{look_handed, ticket_has}
 use Rattle.domain_cell.proofs.cell.DomainCell.look.Goals as goal
 

@@ -1,6 +1,6 @@
 use Rattle.std.proofs.Common.{is_some}
-use Rattle.guest_links.specs.Linked.{has_monitor}
-use Rattle.guest_links.specs.Tickets.{phase_ticket}
+use Rattle.domain_cell.specs.Linked.{has_monitor}
+use Rattle.domain_cell.specs.Tickets.{phase_ticket}
 use Rattle.domain_cell.proofs.Handing.{phase_handed, ticket_has}
 use Rattle.domain_cell.proofs.cell.DomainCell.phase.Goals as goal
 

@@ -1,6 +1,6 @@
 use Rattle.std.proofs.Common.{sym, ◌∙◌}
 use Rattle.domain_obj.specs.Replies.{called_at}
-use Rattle.domain_obj.proofs.Running.{at_then, cell_then, ready_then}
+use Rattle.domain_obj.proofs.RunningCalls.{at_then, cell_then, ready_then}
 use Rattle.domain_obj.proofs.object.DomainObj.run.Goals as goal
 
 pub hear-pass-requires-clause-own : goal.hear-pass-requires-clause-own

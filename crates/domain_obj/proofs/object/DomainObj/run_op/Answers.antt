@@ -1,6 +1,6 @@
 use Rattle.std.proofs.Common.{sym, ◌∙◌}
 use Rattle.domain_obj.specs.Replies.{operated_at}
-use Rattle.domain_obj.proofs.Running.{at_then, operated_cell, operated_ready}
+use Rattle.domain_obj.proofs.RunningCalls.{at_then, operated_cell, operated_ready}
 use Rattle.domain_obj.proofs.object.DomainObj.run_op.Goals as goal
 
 pub hear-pass-requires-clause-own : goal.hear-pass-requires-clause-own

@@ -1,5 +1,5 @@
 use Rattle.std.proofs.Common.{[], ◌∷◌, ◌++◌}
-use Rattle.turn_marks.specs.Told.{told}
+use Rattle.domain_obj.specs.OfCells.{told}
 use Rattle.row_desk.proofs.report.Report.and.Given as goal
 
 abbrev pub ghost-after : goal.ghost-after

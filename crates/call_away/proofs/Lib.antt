@@ -1,4 +1,0 @@
-pub mod Planning
-pub mod Staying
-pub mod Finishing
-pub mod Going

@@ -1,3 +1,0 @@
-pub mod Away
-pub mod AwayLaws
-pub mod Going

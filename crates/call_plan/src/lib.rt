@@ -1,8 +1,0 @@
-//! The plan of a call: all that it may ask, and what undoes each ask, found by asking the driver what
-//! would be next after each answer.
-#![tactic(auto)]
-
-mod course;
-mod probe;
-
-pub use course::course_of;

@@ -1,3 +1,0 @@
-pub mod ClientLaws
-pub mod Clients
-pub mod Places

@@ -1,0 +1,17 @@
+pub mod Courses
+pub mod Finishing
+pub mod Following
+pub mod Going
+pub mod Keeping
+pub mod OwnGuests
+pub mod PhaseGoing
+pub mod PhaseProbing
+pub mod Phasing
+pub mod Planning
+pub mod Probing
+pub mod Staying
+pub mod StoredPlans
+pub mod TidyCalls
+pub mod TidyMarks
+pub mod TidyPhases
+pub mod Writing

@@ -1,0 +1,14 @@
+pub mod Along
+pub mod Away
+pub mod AwayLaws
+pub mod Copying
+pub mod Going
+pub mod Guests
+pub mod PhaseAway
+pub mod PhaseCopying
+pub mod PhaseGoing
+pub mod PhaseLaws
+pub mod PhaseProbing
+pub mod Probing
+pub mod Starving
+pub mod Tidy

@@ -1,4 +1,0 @@
-use Rattle.domain_calls.proofs.turns.end_chapter_as.Given as goal
-
-abbrev pub ghost-named : goal.ghost-named
-ghost-named g a = g.number

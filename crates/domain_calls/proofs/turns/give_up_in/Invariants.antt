@@ -1,4 +1,0 @@
-use Rattle.domain_calls.proofs.turns.give_up_in.Given as goal
-
-abbrev pub ghost-give_up_as : goal.ghost-give_up_as
-ghost-give_up_as g a = a.turn.now.pass.number

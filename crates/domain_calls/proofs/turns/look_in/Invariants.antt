@@ -1,4 +1,0 @@
-use Rattle.domain_calls.proofs.turns.look_in.Given as goal
-
-abbrev pub ghost-look_as : goal.ghost-look_as
-ghost-look_as g a = a.turn.now.pass.number

@@ -1,4 +1,0 @@
-pub mod Answering
-pub mod Clients
-pub mod Core
-pub mod Shares

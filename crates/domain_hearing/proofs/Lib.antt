@@ -1,4 +1,0 @@
-pub mod Hearings
-pub mod LendingTurns
-pub mod SilentTurns
-pub mod TellingTurns

@@ -1,0 +1,55 @@
+-- What an operation does in one turn, as its cell's calls tell it: its due phase, and its end.
+use Rattle.std.specs.Prelude.{◌≡◌, ◌⊎◌, ℕ, is_some, None}
+use Rattle.domain_spec.specs.Types.{Reply, Who}
+use Rattle.domain_spec.specs.Cell.{share_of}
+use Rattle.domain_obj.specs.InTurn.{IsNotRenewed, IsRenewed}
+use Rattle.domain_obj.specs.Leading.{Leads}
+use Rattle.domain_cell.specs.Celled.{Celled, KeepsOtherShares, cell_in, standing_in}
+use Rattle.domain_cell.specs.OfTurns.{Step}
+use Rattle.domain_obj.specs.declared.operating.phasing.Phasing.{Phasing}
+use Rattle.domain_obj.specs.declared.operating.phasing.Phasing.TheVariants as phasing
+use Rattle.domain_cell.specs.Held.{out_by}
+use Rattle.domain_cell.specs.Tickets.{HasMonitor, phase_ticket, phased_of}
+use Rattle.domain_cell.specs.declared.ticket.PhaseLook.{PhaseLook}
+use Rattle.domain_cell.specs.declared.ticket.PhaseLook.TheVariants as look
+use Rattle.domain_cell.specs.OfShares.{made_boot}
+use Rattle.domain_cell.specs.OfTurns.{CanEnd, Ends}
+use Rattle.domain_cell.specs.OfTurns.{IsDue, Phases}
+
+-- a phase is due of the operation that is kept for the number, by which nobody waits
+pub record MayGoOn (n : ℕ) (who : Who) (c : Celled) : Type 0 where
+  pub waits : (share_of (cell_in c) n).waits ≡ None
+  pub due : IsDue (share_of (cell_in c) n).operation n who
+
+-- a long chapter ended, where there was memory for the next one
+abbrev pub IsRenewedIfCan : ℕ → Who → Celled → Celled → Type 0
+IsRenewedIfCan n who old new = IsRenewed n who old new ⊎ IsNotRenewed n who old new
+
+-- the operation that is kept for the number is over
+abbrev pub MayEnd : ℕ → Who → Celled → Type 0
+MayEnd n who c = CanEnd (share_of (cell_in c) n).operation n who
+
+-- it ended
+pub record EndsIn (n : ℕ) (who : Who) (old new : Celled) (said : Reply) : Type 0 where
+  pub ends : Ends n who old.core.turning new.core.turning said
+  pub out : new.out ≡ old.out
+  pub others : KeepsOtherShares n old new
+
+module _ {M : Type 0} where
+  -- the due phase was let in where no normal job is open, and else excluded
+  pub record PhasesIn (n : ℕ) (who : Who) (old new : Celled) (result : PhaseLook M) : Type 0 where
+    pub phases : Phases n who old.core.turning new.core.turning (phased_of result)
+    pub out : new.out ≡ out_by (is_some (phase_ticket result)) (made_boot (standing_in new)) old.out
+    pub ticket : HasMonitor (is_some new.out) (phase_ticket result)
+    pub others : KeepsOtherShares n old new
+
+  -- the same with what it led to, where it was done
+  abbrev pub GoesOnIn : ℕ → Who → Celled → Celled → Phasing M → Type 0
+  GoesOnIn n who old new (phasing.Away t x) = PhasesIn n who old new (look.Away t x)
+  GoesOnIn n who old new (phasing.Phased said) = (st : Step) × PhasesIn n who old new (look.Phased st) × Leads (standing_in new).operation st said
+  GoesOnIn n who old new phasing.Excluded = PhasesIn n who old new look.Excluded
+  GoesOnIn n who old new phasing.NoMemory = PhasesIn n who old new look.NoMemory
+
+  -- a long chapter ended, if it could, and then the operation went on so
+  abbrev pub RenewsAndGoesOn : ℕ → Who → Celled → Celled → Phasing M → Type 0
+  RenewsAndGoesOn n who old new result = (mid : Celled) × IsRenewedIfCan n who old mid × GoesOnIn n who mid new result

@@ -1,0 +1,236 @@
+// What a pass does in its turn, under its own number.
+ghost use Rattle.std.specs.Prelude.{◌≡◌, ◌<◌, ◌^◌, ℕ, IfOk, OnErr, OnOk, Some, is_some, length};
+ghost use Rattle.domain_spec.specs.CanTake.{CanLook, CanTake, WaitsAsNoOther};
+ghost use Rattle.domain_spec.specs.Fold.{at_base};
+ghost use Rattle.domain_spec.specs.Laws.{IsCounted as AreBootsCounted};
+ghost use Rattle.domain_spec.specs.Legal.{IsLegal};
+ghost use Rattle.domain_spec.specs.Read.{read};
+ghost use Rattle.domain_spec.specs.declared.core_step.CoreStep.TheVariants as step;
+ghost use Rattle.domain_cell.specs.Celled.{cell_in, standing_in};
+ghost use Rattle.domain_cell.specs.Core.{is_occupied};
+ghost use Rattle.domain_obj.specs.InTurn.{EndsChapter, GivesUp, GoesBackIn, IsNotRenewed, IsRenewed, LooksIn};
+ghost use Rattle.domain_obj.specs.Placing.{IsLastPlace};
+ghost use Rattle.domain_cell.specs.OfTurns.{IsKnownFirst};
+ghost use Rattle.domain_cell.specs.Held.{IsOutWith};
+ghost use Rattle.domain_cell.specs.Tickets.{IsAnswered, IsCounted};
+ghost use Rattle.domain_cell.specs.OfShares.{IsSteady};
+
+use crate::place::Seen;
+use domain_cell::{Back, DomainCell, Look, Ticket};
+use domain_spec::First;
+use history_spec::Stamp;
+use monitor_link::{Ears, Killer, Link, Monitor};
+use std::alloc::Global;
+use turn_cell::{Pass, Turn};
+use virt_types::{Answer, Call, Front, NoMemory, Query, Reply, Who};
+
+/// A pass of a domain.
+pub type DomainPass<M, E, Z> = Pass<DomainCell<M, E, Z>>;
+
+/// A turn of a domain.
+pub type DomainTurn<M, E, Z> = Turn<DomainCell<M, E, Z>>;
+
+/// How many marks a chapter holds before it ends.
+const LONG: usize = 4096;
+
+// The chapter ends, under this number.
+fn end_chapter_as<M: Monitor + Drop, E: Ears + Drop, Z: Killer + Drop>(
+    turn: &mut DomainTurn<M, E, Z>,
+    alloc: Global,
+    who: Who,
+) -> Result<(), NoMemory>
+    ghost number: { ℕ }
+    requires can { CanTake (cell_in turn.old.value) (step.Rotate number who) }
+    requires chapter { turn.old.value.core.turning.chapter < 2 ^ 62 }
+    ensures ok { OnOk result (EndsChapter number who turn.old.value turn.new.value) }
+    ensures err { OnErr result (IsNotRenewed number who turn.old.value turn.new.value) }
+    ensures same { turn.new ≡ record turn.old { value = turn.new.value } }
+{
+    let by = Stamp::named();
+    turn.value().rotate(alloc, by, who)
+}
+
+/// Ends the chapter where it holds 4,096 marks or more and no job is open, under the number of the pass that has the turn.
+/// Where there is no memory for the next one all stays, but the caller waits no more.
+pub fn end_long_chapter<M: Monitor + Drop, E: Ears + Drop, Z: Killer + Drop>(
+    turn: &mut DomainTurn<M, E, Z>,
+    alloc: Global,
+    who: Who,
+) -> Result<(), NoMemory>
+    requires waits { WaitsAsNoOther (cell_in turn.old.value) turn.old.pass.number who }
+    requires chapter { turn.old.value.core.turning.chapter < 2 ^ 62 }
+    ensures ok { OnOk result (IsRenewed turn.old.pass.number who turn.old.value turn.new.value) }
+    ensures err { OnErr result (IsNotRenewed turn.old.pass.number who turn.old.value turn.new.value) }
+    ensures same { turn.new ≡ record turn.old { value = turn.new.value } }
+{
+    if turn.value().len() < LONG || turn.value().has_job() {
+        return Ok(());
+    }
+    end_chapter_as(turn, alloc, who)
+}
+
+// A call looks, under this number.
+fn look_as<M: Monitor + Drop, E: Ears + Drop, Z: Killer + Drop>(
+    turn: &mut DomainTurn<M, E, Z>,
+    alloc: Global,
+    who: Who,
+    call: &Call,
+    first: First,
+) -> Look<M>
+    ghost number: { ℕ }
+    requires can { CanLook (cell_in turn.old.value) number who call.now first }
+    requires known { IsKnownFirst first (cell_in turn.old.value) }
+    ensures looks { LooksIn number who call.now first turn.old.value turn.new.value result }
+    ensures same { turn.new ≡ record turn.old { value = turn.new.value } }
+{
+    let by = Stamp::named();
+    turn.value().look(alloc, by, who, call, first)
+}
+
+/// A call looks, under the number of the pass that has the turn.
+pub fn look_in<M: Monitor + Drop, E: Ears + Drop, Z: Killer + Drop>(
+    turn: &mut DomainTurn<M, E, Z>,
+    alloc: Global,
+    who: Who,
+    call: &Call,
+    first: First,
+) -> Look<M>
+    requires can { CanLook (cell_in turn.old.value) turn.old.pass.number who call.now first }
+    requires known { IsKnownFirst first (cell_in turn.old.value) }
+    ensures looks { LooksIn turn.old.pass.number who call.now first turn.old.value turn.new.value result }
+    ensures same { turn.new ≡ record turn.old { value = turn.new.value } }
+{
+    look_as(turn, alloc, who, call, first)
+}
+
+// The call that the turn found excluded is refused, under this number.
+fn give_up_as<M: Monitor + Drop, E: Ears + Drop, Z: Killer + Drop>(
+    turn: &mut DomainTurn<M, E, Z>,
+    alloc: Global,
+    who: Who,
+    call: &Call,
+)
+    ghost number: { ℕ }
+    requires can { CanTake (cell_in turn.old.value) (step.GiveUp number who call.now) }
+    requires excluded { turn.old.value.core.excluded ≡ Some (record { who = who; call = call.now }) }
+    ensures gives_up { GivesUp number who call.now turn.old.value turn.new.value }
+    ensures same { turn.new ≡ record turn.old { value = turn.new.value } }
+{
+    let by = Stamp::named();
+    turn.value().give_up(alloc, by, who, call);
+}
+
+/// The call that was found excluded in this turn is refused, under the number of the pass that has the turn.
+pub fn give_up_in<M: Monitor + Drop, E: Ears + Drop, Z: Killer + Drop>(
+    turn: &mut DomainTurn<M, E, Z>,
+    alloc: Global,
+    who: Who,
+    call: &Call,
+)
+    requires can { CanTake (cell_in turn.old.value) (step.GiveUp turn.old.pass.number who call.now) }
+    requires excluded { turn.old.value.core.excluded ≡ Some (record { who = who; call = call.now }) }
+    ensures gives_up { GivesUp turn.old.pass.number who call.now turn.old.value turn.new.value }
+    ensures same { turn.new ≡ record turn.old { value = turn.new.value } }
+{
+    give_up_as(turn, alloc, who, call);
+}
+
+// The last ask of the open call of this number is answered.
+fn back_as<M: Monitor + Drop, E: Ears + Drop, Z: Killer + Drop>(
+    turn: &mut DomainTurn<M, E, Z>,
+    ticket: Ticket<M>,
+    answer: Answer,
+    made: Option<Link<M, E, Z>>,
+) -> Back<M>
+    ghost number: { ℕ }
+    requires can { CanTake (cell_in turn.old.value) (step.Back number answer) }
+    requires ticket { is_some ticket.monitor ≡ is_some turn.old.value.out }
+    requires answered { IsAnswered (cell_in turn.old.value) (is_some ticket.monitor) answer (is_some made) }
+    requires counted { IsCounted M.ends M.faults ticket.monitor answer }
+    ensures back { GoesBackIn number answer turn.old.value turn.new.value result }
+    ensures same { turn.new ≡ record turn.old { value = turn.new.value } }
+{
+    let by = Stamp::named();
+    turn.value().back(by, ticket, answer, made)
+}
+
+/// The last ask of the open call of the pass that has the turn is answered.
+pub fn back_in<M: Monitor + Drop, E: Ears + Drop, Z: Killer + Drop>(
+    turn: &mut DomainTurn<M, E, Z>,
+    ticket: Ticket<M>,
+    answer: Answer,
+    made: Option<Link<M, E, Z>>,
+) -> Back<M>
+    requires can { CanTake (cell_in turn.old.value) (step.Back turn.old.pass.number answer) }
+    requires ticket { is_some ticket.monitor ≡ is_some turn.old.value.out }
+    requires answered { IsAnswered (cell_in turn.old.value) (is_some ticket.monitor) answer (is_some made) }
+    requires counted { IsCounted M.ends M.faults ticket.monitor answer }
+    ensures back { GoesBackIn turn.old.pass.number answer turn.old.value turn.new.value result }
+    ensures same { turn.new ≡ record turn.old { value = turn.new.value } }
+{
+    back_as(turn, ticket, answer, made)
+}
+
+/// What a query reads of the domain.
+pub fn read_in<M: Monitor + Drop, E: Ears + Drop, Z: Killer + Drop>(
+    turn: &mut DomainTurn<M, E, Z>,
+    alloc: Global,
+    query: &Query,
+) -> Result<Reply, NoMemory>
+    ensures value { IfOk result (λ it. it ≡ read (standing_in turn.old.value).state query.now) }
+    ensures same { turn.new ≡ turn.old }
+{
+    turn.value().read(alloc, query)
+}
+
+/// Whether there is a domain, or an operation rests.
+pub fn occupied_in<M: Monitor + Drop, E: Ears + Drop, Z: Killer + Drop>(
+    turn: &mut DomainTurn<M, E, Z>,
+) -> bool
+    ensures value { result ≡ is_occupied (standing_in turn.old.value) }
+    ensures same { turn.new ≡ turn.old }
+{
+    turn.value().occupied()
+}
+
+/// The place after the chapter's last mark of some pass.
+pub fn last_in<M: Monitor + Drop, E: Ears + Drop, Z: Killer + Drop>(
+    turn: &mut DomainTurn<M, E, Z>,
+) -> Front
+    ensures place { IsLastPlace result turn.old.value }
+    ensures same { turn.new ≡ turn.old }
+{
+    turn.value().last()
+}
+
+/// The place of the history in this turn, and whether the cell is occupied there.
+pub fn seen_in<M: Monitor + Drop, E: Ears + Drop, Z: Killer + Drop>(
+    turn: &mut DomainTurn<M, E, Z>,
+) -> Seen
+    ensures chapter { result.front.chapter ≡ turn.old.value.core.turning.chapter }
+    ensures marks { result.front.marks ≡ length (cell_in turn.old.value).marks }
+    ensures occupied { result.occupied ≡ is_occupied (standing_in turn.old.value) }
+    ensures same { turn.new ≡ turn.old }
+{
+    let occupied = occupied_in(turn);
+    let chapter = turn.value().chapter();
+    let marks = turn.value().len() as u64;
+    Seen {
+        front: Front { chapter, marks },
+        occupied,
+    }
+}
+
+/// The history that a turn finds is legal and its boots are counted, what was asked stays what is asked, and a monitor is
+/// out only while a call is open.
+pub fn told_legal<M: Monitor + Drop, E: Ears + Drop, Z: Killer + Drop>(
+    turn: &mut DomainTurn<M, E, Z>,
+)
+    ensures legal { IsLegal (at_base (cell_in turn.old.value).base) (cell_in turn.old.value).marks }
+    ensures counted { AreBootsCounted (at_base (cell_in turn.old.value).base) }
+    ensures steady { IsSteady (standing_in turn.old.value) }
+    ensures out { IsOutWith (standing_in turn.old.value) turn.old.value.out }
+    ensures same { turn.new ≡ turn.old }
+{
+    turn.value().holds();
+}

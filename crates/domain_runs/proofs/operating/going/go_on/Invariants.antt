@@ -1,4 +1,0 @@
-use Rattle.domain_runs.proofs.operating.going.go_on.Given as goal
-
-abbrev pub ghost-phase_as : goal.ghost-phase_as
-ghost-phase_as g a = a.turn.now.pass.number

@@ -1,5 +1,0 @@
-pub mod TidyCalls
-pub mod TidyMarks
-pub mod TidyPhases
-pub mod StoredPlans
-pub mod OwnGuests

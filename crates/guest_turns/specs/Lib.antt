@@ -1,2 +1,0 @@
-pub mod GuestLaws
-pub mod Guests

@@ -1,6 +1,0 @@
-pub mod Admitted
-pub mod Backed
-pub mod Begun
-pub mod Ended
-pub mod Phased
-pub mod Taken

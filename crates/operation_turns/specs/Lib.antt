@@ -1,5 +1,0 @@
-pub mod Beginning
-pub mod Ending
-pub mod OperationLaws
-pub mod Phasing
-pub mod Resting

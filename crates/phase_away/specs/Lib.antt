@@ -1,4 +1,0 @@
-pub mod Copying
-pub mod PhaseAway
-pub mod PhaseLaws
-pub mod PhaseGoing

@@ -1,5 +1,0 @@
-use Rattle.phase_turns.proofs.Operated.{taken_up_is_left}
-use Rattle.phase_turns.proofs.laws.taken_up_calls_are_left.Goals as goal
-
-pub returns : goal.returns
-returns c = taken_up_is_left
