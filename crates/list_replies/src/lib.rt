@@ -1,0 +1,6 @@
+//! What a request is told for which the list of domains has no slot.
+#![tactic(auto)]
+
+mod refusing;
+
+pub use refusing::reply_to;
