@@ -1,0 +1,10 @@
+pub mod Lists
+pub mod Passing
+pub mod Idle
+pub mod Stopping
+pub mod Rows
+pub mod Results
+pub mod Running
+pub mod Storing
+pub mod Slots
+pub mod Ways
