@@ -37,6 +37,13 @@ impl<T: Kept> Pass<T> {
     {
         let _seat = &self.seat;
     }
+
+    /// Whether no ticket was left when it last tried to take a turn. It stays so.
+    pub fn is_spent(&self) -> bool
+        ensures { result ≡ self.now.spent }
+    {
+        self.spent
+    }
 }
 
 /// The value, while a pass has its turn. It has to end in `leave`.
