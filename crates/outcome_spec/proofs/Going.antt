@@ -37,10 +37,10 @@ use Rattle.outcome_spec.specs.Spent.{HasSpent}
 use Rattle.outcome_spec.specs.Titles.{IsTitles}
 use Rattle.outcome_spec.proofs.Staying.{left_stays, read_stays, stands_stays}
 
-level_stays : {B M : Type 0} → NoMarkLowers {B = B} {M = M} level
+pub level_stays : {B M : Type 0} → NoMarkLowers {B = B} {M = M} level
 level_stays b xs ys = le_refl 0
 
-boots_stay : NoMarkLowers rising_number
+pub boots_stay : NoMarkLowers rising_number
 boots_stay b xs ys =
     subst (λ (s : Standing). boots_of (standing (at_base b) xs).state ≤ boots_of s.state) (sym (standing-append (at_base b) xs ys))
     (boots_rise (standing (at_base b) xs) ys)
@@ -61,7 +61,7 @@ list_mark : (before after later : KnownRow) (h : ListCall) (r : Result ℕ ListF
 list_mark before after later h r on left =
     subst (λ n. HasLeft before.list later.list (record { number = n; call = h; answer = r })) (sym on.number) (left_stays level before.list after.list later.list _ left on)
 
-list_stands : (before after later : KnownRow) (front : Front) (h : ListCall) (r : Result ℕ ListFault) → IsLater level after.list later.list
+pub list_stands : (before after later : KnownRow) (front : Front) (h : ListCall) (r : Result ℕ ListFault) → IsLater level after.list later.list
     → StandsAt before.list after.list front (record { number = after.list.number; call = h; answer = r })
     → StandsAt before.list later.list front (record { number = later.list.number; call = h; answer = r })
 list_stands before after later front h r on stands =
@@ -72,12 +72,12 @@ store_mark : (before after later : KnownRow) (d : StoreDeed) → IsLater level a
 store_mark before after later d on left =
     subst (λ n. HasLeft before.store later.store (record { number = n; deed = d })) (sym on.number) (left_stays level before.store after.store later.store _ left on)
 
-store_stands : (before after later : KnownRow) (front : Front) (d : StoreDeed) → IsLater level after.store later.store
+pub store_stands : (before after later : KnownRow) (front : Front) (d : StoreDeed) → IsLater level after.store later.store
     → StandsAt before.store after.store front (record { number = after.store.number; deed = d }) → StandsAt before.store later.store front (record { number = later.store.number; deed = d })
 store_stands before after later front d on stands =
     subst (λ n. StandsAt before.store later.store front (record { number = n; deed = d })) (sym on.number) (stands_stays level before.store after.store later.store front _ stands on)
 
-asks_stay : (before after later : KnownRow) (asked : Request) (h : ListCall) (t : Task) → IsLater level after.store later.store → Asks before after asked h t → Asks before later asked h t
+pub asks_stay : (before after later : KnownRow) (asked : Request) (h : ListCall) (t : Task) → IsLater level after.store later.store → Asks before after asked h t → Asks before later asked h t
 asks_stay before after later (request.OnDomain target asked) h t on asks = asks
 asks_stay before after later (request.DomainLookupByName name) h t on asks = asks
 asks_stay before after later (request.DomainLookupByUuid uuid) h t on asks = asks
