@@ -3,6 +3,7 @@
 #![tactic(auto)]
 
 mod cell;
+mod cell_of;
 mod home;
 mod kept;
 mod laws;
@@ -13,6 +14,7 @@ mod turn;
 mod view;
 
 pub use cell::{NoMemory, Spent, TurnCell};
+pub use cell_of::CellOf;
 pub use kept::Kept;
 pub use laws::{a_turn_tells, turns_add_up};
 pub use turn::{Pass, Turn};
