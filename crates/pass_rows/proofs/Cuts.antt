@@ -16,13 +16,13 @@ module _ {T B M S : Type 0} (K : Meaning T B M S) where
   found : (xs now : List P) (i : ℕ) (x : P) → now ≡ map (fewer 1) (take i xs) ++ drop i xs → i < length xs → x ≡ get_or now i x → x ≡ get_or xs i x
   found xs now i x is in' e = e ∙ found_at (fewer 1) xs now i x is in'
 
-  -- it is of the cell at that place
-  pub is_own : (cells : List TableId) (xs now : List P) (i : ℕ) (x : P) (cell : TableId) → map cell_of xs ≡ cells → now ≡ map (fewer 1) (take i xs) ++ drop i xs → i < length xs → x ≡ get_or now i x → cell ≡ get_or cells i cell → x.cell ≡ cell
-  is_own cells xs now i x cell own is in' e at =
+  -- it is of the cell that is reached at that place
+  pub is_own : {C : Type 0} (place : C → TableId) (cells : List C) (xs now : List P) (i : ℕ) (x : P) (cell : C) (reached : TableId) → map cell_of xs ≡ map place cells → now ≡ map (fewer 1) (take i xs) ++ drop i xs → i < length xs → x ≡ get_or now i x → cell ≡ get_or cells i cell → reached ≡ place cell → x.cell ≡ reached
+  is_own place cells xs now i x cell reached own is in' e at reach =
       let here : x ≡ get_or xs i x = found xs now i x is in' e in
-      let there : get_or cells i x.cell ≡ cell_of (get_or xs i x) = ap (λ (l : List TableId). get_or l i x.cell) (sym own) ∙ get_or-map cell_of xs i x x.cell in' in
-      let long : i < length cells = subst (λ (n : ℕ). i < n) (sym (length-map xs cell_of) ∙ ap length own) in' in
-      ap cell_of here ∙ (sym there ∙ (get_or_default cells i x.cell cell long ∙ sym at))
+      let there : get_or (map place cells) i x.cell ≡ cell_of (get_or xs i x) = ap (λ (l : List TableId). get_or l i x.cell) (sym own) ∙ get_or-map cell_of xs i x x.cell in' in
+      let long : i < length cells = subst (λ (n : ℕ). i < n) (sym (length-map xs cell_of) ∙ (ap length own ∙ length-map cells place)) in' in
+      ap cell_of here ∙ (sym there ∙ (get_or-map place cells i cell x.cell long ∙ (ap place (sym at) ∙ sym reach)))
 
   -- it has the parts
   pub has_parts : (xs now : List P) (i : ℕ) (x : P) → All (HasParts 2) xs → now ≡ map (fewer 1) (take i xs) ++ drop i xs → i < length xs → x ≡ get_or now i x → 1 < x.parts

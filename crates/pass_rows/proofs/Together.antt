@@ -6,6 +6,7 @@ use Rattle.std.proofs.lemmas.List.{append_assoc, append-nil, length-append, take
 use Rattle.std.proofs.lemmas.List.Elements.{All-pop, All-same}
 use Rattle.atomic_table.specs.Seated.{TableId}
 use Rattle.turn_cell.specs.Meaning.{Meaning}
+use Rattle.virt_types.specs.Room.{Roomy}
 use Rattle.turn_cell.specs.Passes.{Passed}
 use Rattle.pass_rows.specs.Cutting.{cell_of}
 use Rattle.pass_rows.specs.Rows.{PassRow, IsOf}
@@ -53,6 +54,11 @@ module _ {TL BL ML SL TS BS MS SS TD BD MD SD G : Type 0} (L : Meaning TL BL ML 
         rows_are = both.0;
         empty = All-same (HoldsNothingRow L S D) rows (all_but_last first) (sym front) empty;
       }
+
+  pub begin_with : (inside given : Roomy (PassRow BL ML SL BS MS SS BD MD SD G)) (rest : List (PassRow BL ML SL BS MS SS BD MD SD G)) (last : Option (PassRow BL ML SL BS MS SS BD MD SD G)) (all : PassRow BL ML SL BS MS SS BD MD SD G)
+      → inside ≡ given → inside.list ≡ rest ++ option_to_list last → last ≡ Some all → All (IsOf list store domains) given.list → All (HoldsNothingRow L S D) (all_but_last given.list) → Going given.list rest all
+  begin_with inside given rest last all same popped is own empty =
+      begin given.list rest all (sym (ap (λ (l : Roomy (PassRow BL ML SL BS MS SS BD MD SD G)). l.list) same) ∙ (popped ∙ ap (λ (o : Option (PassRow BL ML SL BS MS SS BD MD SD G)). rest ++ option_to_list o) is)) own empty
 
   -- the next row
   pub next_is : (rows rest : List (PassRow BL ML SL BS MS SS BD MD SD G)) (row : PassRow BL ML SL BS MS SS BD MD SD G) → rows ≡ rest ++ row ∷ [] → All (IsOf list store domains) rows → All (HoldsNothingRow L S D) rows → IsOf list store domains row × HoldsNothingRow L S D row

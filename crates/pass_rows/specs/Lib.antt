@@ -5,3 +5,4 @@ pub mod Rows
 pub mod Six
 pub mod Joining
 pub mod Closing
+pub mod Still

@@ -7,7 +7,7 @@ ghost use Rattle.pass_rows.specs.Cutting.{cell_of, fewer, HasParts};
 
 use crate::resting::RestingPass;
 use core::mem;
-use turn_cell::{Kept, TurnCell};
+use turn_cell::{CellOf, Kept, TurnCell};
 
 /// Cuts a part of the pass off.
 pub(crate) fn cut<T: Kept + Drop>(
@@ -41,12 +41,12 @@ pub(crate) fn cut_off<T: Kept + Drop>(
 }
 
 /// Cuts a part off each pass, into room for as many.
-pub(crate) fn cut_off_each<T: Kept + Drop>(
+pub(crate) fn cut_off_each<T: Kept + Drop, C: CellOf<T>>(
     passes: &mut Vec<RestingPass<T>>,
-    cells: &[TurnCell<T>],
+    cells: &[C],
     room: Vec<RestingPass<T>>,
 ) -> Vec<RestingPass<T>>
-    requires own { map cell_of passes.old.items ≡ cells.now }
+    requires own { map cell_of passes.old.items ≡ map C.place cells.now }
     requires parts { All (HasParts 2) passes.old.items }
     requires empty { room.items ≡ [] }
     requires room { length passes.old.items ≤ vec_capacity room }
@@ -55,7 +55,7 @@ pub(crate) fn cut_off_each<T: Kept + Drop>(
 {
     let mut parts = room;
     for i in 0..passes.len() {
-        parts.push_reserved(cut_off(&mut passes[i], &cells[i]));
+        parts.push_reserved(cut_off(&mut passes[i], cells[i].turn_cell()));
     }
     parts
 }

@@ -10,7 +10,7 @@ use crate::resting::RestingPass;
 use crate::row::RowOf;
 use crate::row_list::RowListOf;
 use core::mem;
-use turn_cell::{Kept, TurnCell};
+use turn_cell::{CellOf, Kept, TurnCell};
 
 // A pass that is put into another, and their cell.
 struct Given<'a, T: Kept> {
@@ -46,33 +46,33 @@ pub(crate) fn glue_on<T: Kept + Drop>(
 }
 
 /// The same of passes one by one.
-pub(crate) fn glue_on_each<T: Kept + Drop>(
+pub(crate) fn glue_on_each<T: Kept + Drop, C: CellOf<T>>(
     ones: &mut Vec<RestingPass<T>>,
     others: Vec<RestingPass<T>>,
-    cells: &[TurnCell<T>],
+    cells: &[C],
 )
-    requires ones { map cell_of ones.old.items ≡ cells.now }
-    requires others { map cell_of others.items ≡ cells.now }
+    requires ones { map cell_of ones.old.items ≡ map C.place cells.now }
+    requires others { map cell_of others.items ≡ map C.place cells.now }
     requires empty { All (HoldsNothing T.meaning) others.items }
     ensures { AreJoined T.meaning ones.old.items others.items ones.new.items }
 {
     let mut others = others;
     while let Some(other) = others.pop() {
         let place = others.len();
-        glue_on(&mut ones[place], other, &cells[place]);
+        glue_on(&mut ones[place], other, cells[place].turn_cell());
     }
 }
 
 // Puts the passes of a row into those of another.
-fn join_row<L: Kept + Drop, S: Kept + Drop, D: Kept + Drop, G: Drop>(
+fn join_row<L: Kept + Drop, S: Kept + Drop, D: Kept + Drop, C: CellOf<D>, G: Drop>(
     one: &mut RowOf<L, S, D, G>,
     other: RowOf<L, S, D, G>,
     list: &TurnCell<L>,
     store: &TurnCell<S>,
-    domains: &[TurnCell<D>],
+    domains: &[C],
 )
-    requires one { IsOf list.now store.now domains.now one.old }
-    requires other { IsOf list.now store.now domains.now other }
+    requires one { IsOf list.now store.now (map C.place domains.now) one.old }
+    requires other { IsOf list.now store.now (map C.place domains.now) other }
     requires empty { HoldsNothingRow L.meaning S.meaning D.meaning other }
     ensures { IsJoinedRow L.meaning S.meaning D.meaning one.old other one.new }
 {
@@ -89,14 +89,14 @@ fn join_row<L: Kept + Drop, S: Kept + Drop, D: Kept + Drop, G: Drop>(
 
 impl<L: Kept + Drop, S: Kept + Drop, D: Kept + Drop, G: Drop> RowListOf<L, S, D, G> {
     /// Puts all rows together: each pass of the others is put into that of the last row, whose maker of guests stays.
-    pub fn joined(
+    pub fn joined<C: CellOf<D>>(
         self,
         list: &TurnCell<L>,
         store: &TurnCell<S>,
-        domains: &[TurnCell<D>],
+        domains: &[C],
     ) -> RowOf<L, S, D, G>
         requires some { 0 < length self.list }
-        requires own { All (IsOf list.now store.now domains.now) self.list }
+        requires own { All (IsOf list.now store.now (map C.place domains.now)) self.list }
         requires empty { All (HoldsNothingRow L.meaning S.meaning D.meaning) (all_but_last self.list) }
         ensures { HasJoined L.meaning S.meaning D.meaning self.list result }
     {

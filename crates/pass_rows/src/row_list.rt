@@ -1,12 +1,14 @@
 // Lists of rows.
-ghost use Rattle.std.specs.Prelude.{◌≡◌, ◌++◌, ◌∷◌, ◌+◌, ◌<◌, IsTrue, ◌↔◌, IfNone, [], length};
+ghost use Rattle.std.specs.Prelude.{◌≡◌, ◌++◌, ◌∷◌, ◌+◌, ◌<◌, ◌≤◌, IfOk, IsTrue, ◌↔◌, IfNone, [], length};
 ghost use Rattle.std.specs.Option.{option_to_list};
 ghost use Rattle.std.specs.List.{All};
 ghost use Rattle.pass_rows.specs.Rows.{IsIdleRow};
 
 use crate::row::RowOf;
+use std::alloc::Global;
 use std::marker::Model;
 use turn_cell::Kept;
+use virt_types::NoMemory;
 
 /// Rows in order, with room for more. Contracts see the rows and how many more fit.
 #[derive(Drop)]
@@ -26,6 +28,17 @@ impl<L: Kept, S: Kept, D: Kept, G> Model for RowListOf<L, S, D, G> {
 }
 
 impl<L: Kept, S: Kept, D: Kept, G> RowListOf<L, S, D, G> {
+    /// An empty list with room for at least this many.
+    pub fn with_room(alloc: Global, room: u32) -> Result<RowListOf<L, S, D, G>, NoMemory>
+        ensures list { IfOk result (λ rows. rows.list ≡ []) }
+        ensures room { IfOk result (λ rows. room ≤ rows.room) }
+    {
+        match Vec::with_capacity(alloc, room as usize) {
+            Ok(rows) => Ok(RowListOf { rows }),
+            Err(_) => Err(NoMemory),
+        }
+    }
+
     /// How many rows there are.
     pub fn len(&self) -> usize
         ensures { result ≡ length self.now.list }

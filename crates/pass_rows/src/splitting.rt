@@ -1,5 +1,5 @@
 // A row becomes many.
-ghost use Rattle.std.specs.Prelude.{◌≡◌, ◌≤◌, ◌<◌, ◌+◌, ℕ, [], length, IfErr, IfOk};
+ghost use Rattle.std.specs.Prelude.{◌≡◌, ◌≤◌, ◌<◌, ◌+◌, ℕ, [], length, map, IfErr, IfOk};
 ghost use Rattle.std.specs.List.{All};
 ghost use Rattle.std.specs.Vec.{vec_capacity};
 ghost use Rattle.pass_rows.specs.Rows.{IsOf, HasRowParts, IsCutOffRow, HasSplit, IsIdleRow, IsSplit, KeepsPasses, fewer_row};
@@ -12,7 +12,7 @@ use crate::row_list::RowListOf;
 use monitor_link::Guests;
 use std::alloc::Global;
 use std::marker::Model;
-use turn_cell::{Kept, TurnCell};
+use turn_cell::{CellOf, Kept, TurnCell};
 use virt_types::NoMemory;
 
 // What a new row takes memory for. Contracts see how many passes fit.
@@ -76,14 +76,14 @@ fn make_blanks<D: Kept, G: Guests + Drop>(
 }
 
 // Cuts a part off each pass of the row.
-fn cut_row<L: Kept + Drop, S: Kept + Drop, D: Kept + Drop, G>(
+fn cut_row<L: Kept + Drop, S: Kept + Drop, D: Kept + Drop, C: CellOf<D>, G>(
     row: &mut RowOf<L, S, D, G>,
     list: &TurnCell<L>,
     store: &TurnCell<S>,
-    domains: &[TurnCell<D>],
+    domains: &[C],
     blank: Blank<D, G>,
 ) -> RowOf<L, S, D, G>
-    requires own { IsOf list.now store.now domains.now row.old }
+    requires own { IsOf list.now store.now (map C.place domains.now) row.old }
     requires parts { HasRowParts 2 row.old }
     requires room { length row.old.domains ≤ blank }
     ensures kept { row.new ≡ fewer_row 1 row.old }
@@ -101,15 +101,15 @@ fn cut_row<L: Kept + Drop, S: Kept + Drop, D: Kept + Drop, G>(
 }
 
 // Cuts as many rows off as there are blanks, and puts the row after them.
-fn cut_rows<L: Kept + Drop, S: Kept + Drop, D: Kept + Drop, G: Drop>(
+fn cut_rows<L: Kept + Drop, S: Kept + Drop, D: Kept + Drop, C: CellOf<D>, G: Drop>(
     row: RowOf<L, S, D, G>,
     list: &TurnCell<L>,
     store: &TurnCell<S>,
-    domains: &[TurnCell<D>],
+    domains: &[C],
     blanks: Vec<Blank<D, G>>,
     room: Vec<RowOf<L, S, D, G>>,
 ) -> Vec<RowOf<L, S, D, G>>
-    requires own { IsOf list.now store.now domains.now row }
+    requires own { IsOf list.now store.now (map C.place domains.now) row }
     requires parts { HasRowParts (length blanks.items + 1) row }
     requires width { All (λ blank. length row.domains ≤ blank) blanks.items }
     requires empty { room.items ≡ [] }
@@ -129,19 +129,19 @@ fn cut_rows<L: Kept + Drop, S: Kept + Drop, D: Kept + Drop, G: Drop>(
 impl<L: Kept + Drop, S: Kept + Drop, D: Kept + Drop, G: Guests + Drop> RowOf<L, S, D, G> {
     /// Makes so many rows of this one: itself, and new ones, whose passes are cut off its own. Where there is no memory, or no
     /// maker of guests for a new row, it comes back with the same passes.
-    pub fn split(
+    pub fn split<C: CellOf<D>>(
         self,
         list: &TurnCell<L>,
         store: &TurnCell<S>,
-        domains: &[TurnCell<D>],
+        domains: &[C],
         alloc: Global,
         rows: u32,
     ) -> Result<RowListOf<L, S, D, G>, (RowOf<L, S, D, G>, NoMemory)>
         requires some { 1 ≤ rows }
-        requires own { IsOf list.now store.now domains.now self }
+        requires own { IsOf list.now store.now (map C.place domains.now) self }
         requires parts { HasRowParts rows self }
         ensures ok { IfOk result (λ all. HasSplit L.meaning S.meaning D.meaning G.faults rows self all.list) }
-        ensures own { IfOk result (λ all. All (IsOf list.now store.now domains.now) all.list) }
+        ensures own { IfOk result (λ all. All (IsOf list.now store.now (map C.place domains.now)) all.list) }
         ensures idle { IfOk result (λ all. IsIdleRow L.meaning S.meaning D.meaning self → All (IsIdleRow L.meaning S.meaning D.meaning) all.list) }
         ensures passes { IfErr result (λ e. KeepsPasses self e.0) }
         ensures failed { IfErr result (λ e. G.faults self.guests ≤ G.faults e.0.guests) }

@@ -5,7 +5,7 @@ use Rattle.pass_rows.proofs.Cuts.{is_own, has_parts, has_room, one_more}
 use Rattle.pass_rows.proofs.cutting.cut_off_each.Goals as goal
 
 pub cut_off-requires-clause-own : goal.cut_off-requires-clause-own
-cut_off-requires-clause-own g c = is_own g.T.Kept.meaning _ _ _ c.loop-i.i _ _ c.requires.own c.loop-i.invariant.passes (omega arith) c.index_mut.ensures.value c.index-cells-i.is
+cut_off-requires-clause-own g c = is_own g.T.Kept.meaning g.C.CellOf.place _ _ _ c.loop-i.i _ _ _ c.requires.own c.loop-i.invariant.passes (omega arith) c.index_mut.ensures.value c.index-cells-i.is c.turn_cell.ensures
 
 pub cut_off-requires-clause-parts : goal.cut_off-requires-clause-parts
 cut_off-requires-clause-parts g c = has_parts g.T.Kept.meaning _ _ c.loop-i.i _ c.requires.parts c.loop-i.invariant.passes (omega arith) c.index_mut.ensures.value

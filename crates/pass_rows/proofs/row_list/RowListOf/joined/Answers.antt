@@ -1,16 +1,10 @@
-use Rattle.std.proofs.Common.{◌≡◌, ◌∙◌, ◌++◌, Option, length, refl, sym, ap, arith}
-use Rattle.std.specs.Option.{option_to_list}
+use Rattle.std.proofs.Common.{◌≡◌, length, refl, arith}
 use Rattle.std.proofs.lemmas.List.{nil_from_length}
-use Rattle.virt_types.specs.Room.{Roomy}
-use Rattle.pass_rows.specs.Rows.{PassRow}
-use Rattle.pass_rows.proofs.Together.{begin, next_is, go_on, ends}
+use Rattle.pass_rows.proofs.Together.{begin_with, next_is, go_on, ends}
 use Rattle.pass_rows.proofs.row_list.RowListOf.joined.Goals as goal
 
 pub loop-row-init : goal.loop-row-init
-loop-row-init g c =
-    let first = sym (ap (λ (l : Roomy (PassRow g.row.L-Base.Denot g.row.L-Mark.Denot g.row.L-Share.Denot g.row.S-Base.Denot g.row.S-Mark.Denot g.row.S-Share.Denot g.row.D-Base.Denot g.row.D-Mark.Denot g.row.D-Share.Denot g.row.G.Denot)). l.list) c.self.view_is) in
-    let last = ap (λ (o : Option (PassRow g.row.L-Base.Denot g.row.L-Mark.Denot g.row.L-Share.Denot g.row.S-Base.Denot g.row.S-Mark.Denot g.row.S-Share.Denot g.row.D-Base.Denot g.row.D-Mark.Denot g.row.D-Share.Denot g.row.G.Denot)). c.pop.new.self.items ++ option_to_list o) c.unwrap-all.ensures in
-    begin g.L.Kept.meaning g.S.Kept.meaning g.D.Kept.meaning _ _ _ _ _ _ (first ∙ (c.pop.ensures.items ∙ last)) c.requires.own c.requires.empty
+loop-row-init g c = begin_with g.L.Kept.meaning g.S.Kept.meaning g.D.Kept.meaning _ _ _ _ _ _ _ _ c.self.view_is c.pop.ensures.items c.unwrap-all.ensures c.requires.own c.requires.empty
 
 pub join_row-requires-clause-one : goal.join_row-requires-clause-one
 join_row-requires-clause-one g c = c.loop-row.invariant.all_is
