@@ -18,7 +18,7 @@ use domain_turns::Chronicle;
 use monitor_link::{Ears, Killer, Monitor};
 use std::alloc::Global;
 use std::marker::Model;
-use virt_types::{DomainDef, Front, NoMemory, Query, Reply};
+use virt_types::{DomainDef, Front, NoMemory, Query, Reply, State};
 
 /// A domain between two turns, with the link of the guest that is there: each turn of a call, an operation, the guest
 /// or a client is one step of it. The guest's monitor goes out with the ticket of the open call; its ears with a pass
@@ -69,6 +69,13 @@ impl<M: Monitor + Drop, E: Ears + Drop, Z: Killer + Drop> DomainCell<M, E, Z> {
         ensures { result ≡ length (cell_in self.now).marks }
     {
         self.turns.len()
+    }
+
+    /// The state of the domain.
+    pub fn state(&self) -> &State
+        ensures { result.now ≡ (standing_in self.now).state }
+    {
+        self.turns.state()
     }
 
     /// What a query reads of the domain, as its state has it.

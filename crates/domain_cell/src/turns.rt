@@ -216,6 +216,13 @@ impl DomainTurns {
         last(&self.kept)
     }
 
+    /// The state of the domain.
+    pub fn state(&self) -> &State
+        ensures { result.now ≡ (standing_of self.now.turning.cell).state }
+    {
+        self.kept.state()
+    }
+
     /// What a query reads of the domain, as its state has it.
     pub fn read(&self, alloc: Global, query: &Query) -> Result<Reply, NoMemory>
         ensures { IfOk result (λ it. it ≡ read (standing_of self.now.turning.cell).state query.now) }
