@@ -20,13 +20,26 @@ use monitor_link::{Ears, Killer, Monitor};
 use std::alloc::Global;
 use std::marker::Model;
 use std::sync::Wait;
-use turn_cell::{Spent, TurnCell};
+use turn_cell::{CellOf, Spent, TurnCell};
 use virt_types::{Call, DomainDef, NoMemory, Query, Reply, Who};
 
 /// A domain that passes take turns at. Contracts see which cell it is.
 #[derive(Drop)]
 pub struct DomainObj<M: Monitor + Drop, E: Ears + Drop, Z: Killer + Drop> {
     cell: TurnCell<DomainCell<M, E, Z>>,
+}
+
+impl<M: Monitor + Drop, E: Ears + Drop, Z: Killer + Drop> CellOf<DomainCell<M, E, Z>>
+    for DomainObj<M, E, Z> {
+    ghost use Rattle.std.specs.Prelude.{◌≡◌};
+
+    ghost place = { λ domain. domain };
+
+    fn turn_cell(&self) -> &TurnCell<DomainCell<M, E, Z>>
+        ensures { result.now ≡ self.now }
+    {
+        &self.cell
+    }
 }
 
 impl<M: Monitor + Drop, E: Ears + Drop, Z: Killer + Drop> Model for DomainObj<M, E, Z> {
