@@ -31,6 +31,20 @@ impl Drop for SavedGuest {
     }
 }
 
+impl SavedGuest {
+    /// Its definition, whether it ran, and its state. With a `Drop` of its own it can be taken apart nowhere else.
+    pub fn into_parts(self) -> (DomainDef, bool, Bytes)
+        ensures { result ≡ (self.definition, self.running, self.state) }
+    {
+        let SavedGuest {
+            definition,
+            running,
+            state,
+        } = self;
+        (definition, running, state)
+    }
+}
+
 fn refuse(alloc: Global, code: RefusalCode, kept: &str) -> OrNoMemory<Refusal>
     ensures { Fails result (refusal code kept.now) }
 {
