@@ -1,2 +1,4 @@
 pub mod Rows
 pub mod MapFinds
+pub mod Elements
+pub mod Picking

@@ -1,2 +1,4 @@
 pub mod Rows
 pub mod Map
+pub mod Listed
+pub mod Walk

@@ -1,7 +1,7 @@
 // Values by bytes.
 ghost use Rattle.std.specs.Prelude.{◌≡◌, List, [], ℕ, OnOk, OnErr, None, Some, length, option_copied};
 ghost use Rattle.std.specs.Option.{IsSome};
-ghost use Rattle.def_map.specs.Rows.{at, Stays, Updates};
+ghost use Rattle.def_map.specs.Rows.{at, rows_in, Stays, Updates};
 
 use std::alloc::Global;
 use std::collections::HashMap;
@@ -76,6 +76,13 @@ impl<V> Keyed<V> {
         ensures old { result ≡ at self.old bytes.now }
     {
         self.rows.remove(bytes)
+    }
+
+    /// The rows, in no order.
+    pub(crate) fn rows(&self) -> &HashMap<Vec<u8>, V>
+        ensures { rows_in result.now.entries ≡ self.now }
+    {
+        &self.rows
     }
 
     /// How many rows there are.

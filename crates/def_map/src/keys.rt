@@ -9,8 +9,8 @@ use virt_types::{Name, NoMemory, Uuid};
 /// The most bytes of a key: that of a kind, and those of a name.
 pub(crate) const MOST_KEY: usize = 129;
 
-// The byte that stands for a kind.
-fn kind_byte(kind: BookKind) -> u8
+/// The byte that stands for a kind.
+pub(crate) fn kind_byte(kind: BookKind) -> u8
     ensures { result ≡ spec.kind_byte kind }
 {
     match kind {

@@ -4,6 +4,7 @@
 mod keyed;
 mod keys;
 mod map;
+mod walk;
 
 pub use keyed::Keyed;
 pub use keys::key_of;

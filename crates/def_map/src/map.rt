@@ -1,14 +1,16 @@
 // Definitions in memory.
-ghost use Rattle.std.specs.Prelude.{◌≡◌, List, ℕ, IfOk, OnOk, OnErr, None, Some, length, option_copied};
+ghost use Rattle.std.specs.Prelude.{◌≡◌, List, ℕ, IfOk, OnOk, OnErr, None, Some, length, map, option_copied};
 ghost use Rattle.std.specs.Option.{IsSome};
 ghost use Rattle.store_spec.specs.declared.change.Change.TheVariants as change;
 ghost use Rattle.store_spec.specs.Changes.{changed};
 ghost use Rattle.store_spec.specs.declared.kind.BookKind.{BookKind as TheKind};
 ghost use Rattle.def_map.specs.Map.{FindsTheSame, HasForgotten, HasNoBareRow, IsForgotten, IsFree, IsHolder, IsMade, IsNamed, IsReady, entry_in, found, key_of, kind_byte, no_rows};
+ghost use Rattle.def_map.specs.Listed.{AreEntries};
 ghost use Rattle.def_map.specs.Rows.{at};
 
 use crate::keyed::Keyed;
 use crate::keys::{Keys, MOST_KEY, keys_of, name_key, uuid_key};
+use crate::walk::{picked, risen};
 use std::alloc::Global;
 use std::marker::Model;
 use store_spec::{BookKind, Entry};
@@ -202,6 +204,14 @@ impl DefMap {
     {
         self.drop_row(kind, uuid);
         self.forget(kind, name);
+    }
+
+    /// The entries of this kind by rising name.
+    pub fn entries(&self, kind: BookKind) -> Result<Vec<&Entry>, NoMemory>
+        ensures { IfOk result (λ entries. AreEntries kind (found self.now) (map (λ e. e.now) entries.items)) }
+    {
+        let entries = picked(self.alloc, kind, self.entries.rows())?;
+        Ok(risen(entries))
     }
 
     /// How many rows there are, of entries and of names.
