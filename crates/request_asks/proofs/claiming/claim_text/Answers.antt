@@ -1,0 +1,14 @@
+use Rattle.std.proofs.Common.{ℕ, List, ap, subst, sym, ◌∙◌}
+use Rattle.domain_requests.specs.Requests.{Fails}
+use Rattle.session_spec.specs.DefinitionText.{definition_in}
+use Rattle.session_spec.specs.Refused.{refusal}
+use Rattle.virt_types.specs.declared.refusal.RefusalCode.TheVariants as code
+use Rattle.request_asks.specs.Claims.{IsClaimedBy}
+use Rattle.request_asks.proofs.Drawn.{made_of_none}
+use Rattle.request_asks.proofs.OwnClaims.{claims_text, refuses_text}
+use Rattle.request_asks.proofs.claiming.claim_text.Goals as goal
+
+pub returns-in-Ok-claim : goal.returns-in-Ok-claim
+returns-in-Ok-claim g c =
+    let claimed = c.in-Ok-claim.ensures in
+    (claimed.0, claims_text claimed.0 c.args.xml.now c.in-Ok.read c.in-Ok-claim.claimed (sym (ap definition_in c.as_bytes.ensures) ∙ c.in-Ok.ensures) claimed.1, claimed.2)
