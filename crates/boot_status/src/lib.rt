@@ -1,0 +1,9 @@
+//! What the driver writes of a domain's boot: the status that its state has, and the turn of the store in which that is
+//! written, or removed when the boot has ended.
+#![tactic(auto)]
+
+mod comparing;
+mod reading;
+
+pub use comparing::same_status;
+pub use reading::status_of;
