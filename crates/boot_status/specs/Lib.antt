@@ -1,1 +1,3 @@
-pub mod Telling
+pub mod Reporting
+pub mod Storing
+pub mod Keeping

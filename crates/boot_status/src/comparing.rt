@@ -1,4 +1,4 @@
-// Whether a change left what is told of a boot as it was.
+// Whether a change left a boot's status as it was.
 ghost use Rattle.std.specs.Prelude.{◌≡◌, ◌↔◌, IsTrue};
 
 use same::Same;
@@ -15,7 +15,7 @@ fn is_same(one: &Status, other: &Status) -> bool
         && one.phase == other.phase
 }
 
-/// Whether the same is told: of the same boot of the same domain, in the same state, operation and phase.
+/// Whether the same boot is reported, if one is: of the same domain, and in the same state, operation and phase.
 pub fn same_status(one: &Option<Status>, other: &Option<Status>) -> bool
     ensures { IsTrue result ↔ (one.now ≡ other.now) }
 {

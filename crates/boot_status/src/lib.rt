@@ -3,7 +3,14 @@
 #![tactic(auto)]
 
 mod comparing;
+mod keeping;
+mod outcome;
 mod reading;
+mod replacing;
+#[cfg(test)]
+mod tests;
 
 pub use comparing::same_status;
+pub use keeping::keep_status;
+pub use outcome::StatusKept;
 pub use reading::status_of;

@@ -1,7 +1,8 @@
 // The status of the boot that is live.
-ghost use Rattle.std.specs.Prelude.{◌≡◌, IfOk, None, Ok};
+ghost use Rattle.std.specs.Prelude.{◌≡◌, IfOk, None, Ok, option_map};
 ghost use Rattle.domain_spec.specs.Read.{job_info};
-ghost use Rattle.boot_status.specs.Telling.{boot_status, guest_status};
+ghost use Rattle.domain_spec.specs.Reading.{boot_in, live_boot};
+ghost use Rattle.boot_status.specs.Reporting.{boot_status, guest_status};
 
 use core_rules::state_in;
 use virt_types::{Domain, NoMemory, Op, OpKind, Phase, State, Status, TryCopy};
@@ -18,7 +19,8 @@ fn under_way(op: &Option<Op>) -> (Option<OpKind>, Phase)
 
 fn guest_status(domain: &Domain) -> Result<Option<Status>, NoMemory>
     ensures status { IfOk result (λ status. status ≡ guest_status domain.now domain.now.live) }
-    ensures inactive { guest_status domain.now domain.now.live ≡ None → result ≡ Ok None }
+    ensures boot { IfOk result (λ status. option_map (λ s. s.boot) status ≡ boot_in domain.now.live) }
+    ensures inactive { domain.now.live ≡ None → result ≡ Ok None }
 {
     match &domain.live {
         None => Ok(None),
@@ -36,10 +38,11 @@ fn guest_status(domain: &Domain) -> Result<Option<Status>, NoMemory>
     }
 }
 
-/// What is to be told of the boot that is live; none where none is, and then it takes no memory.
+/// The status of the boot that is live; none where none is, and then it takes no memory.
 pub fn status_of(state: &State) -> Result<Option<Status>, NoMemory>
     ensures status { IfOk result (λ status. status ≡ boot_status state.now) }
-    ensures inactive { boot_status state.now ≡ None → result ≡ Ok None }
+    ensures boot { IfOk result (λ status. option_map (λ s. s.boot) status ≡ live_boot state.now) }
+    ensures inactive { live_boot state.now ≡ None → result ≡ Ok None }
 {
     match state {
         State::Vacant { .. } => Ok(None),

@@ -1,4 +1,4 @@
--- What the status file of a domain's boot is to tell.
+-- What the status file of a domain's boot is to report.
 use Rattle.std.specs.Prelude.{Option, None, Some}
 use Rattle.virt_types.specs.declared.status.Status.{Status}
 use Rattle.domain_spec.specs.Types.{Domain, Live, State}

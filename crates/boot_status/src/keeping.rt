@@ -1,0 +1,66 @@
+// A turn of the store for what changed of a boot.
+ghost use Rattle.std.specs.Prelude.{◌≡◌, IfErr, IfOk};
+ghost use Rattle.turn_cell.specs.Turning.{SamePass};
+ghost use Rattle.boot_status.specs.Keeping.{HasNoTicket, HasReplaced, KeepsStatus, outcome_of};
+
+use crate::comparing::same_status;
+use crate::outcome::StatusKept;
+use crate::replacing::replace_in;
+use def_keeper::{Keeper, KeeperPass, Opening};
+use files_disk::Files;
+use std::sync::Wait;
+use turn_cell::TurnCell;
+use virt_types::{Fault, Status};
+
+fn outcome(replaced: Result<(), Fault>) -> StatusKept
+    ensures { result ≡ outcome_of replaced }
+{
+    match replaced {
+        Ok(()) => StatusKept::Done,
+        Err(Fault::Failed) => StatusKept::Failed,
+        Err(Fault::NoMemory) => StatusKept::NoMemory,
+    }
+}
+
+// Takes a turn and replaces the status in it.
+fn take_turn<R: Wait, F: Files + Drop, K: Opening>(
+    rt: &R,
+    store: &TurnCell<Keeper<F, K>>,
+    pass: KeeperPass<F, K>,
+    before: &Option<Status>,
+    after: &Option<Status>,
+) -> Result<(KeeperPass<F, K>, Result<(), Fault>), KeeperPass<F, K>>
+    requires { pass.cell ≡ store.now }
+    ensures replaced { IfOk result (λ r. HasReplaced F.told F.faults before.now after.now pass r.0 r.1) }
+    ensures spent { IfErr result (λ left. HasNoTicket pass left) }
+{
+    let mut turn = match store.enter(rt, pass) {
+        Ok(turn) => turn,
+        Err((pass, _)) => return Err(pass),
+    };
+    let replaced = replace_in(&mut turn, before, after);
+    Ok((store.leave(turn), replaced))
+}
+
+/// Keeps the status of a domain's boot after a turn of the domain, which may have been that of a call or of a hearing: where
+/// it changed, takes a turn of the store and writes it there, or removes it where the boot has ended. It is not synced, so
+/// after a crash it is a report at most.
+pub fn keep_status<R: Wait, F: Files + Drop, K: Opening>(
+    rt: &R,
+    store: &TurnCell<Keeper<F, K>>,
+    pass: KeeperPass<F, K>,
+    before: &Option<Status>,
+    after: &Option<Status>,
+) -> (KeeperPass<F, K>, StatusKept)
+    requires { pass.cell ≡ store.now }
+    ensures kept { KeepsStatus F.told F.faults before.now after.now pass result.0 result.1 }
+    ensures same { SamePass pass result.0 }
+{
+    if same_status(before, after) {
+        return (pass, StatusKept::Unchanged);
+    }
+    match take_turn(rt, store, pass, before, after) {
+        Ok((pass, replaced)) => (pass, outcome(replaced)),
+        Err(pass) => (pass, StatusKept::Spent),
+    }
+}

@@ -1,0 +1,16 @@
+// What comes of keeping a status.
+
+/// What came of keeping the status of a boot. No reply to a caller depends on it; a fault is for the log.
+#[derive(Clone, Copy, Debug, PartialEq, Eq)]
+pub enum StatusKept {
+    /// The status is as before: nothing was done.
+    Unchanged,
+    /// The status was written, or removed.
+    Done,
+    /// The store failed.
+    Failed,
+    /// There was no memory.
+    NoMemory,
+    /// No ticket of the store was left: nothing was done.
+    Spent,
+}
