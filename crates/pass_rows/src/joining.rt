@@ -98,7 +98,8 @@ impl<L: Kept + Drop, S: Kept + Drop, D: Kept + Drop, G: Drop> RowListOf<L, S, D,
         requires some { 0 < length self.list }
         requires own { All (IsOf list.now store.now (map C.place domains.now)) self.list }
         requires empty { All (HoldsNothingRow L.meaning S.meaning D.meaning) (all_but_last self.list) }
-        ensures { HasJoined L.meaning S.meaning D.meaning self.list result }
+        ensures joined { HasJoined L.meaning S.meaning D.meaning self.list result }
+        ensures own { IsOf list.now store.now (map C.place domains.now) result }
     {
         let RowListOf { mut rows } = self;
         let mut all = rows.pop().unwrap();

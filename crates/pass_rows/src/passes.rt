@@ -49,6 +49,14 @@ impl<T: Kept> Passes<T> {
         Passes { all }
     }
 
+    /// The passes.
+    pub fn into_vec(self) -> Vec<RestingPass<T>>
+        ensures { result.items ≡ self }
+    {
+        let Passes { all } = self;
+        all
+    }
+
     /// How many there are.
     pub fn len(&self) -> usize
         ensures { result ≡ length self.now }

@@ -18,7 +18,10 @@ join_row-requires-clause-empty g c = (next_is g.L.Kept.meaning g.S.Kept.meaning 
 pub loop-row-preserved : goal.loop-row-preserved
 loop-row-preserved g c = go_on g.L.Kept.meaning g.S.Kept.meaning g.D.Kept.meaning _ _ _ _ _ _ _ _ _ c.loop-row.invariant c.in-Some.ensures.items c.join_row.ensures
 
-pub returns : goal.returns
-returns g c =
+pub returns-clause-joined : goal.returns-clause-joined
+returns-clause-joined g c =
     let none : length c.loop-row.rows.items ≡ 0 = omega (arith, c.in_default.ensures.cases.0, c.loop-row.rows.ok.0) in
     ends g.L.Kept.meaning g.S.Kept.meaning g.D.Kept.meaning _ _ _ _ _ _ _ c.loop-row.invariant (nil_from_length c.loop-row.rows.items none) refl
+
+pub returns-clause-own : goal.returns-clause-own
+returns-clause-own g c = c.loop-row.invariant.all_is
