@@ -1,6 +1,6 @@
 -- What is found out by what a request says alone.
 use Rattle.std.proofs.Common.{◌≡◌, ◌∙◌, ℕ, ℤ, ◌++◌, List, [], Bool, true, false, Option, None, Some, Result, Ok, Err, ap, codes, decimal, inl, inr, refl, subst, sym}
-use Rattle.std.specs.Prelude.{IfSome, int_lt, nat_abs, pos}
+use Rattle.std.specs.Prelude.{IfSome, int_lt, pos}
 use Rattle.std.specs.Fmt.{signed_decimal}
 use Rattle.domain_requests.specs.Requests.{Fails, IsTaskOf, parsed_as, passed_one}
 use Rattle.domain_requests.specs.declared.task.Parsed.{Parsed}
@@ -98,11 +98,11 @@ said_uncounted xml state running bound e passes is =
     (why_fails (request.MigratePrepare xml running state) e why (ap (λ (o : Option ℕ). or_else (number_shown running o) (text_shown (definition_in xml))) passes) is)
 
 -- ---- names that are listed
-pub said_names : (most : ℤ) → passed most ≡ None → IsSaid [] (request.ListDefinedDomains most) (asked.List (listing.Idle (nat_abs most)))
+pub said_names : (most : ℤ) → passed most ≡ None → IsSaid [] (request.ListDefinedDomains most) (asked.List (listing.Idle most))
 said_names most within before after = record {
   asks = ap (names_asked most) within;
   heard = record { built = refl; shown = ap (number_shown most) within };
-  plain = subst (λ (o : Option ℕ). IsNot (names_asked most o) (asked.List (listing.Idle (nat_abs most)))) (sym within) refl;
+  plain = subst (λ (o : Option ℕ). IsNot (names_asked most o) (asked.List (listing.Idle most))) (sym within) refl;
   made = refl;
 }
 

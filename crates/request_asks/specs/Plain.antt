@@ -1,5 +1,5 @@
 -- Requests of which no word has to be read: what they ask takes no memory to find out.
-use Rattle.std.specs.Prelude.{ℕ, ℤ, nat_abs, Option, None, Some}
+use Rattle.std.specs.Prelude.{ℕ, ℤ, Option, None, Some}
 use Rattle.domain_requests.specs.declared.task.Task.TheVariants as task
 use Rattle.session_spec.specs.Served.{passed}
 use Rattle.slot_holds.specs.declared.Hold.TheVariants as hold
@@ -12,7 +12,7 @@ use Rattle.request_asks.specs.declared.asked.Listing.TheVariants as listing
 
 -- at most so many names, where the number passes no bound
 abbrev pub names_asked : ℤ → Option ℕ → Option Asked
-names_asked most None = Some (asked.List (listing.Idle (nat_abs most)))
+names_asked most None = Some (asked.List (listing.Idle most))
 names_asked most (Some bound) = None
 
 -- what they ask

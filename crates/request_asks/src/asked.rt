@@ -14,7 +14,7 @@ pub enum Listing {
     /// The names of those that are not active.
     Idle {
         /// How many names are told at most.
-        most: u32,
+        most: i32,
     },
     /// The titles of the definitions that the store keeps.
     Titles,

@@ -27,9 +27,7 @@ pub(crate) fn list_names(alloc: Global, most: i32) -> Asked
     ensures { IsSaid [] (request.ListDefinedDomains most) result }
 {
     match passed(most) {
-        None => Asked::List(Listing::Idle {
-            most: most.unsigned_abs(),
-        }),
+        None => Asked::List(Listing::Idle { most }),
         Some(bound) => Asked::refused(refuse_number(alloc, most, bound)),
     }
 }

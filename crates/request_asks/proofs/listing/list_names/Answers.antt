@@ -1,5 +1,4 @@
-use Rattle.std.proofs.Common.{◌≡◌, ◌∙◌, ℕ, ℤ, ◌++◌, [], ap, codes, decimal, subst, sym, to_z, of_z, w32}
-use Rattle.std.specs.Prelude.{nat_abs}
+use Rattle.std.proofs.Common.{◌≡◌, ◌∙◌, ℤ, ◌++◌, [], ap, codes, decimal, subst, sym, to_z, of_z, w32}
 use Rattle.std.specs.Fmt.{signed_decimal}
 use Rattle.std.proofs.lemmas.Int.{to_z-of_z}
 use Rattle.domain_requests.specs.Requests.{Fails}
@@ -16,7 +15,7 @@ use Rattle.request_asks.proofs.listing.list_names.Goals as goal
 pub returns-in-None : goal.returns-in-None
 returns-in-None c =
     let back : to_z w32 (of_z w32 c.args.most) ≡ c.args.most = to_z-of_z w32 c.args.most c.ranges.most in
-    subst (λ (n : ℕ). IsSaid [] (request.ListDefinedDomains c.args.most) (asked.List (listing.Idle n))) (sym (c.unsigned_abs.ensures.value ∙ ap nat_abs back)) (said_names c.args.most (sym (ap passed back) ∙ sym c.in-None.ensures))
+    subst (λ (n : ℤ). IsSaid [] (request.ListDefinedDomains c.args.most) (asked.List (listing.Idle n))) (sym back) (said_names c.args.most (sym (ap passed back) ∙ sym c.in-None.ensures))
 
 pub returns-in-Some : goal.returns-in-Some
 returns-in-Some c =
