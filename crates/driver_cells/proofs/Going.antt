@@ -1,0 +1,27 @@
+-- Rows that go on: each pass saw more, or is the same.
+use Rattle.std.proofs.Common.{◌≡◌, ◌++◌, List, [], ◌∷◌, map, sym, subst}
+use Rattle.domain_obj.specs.InTurn.{DomainPass}
+use Rattle.domain_spec.specs.Chapter.{rising_number}
+use Rattle.outcome_spec.specs.Rows.{AreLater, HasGone, IsLater, level}
+use Rattle.driver_cells.specs.Known.{DriverRow, known, known_row}
+use Rattle.driver_cells.proofs.Passing.{later_itself}
+
+pub are_later_itself : (ps : List DomainPass) → AreLater (map known ps) (map known ps)
+are_later_itself [] = tt
+are_later_itself (p ∷ ps) = (later_itself rising_number (known p), are_later_itself ps)
+
+are_later_at : (first : List DomainPass) (old new : DomainPass) (rest : List DomainPass) → IsLater rising_number (known old) (known new) → AreLater (map known (first ++ old ∷ rest)) (map known (first ++ new ∷ rest))
+are_later_at [] old new rest on = (on, are_later_itself rest)
+are_later_at (p ∷ first) old new rest on = (later_itself rising_number (known p), are_later_at first old new rest on)
+
+-- one of the domains' passes went on
+pub are_later : (before after first rest : List DomainPass) (old new : DomainPass) → before ≡ first ++ old ∷ rest → after ≡ first ++ new ∷ rest → IsLater rising_number (known old) (known new) → AreLater (map known before) (map known after)
+are_later before after first rest old new was is on =
+    subst (λ (x : List DomainPass × List DomainPass). AreLater (map known x.0) (map known x.1)) (λ i. (sym was i, sym is i)) (are_later_at first old new rest on)
+
+pub are_same : (before after : List DomainPass) → after ≡ before → AreLater (map known before) (map known after)
+are_same before after same = subst (λ (l : List DomainPass). AreLater (map known before) (map known l)) (sym same) (are_later_itself before)
+
+-- the row stayed as it was
+pub gone_itself : {G : Type 0} (row : DriverRow G) → HasGone (known_row row) (known_row row)
+gone_itself row = record { list = later_itself level (known row.list); store = later_itself level (known row.store); domains = are_later_itself row.domains }

@@ -1,0 +1,4 @@
+pub mod Passing
+pub mod Going
+pub mod Idle
+pub mod Stopping

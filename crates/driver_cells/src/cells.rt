@@ -1,0 +1,23 @@
+// The cells of a driver, and rows of passes for them.
+use def_keeper::{Keeper, Opening};
+use domain_cell::DomainCell;
+use domain_obj::DomainObj;
+use files_disk::Files;
+use monitor_link::{Ears, Killer, Monitor};
+use object_list::ObjectList;
+use pass_rows::RowOf;
+use turn_cell::TurnCell;
+
+/// The cells of a driver: the list of domains, the store, and the domain in each slot.
+#[derive(Drop)]
+pub struct Cells<F: Files + Drop, K: Opening, M: Monitor + Drop, E: Ears + Drop, Z: Killer + Drop> {
+    /// The list of domains.
+    pub list: TurnCell<ObjectList>,
+    /// The store of definitions.
+    pub store: TurnCell<Keeper<F, K>>,
+    /// The domain in each slot of the list.
+    pub domains: Vec<DomainObj<M, E, Z>>,
+}
+
+/// A pass of each of these cells, and a maker of guests.
+pub type Row<F, K, M, E, Z, G> = RowOf<ObjectList, Keeper<F, K>, DomainCell<M, E, Z>, G>;

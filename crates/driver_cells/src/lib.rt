@@ -1,0 +1,8 @@
+//! The cells of a driver, and rows of passes for them: what the calls of the driver share.
+#![tactic(auto)]
+
+mod cells;
+mod spent;
+
+pub use cells::{Cells, Row};
+pub use spent::{NO_FRONT, run_out};
