@@ -2,7 +2,9 @@
 #![tactic(auto)]
 
 mod cells;
+mod resting;
 mod spent;
 
 pub use cells::{Cells, Row};
+pub use resting::state_of;
 pub use spent::{NO_FRONT, run_out};
