@@ -1,5 +1,5 @@
 -- What came of a task, from what the domain said of it.
-use Rattle.std.proofs.Common.{◌≡◌, ◌⊎◌, inl, inr, ℕ, List, [], true, false, IfSome, Option, Some, sym, ap, ◌∙◌, subst}
+use Rattle.std.proofs.Common.{◌≡◌, ◌⊎◌, inl, inr, ℕ, Bool, List, [], true, false, IfSome, Option, Some, refl, sym, ap, ◌∙◌, subst}
 use Rattle.virt_types.specs.declared.ask.GuestEvent.{GuestEvent}
 use Rattle.virt_types.specs.declared.call.Query.{Query}
 use Rattle.virt_types.specs.declared.caller.Front.{Front}
@@ -20,8 +20,8 @@ use Rattle.outcome_spec.specs.Read.{IsValue}
 use Rattle.reply_texts.specs.Printed.{told}
 use Rattle.domain_tasks.specs.Passes.{known}
 use Rattle.domain_tasks.specs.Serving.{HasDone, HasServed}
-use Rattle.domain_tasks.specs.Tasked.{Answers, HasTasked, IsGivenAt, IsStoppedAt, ReadsNow, Sees}
-use Rattle.domain_tasks.specs.Telling.{IsPrinted, TellsQueried, front_by, not_built_reply, seen_by, takes_memory}
+use Rattle.domain_tasks.specs.Tasked.{Answers, HasTasked, IsGivenAt, IsStoppedAt, ReadsNow, SeesAt}
+use Rattle.domain_tasks.specs.Telling.{IsPrinted, TellsQueried, front_by, not_built_reply, seen_by, takes_memory, unseen}
 use Rattle.domain_tasks.proofs.Answering.{IsAnswered, answers_called, answers_operated}
 use Rattle.domain_tasks.proofs.Coming.{Comes, comes_called, comes_left, comes_operated}
 use Rattle.domain_tasks.proofs.Following.{Follows, follows_left, follows_same, is_spent, keeps_spent, later_by, of_goes, of_spent, ready_spent, ready_stays}
@@ -131,25 +131,35 @@ module _ {E : Type 0} (ends faults : E → ℕ) (unheard : E → Option (List Gu
   now_served who task.Register before after report now said place seen h = tt
   now_served who task.Deregister before after report now said place seen h = tt
 
-  sees_served : (who : Who) (t : Task) (before after : DomainPass) (report now : List (Ask × Answer)) (said : Reply) (place : Option Front) (seen : Seen) → HasServed ends faults unheard who t before after report now said place seen → Sees after t seen
-  sees_served who (task.Read q) before after report now said place seen h = λ fresh. sees_read q before after h.came seen h.queried h.sees fresh
-  sees_served who (task.Run d) before after report now said place seen h = λ fresh. subst (λ (s : Seen). IsSeen s after) (sym h.sees) (sees_done who d before after report now said h.came h.done fresh)
-  sees_served who task.Register before after report now said place seen h = tt
-  sees_served who task.Deregister before after report now said place seen h = tt
+  saw_done : (who : Who) (d : Call) (before after : DomainPass) (report now : List (Ask × Answer)) (said : Reply) (place : Option Front) (saw : Seen) → HasServed ends faults unheard who (task.Run d) before after report now said place saw → after.spent ≡ false
+      → IsSeen saw after
+  saw_done who d before after report now said place saw h fresh = subst (λ (s : Seen). IsSeen s after) (sym h.sees) (sees_done who d before after report now said h.came h.done fresh)
 
-  pub has_tasked : (who : Who) (t : Task) (before after : DomainPass) (report now : List (Ask × Answer)) (said r : Reply) (place : Option Front) (seen : Seen) → IsReady before → HasServed ends faults unheard who t before after report now said place seen → IsPrinted said r
-      → HasTasked ends faults unheard who t before after report now r place seen
-  has_tasked who t before after report now said r place seen ready h prints =
-      let c : Comes before after = comes_served who t before after report now said place seen h in
+  sees_at : (spent : Bool) (who : Who) (t : Task) (before after : DomainPass) (report now : List (Ask × Answer)) (said : Reply) (place : Option Front) (saw seen : Seen) → HasServed ends faults unheard who t before after report now said place saw
+      → after.spent ≡ spent → (spent ≡ false → seen ≡ saw) → (spent ≡ true → seen ≡ unseen) → SeesAt spent after t seen
+  sees_at false who (task.Read q) before after report now said place saw seen h is fresh gone = subst (λ (s : Seen). IsSeen s after) (sym (fresh refl)) (sees_read q before after h.came saw h.queried h.sees is)
+  sees_at false who (task.Run d) before after report now said place saw seen h is fresh gone = subst (λ (s : Seen). IsSeen s after) (sym (fresh refl)) (saw_done who d before after report now said place saw h is)
+  sees_at false who task.Register before after report now said place saw seen h is fresh gone = fresh refl ∙ h.sees
+  sees_at false who task.Deregister before after report now said place saw seen h is fresh gone = fresh refl ∙ h.sees
+  sees_at true who (task.Read q) before after report now said place saw seen h is fresh gone = gone refl
+  sees_at true who (task.Run d) before after report now said place saw seen h is fresh gone = gone refl
+  sees_at true who task.Register before after report now said place saw seen h is fresh gone = gone refl
+  sees_at true who task.Deregister before after report now said place saw seen h is fresh gone = gone refl
+
+  pub has_tasked : (who : Who) (t : Task) (before after : DomainPass) (report now : List (Ask × Answer)) (said r : Reply) (place : Option Front) (saw seen : Seen) → IsReady before → HasServed ends faults unheard who t before after report now said place saw → IsPrinted said r
+      → (after.spent ≡ false → seen ≡ saw) → (after.spent ≡ true → seen ≡ unseen) → HasTasked ends faults unheard who t before after report now r place seen
+  has_tasked who t before after report now said r place saw seen ready h prints fresh gone =
+      let c : Comes before after = comes_served who t before after report now said place saw h in
       record {
         said = said;
+        saw = saw;
         serves = h;
         prints = prints;
-        answers = answers_served who t before after report now said r place seen h prints;
-        reads_now = now_served who t before after report now said place seen h;
+        answers = answers_served who t before after report now said r place saw h prints;
+        reads_now = now_served who t before after report now said place saw h;
         same = c.follows.same;
         later = later_by c.more before after c.follows;
         keeps = c.keeps;
         ready = c.ready ready;
-        sees = sees_served who t before after report now said place seen h;
+        sees = sees_at after.spent who t before after report now said place saw seen h refl fresh gone;
       }

@@ -14,7 +14,7 @@ use Rattle.domain_spec.specs.Types.{Answer, Ask, Call, Reply, Who}
 use Rattle.virt_types.specs.declared.ask.GuestEvent.{GuestEvent}
 use Rattle.virt_types.specs.declared.call.Query.{Query}
 use Rattle.virt_types.specs.declared.caller.Front.{Front}
-use Rattle.domain_tasks.specs.Telling.{TellsQueried, front_by, not_built_reply, seen_by}
+use Rattle.domain_tasks.specs.Telling.{TellsQueried, front_by, not_built_reply, seen_by, unseen}
 
 -- a query took a turn and read there, or no ticket was left; nobody was asked
 pub record HasRead (q : Query) (before after : DomainPass) (report now : List (Ask × Answer)) (said : Reply) (place : Option Front) (seen : Seen) : Type 0 where
@@ -26,11 +26,12 @@ pub record HasRead (q : Query) (before after : DomainPass) (report now : List (A
   pub sees : IfSome (seen_by came) (λ s. seen ≡ s)
 
 -- nothing was done
-pub record IsNotBuilt (before after : DomainPass) (report now : List (Ask × Answer)) (said : Reply) (place : Option Front) : Type 0 where
+pub record IsNotBuilt (before after : DomainPass) (report now : List (Ask × Answer)) (said : Reply) (place : Option Front) (seen : Seen) : Type 0 where
   pub same : after ≡ before
   pub reported : now ≡ report
   pub tells : said ≡ not_built_reply
   pub at : place ≡ None
+  pub sees : seen ≡ unseen
 
 module _ {E : Type 0} (ends faults : E → ℕ) (unheard : E → Option (List GuestEvent)) where
   -- a call was run; one that begins an operation or takes one up, with its phases
@@ -50,4 +51,4 @@ module _ {E : Type 0} (ends faults : E → ℕ) (unheard : E → Option (List Gu
   abbrev pub HasServed : Who → Task → DomainPass → DomainPass → List (Ask × Answer) → List (Ask × Answer) → Reply → Option Front → Seen → Type 0
   HasServed who (task.Read q) before after report now said place seen = HasRead q before after report now said place seen
   HasServed who (task.Run d) before after report now said place seen = HasCalled who d before after report now said place seen
-  HasServed who other before after report now said place seen = IsNotBuilt before after report now said place
+  HasServed who other before after report now said place seen = IsNotBuilt before after report now said place seen

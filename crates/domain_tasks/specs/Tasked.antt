@@ -1,5 +1,5 @@
 -- What a request does with one domain, once its pass is at hand.
-use Rattle.std.specs.Prelude.{◌≡◌, ◌⊎◌, ◌^◌, ℕ, List, decimal, true, false, Option, Some}
+use Rattle.std.specs.Prelude.{◌≡◌, ◌⊎◌, ◌^◌, ℕ, Bool, List, decimal, true, false, Option, Some}
 use Rattle.domain_obj.specs.InTurn.{DomainPass}
 use Rattle.domain_obj.specs.Running.{IsReady, IsSeen}
 use Rattle.domain_obj.specs.declared.place.Seen.{Seen}
@@ -20,7 +20,7 @@ use Rattle.virt_types.specs.declared.refusal.RefusalCode.TheVariants as code
 use Rattle.virt_types.specs.declared.value.Reply.TheVariants as reply
 use Rattle.domain_tasks.specs.Passes.{known}
 use Rattle.domain_tasks.specs.Serving.{HasServed}
-use Rattle.domain_tasks.specs.Telling.{IsPrinted, not_built_reply}
+use Rattle.domain_tasks.specs.Telling.{IsPrinted, not_built_reply, unseen}
 
 -- the domain came to no answer: its pass is spent, or there was no memory
 abbrev pub IsStoppedAt : KnownPass → Reply → Type 0
@@ -45,11 +45,15 @@ abbrev pub ReadsNow : KnownPass → Task → Option Front → Type 0
 ReadsNow after (task.Read q) (Some front) = front ≡ front_of after.seen
 ReadsNow after t place = Unit {0}
 
--- what the pass has seen, where something was asked of the domain and a ticket is left
+-- what a pass has seen of the domain, where a ticket is left for it, and the domain was asked
+abbrev pub SeesAt : Bool → DomainPass → Task → Seen → Type 0
+SeesAt false after (task.Read q) seen = IsSeen seen after
+SeesAt false after (task.Run d) seen = IsSeen seen after
+SeesAt spent after t seen = seen ≡ unseen
+
+-- what is told of the domain once the pass comes back
 abbrev pub Sees : DomainPass → Task → Seen → Type 0
-Sees after (task.Read q) seen = after.spent ≡ false → IsSeen seen after
-Sees after (task.Run d) seen = after.spent ≡ false → IsSeen seen after
-Sees after other seen = Unit {0}
+Sees after t seen = SeesAt after.spent after t seen
 
 module _ {E : Type 0} (ends faults : E → ℕ) (unheard : E → Option (List GuestEvent)) where
   -- the task came to what the domain said, and its caller is told that: so the reply is the task's, or the domain came to
@@ -57,7 +61,8 @@ module _ {E : Type 0} (ends faults : E → ℕ) (unheard : E → Option (List Gu
   -- request
   pub record HasTasked (who : Who) (t : Task) (before after : DomainPass) (report now : List (Ask × Answer)) (r : Reply) (place : Option Front) (seen : Seen) : Type 0 where
     pub said : Reply
-    pub serves : HasServed ends faults unheard who t before after report now said place seen
+    pub saw : Seen
+    pub serves : HasServed ends faults unheard who t before after report now said place saw
     pub prints : IsPrinted said r
     pub answers : Answers (known before) (known after) t place r
     pub reads_now : ReadsNow (known after) t place

@@ -50,6 +50,10 @@ front_by (queried.Read r seen) = Some seen.front
 front_by (queried.NoMemory seen) = Some seen.front
 front_by queried.Spent = None
 
+-- what is told of a domain of which nothing was seen: no front is shorter, and it may be occupied
+abbrev pub unseen : Seen
+unseen = record { front = record { chapter = 0; marks = 0 }; occupied = true }
+
 -- what is not built yet
 abbrev pub not_built_reply : Reply
 not_built_reply = reply.No (bare code.NotBuilt)

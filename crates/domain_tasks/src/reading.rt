@@ -11,7 +11,7 @@ use std::alloc::Global;
 use std::sync::Wait;
 use virt_types::{Front, Query, Reply};
 
-/// What is given for a pass of which nothing was seen.
+/// What is told of a domain of which nothing was seen.
 pub const UNSEEN: Seen = Seen {
     front: Front {
         chapter: 0,

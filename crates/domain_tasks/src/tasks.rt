@@ -1,8 +1,9 @@
 // What a request does with one domain.
-ghost use Rattle.std.specs.Prelude.{◌≡◌};
+ghost use Rattle.std.specs.Prelude.{◌≡◌, false, true};
 ghost use Rattle.domain_obj.specs.Running.{IsReady};
 ghost use Rattle.domain_tasks.specs.Serving.{HasServed};
 ghost use Rattle.domain_tasks.specs.Tasked.{HasTasked};
+ghost use Rattle.domain_tasks.specs.Telling.{unseen};
 
 use crate::calling::run;
 use crate::reading::{UNSEEN, read};
@@ -22,8 +23,8 @@ pub struct Tasked {
     /// The place that the reply rests on: that of the call's last mark, or how far the history went where a query was read.
     /// Where there was no ticket for a query, or nothing was asked of the domain, the reply rests on none.
     pub place: Option<Front>,
-    /// What the pass has seen of the domain, where something was asked of it. It speaks of a pass for which tickets are
-    /// left.
+    /// What the pass has seen of the domain when it comes back, with the hearing of the guest after a call. Where no ticket is
+    /// left for it, or nothing was asked of the domain, what is told of a domain of which nothing was seen.
     pub seen: Seen,
 }
 
@@ -49,6 +50,20 @@ fn serve<M: Monitor + Drop, E: Ears + Drop, Z: Killer + Drop, D: Desk<M, E, Z>, 
     }
 }
 
+// What the pass has seen when it comes back, where the domain told this.
+fn seen_by<M: Monitor + Drop, E: Ears + Drop, Z: Killer + Drop>(
+    pass: &DomainPass<M, E, Z>,
+    saw: Seen,
+) -> Seen
+    ensures fresh { pass.now.spent ≡ false → result ≡ saw }
+    ensures spent { pass.now.spent ≡ true → result ≡ unseen }
+{
+    if pass.is_spent() {
+        return UNSEEN;
+    }
+    saw
+}
+
 /// A query is read in a turn of the pass. A call is run: one that begins an operation or takes one up, with its phases; and
 /// then the pass hears the guest. Registrations are not built yet: they are refused (206), and nothing is done.
 pub fn run_task<M: Monitor + Drop, E: Ears + Drop, Z: Killer + Drop, D: Desk<M, E, Z>, R: Wait>(
@@ -64,7 +79,8 @@ pub fn run_task<M: Monitor + Drop, E: Ears + Drop, Z: Killer + Drop, D: Desk<M, 
     requires ready { IsReady pass }
     ensures { HasTasked E.ends E.faults E.unheard who task.now pass result.0 (D.report desk.old) (D.report desk.new) result.1.reply result.1.place result.1.seen }
 {
-    let (pass, said, place, seen) = serve(rt, alloc, domain, pass, who, task, desk);
+    let (pass, said, place, saw) = serve(rt, alloc, domain, pass, who, task, desk);
+    let seen = seen_by(&pass, saw);
     let tasked = Tasked {
         reply: tell(alloc, said),
         place,
