@@ -1,4 +1,6 @@
 // What is found when a store is opened.
+ghost use Rattle.std.specs.Prelude.{◌≡◌};
+
 use store_spec::Change;
 use thiserror::Error;
 use virt_types::{DomainDef, ListOf, Text, Uuid};
@@ -37,6 +39,16 @@ impl Drop for FoundDomains {
             domains: _,
             again: _,
         } = self;
+    }
+}
+
+impl FoundDomains {
+    /// The domains, and the changes.
+    pub fn into_parts(self) -> (ListOf<FoundDomain>, ListOf<Change>)
+        ensures { self ≡ record { domains = result.0; again = result.1 } }
+    {
+        let FoundDomains { domains, again } = self;
+        (domains, again)
     }
 }
 
