@@ -1,0 +1,4 @@
+pub mod Putting
+pub mod Stopping
+pub mod Fewness
+pub mod Listed

@@ -1,0 +1,5 @@
+pub mod Faults
+pub mod Again
+pub mod Reading
+pub mod Stopped
+pub mod Listing

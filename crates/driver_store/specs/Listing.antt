@@ -1,0 +1,22 @@
+-- What the list of domains is opened with, and which domains are to be started.
+use Rattle.std.specs.Prelude.{ℕ, List, [], ◌∷◌, flat_map, map, if◌then◌else◌}
+use Rattle.found_domains.specs.declared.found.FoundDomain.{FoundDomain}
+use Rattle.found_domains.specs.Found.{name_of}
+use Rattle.object_list.specs.declared.slot_name.FoundDomain.{FoundDomain as ListedDomain}
+use Rattle.object_list.specs.Opening.{opened}
+use Rattle.book_spec.specs.ListHistory.{ListHistory}
+
+-- what the list is told of a domain that was found
+abbrev pub listed : FoundDomain → ListedDomain
+listed d = record { name = name_of d; uuid = d.uuid }
+
+-- the list of these domains, in slots 0, 1, .., of which nothing was asked yet
+abbrev pub list_of : List FoundDomain → ListHistory
+list_of ds = record { chapter = 0; base = opened (map listed ds); marks = [] }
+
+-- the names of the domains that a daemon starts as it starts itself
+abbrev pub start_of : FoundDomain → List (List ℕ)
+start_of d = if d.autostart then name_of d ∷ [] else []
+
+unfoldable pub starts_of : List FoundDomain → List (List ℕ)
+starts_of ds = flat_map start_of ds
