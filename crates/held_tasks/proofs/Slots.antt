@@ -1,0 +1,85 @@
+-- A task in a slot: what its parts need, and what they come to.
+use Rattle.std.proofs.Common.{◌≡◌, ◌<◌, ◌++◌, ℕ, List, ◌∷◌, false, length, map, get_or, Option, sym, ap, ◌∙◌, subst, arith}
+use Rattle.std.specs.List.{All}
+use Rattle.std.proofs.lemmas.List.{length-map}
+use Rattle.atomic_table.specs.Seated.{TableId}
+use Rattle.domain_cell.specs.Meaning.{meaning, nothing_kept}
+use Rattle.domain_obj.specs.InTurn.{DomainPass}
+use Rattle.domain_obj.specs.declared.place.Seen.{Seen}
+use Rattle.domain_requests.specs.declared.task.Task.{Task}
+use Rattle.domain_spec.specs.Types.{Reply, Who}
+use Rattle.files_disk.specs.Telling.{Told}
+use Rattle.object_list.specs.Turns.{ListPassed}
+use Rattle.outcome_spec.specs.declared.outcome.Outcome.{Outcome}
+use Rattle.pass_rows.specs.Cutting.{cell_of}
+use Rattle.pass_rows.specs.Resting.{IsIdle}
+use Rattle.row_desk.specs.Views.{StorePass}
+use Rattle.virt_types.specs.declared.ask.GuestEvent.{GuestEvent}
+use Rattle.virt_types.specs.declared.caller.Front.{Front}
+use Rattle.list_holds.specs.Released.{LetsGo}
+use Rattle.driver_cells.specs.Known.{DriverRow}
+use Rattle.held_tasks.specs.Course.{IsServedIn, RestsAt}
+use Rattle.held_tasks.specs.Holding.{HoldsSlot}
+use Rattle.held_tasks.specs.Running.{HasServedTask}
+use Rattle.held_tasks.proofs.Lists.{one_of, value_in}
+
+-- the row of these parts
+abbrev pub row_with : {G : Type 0} → ListPassed → StorePass → List DomainPass → G → DriverRow G
+row_with list store domains guests = record { list = list; store = store; domains = domains; guests = guests }
+
+module _ {G : Type 0} (slot : ℕ) (list store : TableId) (cells : List TableId) (row : DriverRow G) (can : HoldsSlot slot list store cells row) (l : ListPassed) (s : StorePass) (domains : List DomainPass) (guests : G) (is : row ≡ row_with l s domains guests) where
+  pub slot_in : slot < length domains
+  slot_in = subst (λ (r : DriverRow G). slot < length r.domains) is can.within
+
+  pub slot_in_cells : slot < length cells
+  slot_in_cells =
+      let same : length (map cell_of row.domains) ≡ length cells = ap (λ (c : List TableId). length c) can.own.domains_are in
+      let long = length-map row.domains cell_of in
+      let within = can.within in
+      omega (arith, same, long, within)
+
+  pub list_own : l.cell ≡ list
+  list_own = sym (ap (λ (r : DriverRow G). r.list.cell) is) ∙ can.own.list_is
+
+  pub list_fresh : l.spent ≡ false
+  list_fresh = sym (ap (λ (r : DriverRow G). r.list.spent) is) ∙ can.fresh
+
+  pub store_own : s.cell ≡ store
+  store_own = sym (ap (λ (r : DriverRow G). r.store.cell) is) ∙ can.own.store_is
+
+  pub store_fresh : s.spent ≡ false
+  store_fresh = sym (ap (λ (r : DriverRow G). r.store.spent) is) ∙ can.store_fresh
+
+  module _ (first : List DomainPass) (old : DomainPass) (rest : List DomainPass) (was : domains ≡ first ++ old ∷ rest) (at : length first ≡ slot) where
+    pub domain_idle : IsIdle meaning old
+    domain_idle =
+        let all : All (IsIdle meaning) domains = subst (λ (r : DriverRow G). All (IsIdle meaning) r.domains) is can.idle in
+        one_of (IsIdle meaning) first old rest (subst (λ (ps : List DomainPass). All (IsIdle meaning) ps) was all)
+
+    pub domain_own : (d : TableId) → d ≡ get_or cells slot d → old.cell ≡ d
+    domain_own d there =
+        let cells_are : map cell_of (first ++ old ∷ rest) ≡ cells = ap (λ (l : List DomainPass). map cell_of l) (sym was) ∙ (sym (ap (λ (r : DriverRow G). map cell_of r.domains) is) ∙ can.own.domains_are) in
+        value_in cell_of first old rest slot cells d at cells_are ∙ sym there
+
+-- what is known of the pass that is put back
+pub keeps_empty : (old new : DomainPass) → (new.spent ≡ false → new.share ≡ old.share) → old.share ≡ nothing_kept → new.spent ≡ false → new.share ≡ nothing_kept
+keeps_empty old new keeps free fresh = keeps fresh ∙ free
+
+-- all of it
+module _ {F E G : Type 0} (told : F → Told) (maker : G → ℕ) (ends faults : E → ℕ) (unheard : E → Option (List GuestEvent)) where
+  pub served_in : (who : Who) (t : Task) (slot : ℕ) (row after : DriverRow G) (o : Outcome) (l l' : ListPassed) (s s' : StorePass) (domains domains' first rest : List DomainPass) (old new : DomainPass) (guests guests' : G)
+      (r : Reply) (place : Option Front) (seen : Seen) → row ≡ row_with l s domains guests → domains ≡ first ++ old ∷ rest → length first ≡ slot
+      → HasServedTask told ends faults unheard who t s s' (maker guests) (maker guests') old new r place seen → LetsGo slot seen.front seen.occupied l l' → domains' ≡ first ++ new ∷ rest → after ≡ row_with l' s' domains' guests'
+      → o.reply ≡ r → RestsAt slot place o → IsServedIn told maker ends faults unheard who t slot row after o
+  served_in who t slot row after o l l' s s' domains domains' first rest old new guests guests' r place seen is was at serves goes put made says rests =
+      let base : IsServedIn told maker ends faults unheard who t slot (row_with l s domains guests) (row_with l' s' domains' guests') o = record {
+        old = old;
+        new = new;
+        place = place;
+        seen = seen;
+        domains = record { first = first; rest = rest; was = was; is = put; in_slot = at };
+        serves = subst (λ (x : Reply). HasServedTask told ends faults unheard who t s s' (maker guests) (maker guests') old new x place seen) (sym says) serves;
+        lets_go = goes;
+        rests = rests;
+      } in
+      subst (λ (x : DriverRow G × DriverRow G). IsServedIn told maker ends faults unheard who t slot x.0 x.1 o) (λ i. (sym is i, sym made i)) base

@@ -1,0 +1,11 @@
+//! A task of the domain that a request names: the list gives its slot, the task is run there by the passes of a row, and the
+//! slot is released.
+#![tactic(auto)]
+
+mod laws;
+mod serving;
+mod slot;
+mod store;
+
+pub use laws::{queries_read_now, tasks_answer_requests};
+pub use serving::serve_held;
