@@ -1,0 +1,14 @@
+pub mod Silent
+pub mod Listed
+pub mod Members
+pub mod Naming
+pub mod Found
+pub mod IdleNames
+pub mod TitleRows
+pub mod Places
+pub mod Rowing
+pub mod Carrying
+pub mod Gathering
+pub mod Listings
+pub mod Answering
+pub mod Storing

@@ -1,0 +1,6 @@
+pub mod Idle
+pub mod Listing
+pub mod Reading
+pub mod Stopping
+pub mod Titling
+pub mod Whole
