@@ -3,6 +3,7 @@ use Rattle.std.proofs.Common.{◌≡◌, ◌∙◌, ◌++◌, ◌<◌, ◌≤◌
 use Rattle.std.proofs.Math.Seq.{drop-cons}
 use Rattle.std.proofs.lemmas.List.{get_or-map, get_or_default, length-map}
 use Rattle.virt_types.specs.Limits.{most_domains}
+use Rattle.virt_types.specs.declared.request.Request.{Request}
 use Rattle.found_domains.specs.declared.found.FoundDomain.{FoundDomain}
 use Rattle.found_domains.specs.Found.{AreDistinct, name_of}
 use Rattle.object_list.specs.declared.slot_name.FoundDomain.{FoundDomain as ListedDomain}
@@ -38,12 +39,12 @@ next_starts : (d : FoundDomain) (ds : List FoundDomain) → starts_of (d ∷ ds)
 unfolding starts_of
 next_starts d ds = refl
 
-pub starts_more : (ds : List FoundDomain) (i : ℕ) (d : FoundDomain) (names now : List (List ℕ)) → i < length ds → d ≡ get_or ds i d → now ≡ names ++ start_of d → names ++ starts_of (drop i ds) ≡ starts_of ds
+pub starts_more : (ds : List FoundDomain) (i : ℕ) (d : FoundDomain) (asked now : List Request) → i < length ds → d ≡ get_or ds i d → now ≡ asked ++ start_of d → asked ++ starts_of (drop i ds) ≡ starts_of ds
     → now ++ starts_of (drop (i + 1) ds) ≡ starts_of ds
-starts_more ds i d names now lt is put all = ap (λ (l : List (List ℕ)). l ++ starts_of (drop (i + 1) ds)) put
-    ∙ (append_assoc names (start_of d) (starts_of (drop (i + 1) ds))
-    ∙ (ap (λ (l : List (List ℕ)). names ++ l) (sym (ap starts_of (cut_at ds i d lt is) ∙ next_starts d (drop (i + 1) ds))) ∙ all))
+starts_more ds i d asked now lt is put all = ap (λ (l : List Request). l ++ starts_of (drop (i + 1) ds)) put
+    ∙ (append_assoc asked (start_of d) (starts_of (drop (i + 1) ds))
+    ∙ (ap (λ (l : List Request). asked ++ l) (sym (ap starts_of (cut_at ds i d lt is) ∙ next_starts d (drop (i + 1) ds))) ∙ all))
 
-pub starts_none : (ds : List FoundDomain) (i : ℕ) (names : List (List ℕ)) → drop i ds ≡ [] → names ++ starts_of (drop i ds) ≡ starts_of ds → names ≡ starts_of ds
+pub starts_none : (ds : List FoundDomain) (i : ℕ) (asked : List Request) → drop i ds ≡ [] → asked ++ starts_of (drop i ds) ≡ starts_of ds → asked ≡ starts_of ds
 unfolding starts_of
-starts_none ds i names none all = let whole = rw none at all in sym (append-nil names) ∙ whole
+starts_none ds i asked none all = let whole = rw none at all in sym (append-nil asked) ∙ whole

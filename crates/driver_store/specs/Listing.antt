@@ -1,5 +1,8 @@
 -- What the list of domains is opened with, and which domains are to be started.
-use Rattle.std.specs.Prelude.{ℕ, List, [], ◌∷◌, flat_map, map, if◌then◌else◌}
+use Rattle.std.specs.Prelude.{List, [], ◌∷◌, flat_map, map, negsuc, if◌then◌else◌}
+use Rattle.virt_types.specs.declared.object_request.DomainRequest.TheVariants as on_domain
+use Rattle.virt_types.specs.declared.request.Request.{Request}
+use Rattle.virt_types.specs.declared.request.Request.TheVariants as request
 use Rattle.found_domains.specs.declared.found.FoundDomain.{FoundDomain}
 use Rattle.found_domains.specs.Found.{name_of}
 use Rattle.object_list.specs.declared.slot_name.FoundDomain.{FoundDomain as ListedDomain}
@@ -14,9 +17,13 @@ listed d = record { name = name_of d; uuid = d.uuid }
 abbrev pub list_of : List FoundDomain → ListHistory
 list_of ds = record { chapter = 0; base = opened (map listed ds); marks = [] }
 
--- the names of the domains that a daemon starts as it starts itself
-abbrev pub start_of : FoundDomain → List (List ℕ)
-start_of d = if d.autostart then name_of d ∷ [] else []
+-- the request that starts a domain
+abbrev pub to_start : FoundDomain → Request
+to_start d = request.OnDomain (record { name = name_of d; uuid = d.uuid; id = negsuc 0 }) on_domain.Create
 
-unfoldable pub starts_of : List FoundDomain → List (List ℕ)
+-- what a daemon asks of the domains that it starts as it starts itself
+abbrev pub start_of : FoundDomain → List Request
+start_of d = if d.autostart then to_start d ∷ [] else []
+
+unfoldable pub starts_of : List FoundDomain → List Request
 starts_of ds = flat_map start_of ds

@@ -5,13 +5,15 @@ ghost use Rattle.turn_cell.specs.Passes.{IsFirst};
 ghost use Rattle.found_domains.specs.Found.{AreDistinct, name_of};
 ghost use Rattle.object_list.specs.Keeping.{meaning};
 ghost use Rattle.driver_store.specs.Listing as spec;
-ghost use Rattle.driver_store.specs.Listing.{list_of, listed, start_of};
+ghost use Rattle.driver_store.specs.Listing.{list_of, listed, start_of, to_start};
 
 use found_domains::FoundDomain;
 use object_list::{ListPass, ObjectList, open};
 use std::alloc::Global;
 use turn_cell::TurnCell;
-use virt_types::{ListOf, Name, NoMemory, TryCopy};
+use virt_types::{
+    DomainRequest, DomainTarget, ListOf, NoMemory, Request, RequestList, Text, TryCopy,
+};
 
 // What the list is told of a domain.
 fn listed(domain: &FoundDomain) -> Result<object_list::FoundDomain, NoMemory>
@@ -53,23 +55,43 @@ pub fn open_list(
     open(alloc, &told)
 }
 
-// Puts the name of a domain after the others, where it is to be started.
-fn push_start(names: &mut ListOf<Name>, domain: &FoundDomain) -> Result<(), NoMemory>
-    ensures { OnOk result (names.new ≡ names.old ++ start_of domain.now) }
+// The request that starts a domain.
+fn to_start(alloc: Global, domain: &FoundDomain) -> Result<Request, NoMemory>
+    ensures { IfOk result (λ request. request ≡ to_start domain.now) }
+{
+    let name = Text::copy_of(alloc, domain.definition.name.as_str())?;
+    let domain = DomainTarget {
+        name,
+        uuid: domain.uuid,
+        id: -1,
+    };
+    Ok(Request::OnDomain {
+        domain,
+        request: DomainRequest::Create,
+    })
+}
+
+// Puts this request after the others, where the domain is to be started.
+fn push_start(
+    alloc: Global,
+    requests: &mut RequestList,
+    domain: &FoundDomain,
+) -> Result<(), NoMemory>
+    ensures { OnOk result (requests.new ≡ requests.old ++ start_of domain.now) }
 {
     if domain.autostart {
-        return names.push(domain.definition.name.copy()?);
+        return requests.push(to_start(alloc, domain)?);
     }
     Ok(())
 }
 
-/// The names of the domains that are to be started.
-pub fn starts_of(alloc: Global, domains: &[FoundDomain]) -> Result<ListOf<Name>, NoMemory>
-    ensures { IfOk result (λ names. names ≡ spec.starts_of domains.now) }
+/// The requests that start the domains which are to be started.
+pub fn starts_of(alloc: Global, domains: &[FoundDomain]) -> Result<RequestList, NoMemory>
+    ensures { IfOk result (λ requests. requests ≡ spec.starts_of domains.now) }
 {
-    let mut names = ListOf::new(alloc);
+    let mut requests = ListOf::new(alloc);
     for domain in domains {
-        push_start(&mut names, domain)?;
+        push_start(alloc, &mut requests, domain)?;
     }
-    Ok(names)
+    Ok(requests)
 }

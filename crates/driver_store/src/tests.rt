@@ -8,7 +8,7 @@ use std::alloc::Global;
 use std::marker::Brand;
 use std::test::Fail;
 use store_spec::BookKind;
-use virt_types::{ListOf, NoMemory, OrNoMemory, Text, Uuid};
+use virt_types::{DomainRequest, ListOf, NoMemory, OrNoMemory, Request, Text, Uuid};
 
 const FILE: &str = "domain-01010101-0101-0101-0101-010101010101.def";
 
@@ -55,7 +55,13 @@ fn a_domain_is_found_and_to_be_started(rt: HostRuntime) -> Result<(), Fail> {
             assert_eq!(rt; domains.len(), 1);
             let starts = starts_of(alloc, domains.as_slice())?;
             assert_eq!(rt; starts.len(), 1);
-            assert_eq!(rt; starts.as_slice()[0].as_str(), "a");
+            match &starts.as_slice()[0] {
+                Request::OnDomain {
+                    domain,
+                    request: DomainRequest::Create,
+                } => assert_eq!(rt; domain.name.as_str(), "a"),
+                _ => assert!(rt; false),
+            }
         }
         Err(_refused) => assert!(rt; false),
     }
