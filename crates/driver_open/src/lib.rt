@@ -1,0 +1,16 @@
+//! A driver is opened on the directory of its definitions: its cells are made, and the row of their first passes, which may
+//! become many.
+#![tactic(auto)]
+
+mod histories;
+mod open;
+mod opened;
+mod row_list;
+mod slots;
+#[cfg(test)]
+mod tests;
+
+pub use histories::HistoryRoom;
+pub use open::open_cells;
+pub use opened::Opened;
+pub use row_list::{RowList, more};
