@@ -1,11 +1,9 @@
 -- The outcomes of the requests that list domains.
-use Rattle.std.proofs.Common.{◌≡◌, ◌⊎◌, inl, inr, ℕ, ℤ, List, map, take, nat_abs, Result, Ok, Err, sym, ap, ◌∙◌, subst}
+use Rattle.std.proofs.Common.{◌≡◌, inl, ℕ, ℤ, List, map, take, nat_abs, Ok, Err, ap, ◌∙◌}
 use Rattle.std.specs.List.{filter}
 use Rattle.driver_cells.proofs.Stopping.{no_room, ran_out}
-use Rattle.outcome_spec.specs.Lists.{rows_of}
 use Rattle.outcome_spec.specs.Outcomes.{HasOutcome, IsStopped}
 use Rattle.outcome_spec.specs.Rows.{KnownRow}
-use Rattle.outcome_spec.specs.declared.outcome.Outcome.{Outcome}
 use Rattle.virt_types.specs.declared.caller.CellName.TheVariants as cell
 use Rattle.virt_types.specs.declared.caller.Front.{Front}
 use Rattle.virt_types.specs.declared.request.Request.TheVariants as request

@@ -1,9 +1,8 @@
 -- A row whose passes of the list and of the domains went on.
-use Rattle.std.proofs.Common.{◌≡◌, ◌⊎◌, inl, inr, ⊎_elim, ℕ, List, [], true, false, length, map, refl, sym, ap, ◌∙◌, subst}
+use Rattle.std.proofs.Common.{◌≡◌, List, length, map, refl, sym, ap, ◌∙◌, subst}
 use Rattle.std.proofs.lemmas.List.{length-map}
 use Rattle.std.specs.List.{All}
 use Rattle.atomic_table.specs.Seated.{TableId}
-use Rattle.book_spec.specs.Slots.{no_holds}
 use Rattle.domain_obj.specs.InTurn.{DomainPass}
 use Rattle.driver_cells.specs.Known.{DriverRow, known, known_row}
 use Rattle.driver_cells.specs.Ready.{HoldsNoSlot, IsReadyRow, KeepsNothing}

@@ -1,5 +1,5 @@
 -- What was found in the cells of slots, as their passes go on.
-use Rattle.std.proofs.Common.{◌≡◌, ◌++◌, ℕ, zero, suc, List, [], ◌∷◌, Option, None, Some, slice_get, length, map, refl, sym, ap, ◌∙◌, subst}
+use Rattle.std.proofs.Common.{◌≡◌, ◌++◌, ℕ, zero, suc, List, [], ◌∷◌, Option, None, Some, slice_get, refl, ap, ◌∙◌, subst}
 use Rattle.history_spec.proofs.Beginnings.{begins_through, prefix_through}
 use Rattle.domain_spec.specs.Chapter.{rising_number}
 use Rattle.object_list.specs.declared.slot_name.SlotName.{SlotName}

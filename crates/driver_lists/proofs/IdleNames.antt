@@ -6,7 +6,6 @@ use Rattle.virt_types.specs.declared.domain.Domain.{Domain}
 use Rattle.virt_types.specs.declared.domain.Live.{Live}
 use Rattle.virt_types.specs.declared.run_state.RunState.{RunState}
 use Rattle.virt_types.specs.declared.run_state.RunState.TheVariants as run
-use Rattle.virt_types.specs.declared.value.DomainRow.{DomainRow}
 use Rattle.driver_lists.specs.Idle.{is_idle, is_shut_off}
 use Rattle.outcome_spec.specs.Lists.{idle_names, row_of, rows_of}
 

@@ -1,5 +1,5 @@
 -- The names that the list tells, as the entries of its slots.
-use Rattle.std.proofs.Common.{◌≡◌, ◌⊎◌, ⊎_elim, ◌<◌, ℕ, zero, suc, List, [], ◌∷◌, Option, None, Some, Bool, bytes_eq, ◌&&◌, if◌then◌else◌, Contains, length, Ordering, Less, refl, sym, ap, ◌∙◌, subst, arith}
+use Rattle.std.proofs.Common.{◌≡◌, ⊎_elim, ◌<◌, ℕ, zero, suc, List, [], ◌∷◌, Option, None, Some, bytes_eq, ◌&&◌, if◌then◌else◌, Contains, length, Ordering, Less, refl, sym, ap, ◌∙◌, subst, arith}
 use Rattle.std.specs.Cmp.Lexicographic.{slice_cmp}
 use Rattle.std.specs.List.{All, AllByRecursion}
 use Rattle.std.specs.List.Sorted.{IsStrictlySortedBy}
@@ -7,15 +7,14 @@ use Rattle.std.specs.Ordering.{nat_cmp}
 use Rattle.std.proofs.lemmas.List.Elements.{All-cons, All-nil}
 use Rattle.book_spec.specs.declared.list.Entry.{Entry}
 use Rattle.book_spec.specs.Slots.{Slots, entry_in, new_entry}
-use Rattle.domain_spec.specs.Chapter.{rising_number}
-use Rattle.object_list.specs.Names.{AllStandIn, AreAfter, AreNames, IsRising, StandsIn}
+use Rattle.object_list.specs.Names.{AllStandIn, AreAfter, AreNames, IsRising}
 use Rattle.object_list.specs.declared.slot_name.SlotName.{SlotName}
 use Rattle.virt_types.specs.declared.domain.Domain.{Domain}
 use Rattle.virt_types.specs.declared.domain.State.{State}
 use Rattle.virt_types.specs.declared.domain.State.TheVariants as state
-use Rattle.driver_lists.specs.Reading.{AreFound, IsFound}
+use Rattle.driver_lists.specs.Reading.{AreFound}
 use Rattle.driver_lists.proofs.Members.{contains_cases, contains_here, contains_later, contains_none}
-use Rattle.outcome_spec.specs.Lists.{AreListed, AreRows, IsRow, Listed, domain_at}
+use Rattle.outcome_spec.specs.Lists.{AreListed, AreRows, Listed, domain_at}
 use Rattle.outcome_spec.specs.Read.{state_of}
 use Rattle.outcome_spec.specs.Rows.{KnownRow}
 

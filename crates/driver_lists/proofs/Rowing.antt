@@ -1,12 +1,12 @@
 -- A turn at the domain in a slot, by the passes of all slots.
-use Rattle.std.proofs.Common.{◌≡◌, ◌⊎◌, inl, inr, ⊎_elim, ◌++◌, ◌&&◌, ℕ, Bool, true, false, List, [], ◌∷◌, length, map, bytes_eq, if◌then◌else◌, get_or, option_map, slice_get, Option, None, Some, Result, Ok, Err, refl, sym, ap, ◌∙◌, subst}
+use Rattle.std.proofs.Common.{◌≡◌, inl, inr, ⊎_elim, ◌++◌, ◌&&◌, ℕ, Bool, true, false, List, [], ◌∷◌, length, map, bytes_eq, if◌then◌else◌, get_or, option_map, slice_get, Option, None, Some, Result, Ok, Err, refl, sym, ap, ◌∙◌, subst}
 use Rattle.std.specs.List.{All}
 use Rattle.history_spec.proofs.Beginnings.{begins_itself}
 use Rattle.atomic_table.specs.Seated.{TableId}
 use Rattle.book_spec.specs.Slots.{new_entry}
 use Rattle.domain_cell.specs.Meaning.{meaning, nothing_kept}
 use Rattle.domain_obj.specs.InTurn.{DomainPass}
-use Rattle.domain_obj.specs.Running.{HasQueried, IsSpent, Reads, standing_after}
+use Rattle.domain_obj.specs.Running.{HasQueried, Reads}
 use Rattle.domain_obj.specs.declared.place.Seen.{Seen}
 use Rattle.domain_obj.specs.declared.queries.Queried.{Queried}
 use Rattle.domain_obj.specs.declared.queries.Queried.TheVariants as queried
@@ -22,11 +22,9 @@ use Rattle.outcome_spec.specs.Read.{state_of}
 use Rattle.outcome_spec.specs.Rows.{IsLater}
 use Rattle.pass_rows.specs.Cutting.{cell_of}
 use Rattle.virt_types.specs.declared.call.Query.TheVariants as query
-use Rattle.virt_types.specs.declared.domain.Domain.{Domain}
 use Rattle.virt_types.specs.declared.domain.State.{State}
 use Rattle.virt_types.specs.declared.domain.State.TheVariants as state
 use Rattle.virt_types.specs.declared.value.DomainRow.{DomainRow}
-use Rattle.virt_types.specs.declared.value.Reply.{Reply}
 use Rattle.driver_lists.specs.Reading.{HasReadOne, HasReadRow, IsTold, PassesGo, row_told}
 use Rattle.driver_lists.specs.declared.stopping.Stop.{Stop}
 use Rattle.driver_lists.specs.declared.stopping.Stop.TheVariants as stop

@@ -1,5 +1,5 @@
 -- A turn that leaves no mark.
-use Rattle.std.proofs.Common.{◌≡◌, ℕ, [], refl, sym, ap, ◌∙◌, subst}
+use Rattle.std.proofs.Common.{◌≡◌, [], sym, ap, ◌∙◌}
 use Rattle.turn_cell.specs.Meaning.{Meaning, NewBaseKeeps, NoMarkLowers}
 use Rattle.turn_cell.specs.Passes.{Enters, Passed, Turned, left_by}
 use Rattle.turn_cell.specs.Turning.{Changes, HasTurned, Went}

@@ -1,11 +1,10 @@
 -- The titles of the store, by the passes of a row.
-use Rattle.std.proofs.Common.{◌≡◌, inl, inr, ℕ, List, [], true, map, Result, Ok, refl, sym, ap, ◌∙◌, subst}
+use Rattle.std.proofs.Common.{◌≡◌, inl, inr, List, [], true, map, Result, Ok, refl, sym, ap, ◌∙◌, subst}
 use Rattle.atomic_table.specs.Seated.{TableId}
 use Rattle.history_spec.proofs.Beginnings.{begins_itself}
 use Rattle.def_keeper.specs.Turns.{meaning}
 use Rattle.def_keeper.specs.declared.mark.StoreBase.{StoreBase}
 use Rattle.def_keeper.specs.declared.mark.StoreMark.{StoreMark}
-use Rattle.domain_obj.specs.InTurn.{DomainPass}
 use Rattle.driver_cells.specs.Known.{DriverRow, known, known_row}
 use Rattle.driver_cells.specs.Ready.{IsReadyRow}
 use Rattle.driver_cells.proofs.Going.{are_later_itself}

@@ -1,4 +1,4 @@
-use Rattle.std.proofs.Common.{Err, inr, subst}
+use Rattle.std.proofs.Common.{inr, subst}
 use Rattle.driver_cells.specs.Known.{known_row}
 use Rattle.driver_lists.specs.Whole.{HasReadList}
 use Rattle.driver_lists.proofs.Answering.{is_stopped}

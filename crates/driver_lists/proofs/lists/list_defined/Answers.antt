@@ -1,4 +1,4 @@
-use Rattle.std.proofs.Common.{◌≡◌, Err, Ok, List, ℕ, inr, map, nat_abs, take, w32, ap, subst, ◌∙◌}
+use Rattle.std.proofs.Common.{◌≡◌, inr, map, nat_abs, take, w32, ap, subst, ◌∙◌}
 use Rattle.std.specs.List.{filter}
 use Rattle.std.proofs.lemmas.Int.{to_z-of_z}
 use Rattle.driver_cells.specs.Known.{known_row}

@@ -1,4 +1,4 @@
-use Rattle.std.proofs.Common.{◌++◌, ◌∷◌, subst}
+use Rattle.std.proofs.Common.{subst}
 use Rattle.std.specs.List.{All}
 use Rattle.driver_cells.specs.Ready.{KeepsNothing}
 use Rattle.driver_lists.proofs.Places.{one_of}

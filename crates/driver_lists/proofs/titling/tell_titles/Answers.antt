@@ -1,4 +1,4 @@
-use Rattle.std.proofs.Common.{◌≡◌, inl, inr, refl, sym, true, ap, ◌∙◌}
+use Rattle.std.proofs.Common.{inr, refl, sym, true, ap, ◌∙◌}
 use Rattle.driver_cells.specs.Known.{known_row}
 use Rattle.driver_cells.proofs.Stopping.{no_room, ran_out}
 use Rattle.driver_lists.proofs.Storing.{StorePass, has_gone, store_goes_at, store_is_spent, store_row_goes, store_spent, store_went}
