@@ -8,7 +8,6 @@
 #![tactic(auto)]
 
 mod counting;
-mod fixtures;
 mod pairs;
 
 use std::time::Instant;

@@ -1,4 +1,3 @@
-use crate::fixtures::definition;
 use domain_spec::Mark;
 use domain_turns::OperationLook;
 use guest_model::{SimEars, SimGuests, SimKiller, SimMonitor};
@@ -11,6 +10,7 @@ use std::mem::size_of;
 use std::rt::Clock;
 use std::sync::Wait;
 use std::time::Instant;
+use story_domain::{Habit, definition};
 use virt_types::{Ask, Call, Who};
 
 type Modelled<H> = Played<SimMonitor<H>, SimEars<H>, SimKiller<H>>;
@@ -52,8 +52,9 @@ fn started<H: Wait + Copy + Send + Sync>(
     alloc: Global,
     rotates: bool,
 ) -> Option<Modelled<H>> {
+    let stored = definition(alloc, Habit::Obeys).ok()?;
     let mut guests = SimGuests::new(rt, alloc);
-    let mut played = Played::new(alloc, Some(definition(alloc).ok()?), rotates).ok()?;
+    let mut played = Played::new(alloc, Some(stored), rotates).ok()?;
     match played.begin(alloc, WHO, &Call::Start)? {
         OperationLook::Begun => {}
         _ => return None,

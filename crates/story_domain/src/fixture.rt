@@ -1,24 +1,10 @@
-// The domain `a`.
+// The definition of `a`.
+use crate::habit::Habit;
+use crate::names::name;
 use std::alloc::Global;
 use virt_types::{
-    CrashAction, DomainDef, DomainType, LifecycleAction, ListOf, Name, NoMemory, Os, Script, Text,
-    Uuid, both,
+    CrashAction, DomainDef, DomainType, LifecycleAction, ListOf, NoMemory, Os, Text, Uuid, both,
 };
-
-pub(crate) fn name(alloc: Global, text: &str) -> Result<Name, NoMemory> {
-    match Name::read(alloc, text.as_bytes()) {
-        Ok(name) => Ok(name),
-        Err(_) => Err(NoMemory),
-    }
-}
-
-fn script(alloc: Global) -> Result<Script, NoMemory> {
-    let text = Text::copy_of(alloc, "")?;
-    Ok(Script {
-        text,
-        entries: ListOf::new(alloc),
-    })
-}
 
 fn os(alloc: Global) -> Result<Os, NoMemory> {
     let kind = Text::copy_of(alloc, "hvm")?;
@@ -30,9 +16,9 @@ fn os(alloc: Global) -> Result<Os, NoMemory> {
     })
 }
 
-/// The definition of `a`, with 2048 KiB, two processors and no devices.
-pub(crate) fn definition(alloc: Global) -> Result<DomainDef, NoMemory> {
-    let (name, (guest, os)) = both(name(alloc, "a"), both(script(alloc), os(alloc)))?;
+/// The definition of `a`, with 2048 KiB, two processors and no devices, whose guest does this.
+pub fn definition(alloc: Global, habit: Habit) -> Result<DomainDef, NoMemory> {
+    let (name, (guest, os)) = both(name(alloc, "a"), both(habit.script(alloc), os(alloc)))?;
     Ok(DomainDef {
         kind: DomainType::Qemu,
         name,
