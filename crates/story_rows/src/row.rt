@@ -1,0 +1,52 @@
+// A row that a story prints.
+use std::alloc::Global;
+use virt_types::NoMemory;
+
+/// A text that grows. Where there is no memory for more, it is lost.
+#[derive(Drop)]
+pub struct Row {
+    alloc: Global,
+    text: String,
+    is_lost: bool,
+}
+
+impl Row {
+    /// Nothing was put there yet.
+    pub fn new(alloc: Global) -> Row {
+        Row {
+            alloc,
+            text: String::new(alloc),
+            is_lost: false,
+        }
+    }
+
+    /// Puts more behind it.
+    pub fn put(&mut self, more: &str) {
+        if self.text.push_str(more).is_err() {
+            self.is_lost = true;
+        }
+    }
+
+    /// Puts a number behind it.
+    pub fn put_number(&mut self, number: u64) {
+        match format!(in self.alloc; "{number}") {
+            Ok(digits) => self.put(digits.as_str()),
+            Err(_) => self.is_lost = true,
+        }
+    }
+
+    /// There was no memory for what belongs there.
+    pub fn lose(&mut self) {
+        self.is_lost = true;
+    }
+
+    /// The text.
+    pub fn into_text(self) -> Result<String, NoMemory> {
+        let Row {
+            alloc: _,
+            text,
+            is_lost,
+        } = self;
+        if is_lost { Err(NoMemory) } else { Ok(text) }
+    }
+}
