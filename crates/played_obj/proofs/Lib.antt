@@ -1,0 +1,3 @@
+pub mod First
+pub mod Pushed
+pub mod Staying
