@@ -1,0 +1,5 @@
+pub mod Requests
+pub mod Outcomes
+pub mod Going
+pub mod Rejoined
+pub mod Opening

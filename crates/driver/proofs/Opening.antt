@@ -1,0 +1,13 @@
+-- The row of a driver that was opened may serve requests.
+use Rattle.std.proofs.Common.{◌≡◌, length, inr}
+use Rattle.def_keeper.specs.Turns as storing
+use Rattle.domain_cell.specs.Meaning as domain
+use Rattle.driver_cells.specs.Known.{DriverRow}
+use Rattle.driver_cells.specs.Ready.{IsReadyRow}
+use Rattle.files_disk.specs.Telling.{Told}
+use Rattle.object_list.specs.Keeping as listing
+use Rattle.pass_rows.specs.Rows.{IsIdleRow}
+use Rattle.virt_types.specs.Limits.{most_domains}
+
+pub ready : {F G : Type 0} (told : F → Told) (row : DriverRow G) → IsIdleRow listing.meaning (storing.meaning told) domain.meaning row → length row.domains ≡ most_domains → IsReadyRow row
+ready told row idle slots = record { list = inr idle.list.empty; domains = λ k d lt. inr (idle.domains k d lt).empty; slots = slots }

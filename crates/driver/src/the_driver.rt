@@ -1,0 +1,128 @@
+// The driver: its cells, and the calls that activities make with their rows.
+ghost use Rattle.std.specs.Prelude.{◌≡◌, IfErr, IfOk};
+ghost use Rattle.def_keeper.specs.Opened.{IsSureAt};
+ghost use Rattle.driver_cells.specs.Known.{known_row};
+ghost use Rattle.driver_cells.specs.Ready.{IsReadyRow};
+ghost use Rattle.driver_open.specs.Cells.{HasCells};
+ghost use Rattle.driver_open.specs.Unopened.{IsUnopened};
+ghost use Rattle.outcome_spec.specs.Now.{ReadsNow};
+ghost use Rattle.outcome_spec.specs.Outcomes.{HasOutcome};
+ghost use Rattle.outcome_spec.specs.Rows.{HasGone};
+ghost use Rattle.virt_types.specs.Drawn.{IsMadeOfDrawn};
+ghost use Rattle.driver.specs.Called.{HasCalled};
+ghost use Rattle.driver.specs.Cells.{IsRowOf};
+
+use crate::serving::serve;
+use def_keeper::Opening;
+use driver_cells::{Cells, Row};
+use driver_open::{HistoryRoom, Opened, open_cells};
+use driver_store::DriverFault;
+use files_disk::Files;
+use outcome_spec::Outcome;
+use row_desk::Maker;
+use std::alloc::Global;
+use std::marker::Model;
+use std::sync::Wait;
+use virt_types::{ListOf, OrNoMemory, Random, Request, RequestList, Status, Who};
+
+/// The driver of a daemon: the list of domains, the store of definitions, and the domains. Many activities call it at once,
+/// each with a row of its own. Contracts see which cells it has.
+#[derive(Drop)]
+pub struct Driver<F: Files + Drop, K: Opening, G: Maker> {
+    alloc: Global,
+    cells: Cells<F, K, G::M, G::E, G::Z>,
+    starts: RequestList,
+    statuses: ListOf<Option<Status>>,
+    room: HistoryRoom,
+}
+
+impl<F: Files + Drop, K: Opening, G: Maker> Model for Driver<F, K, G> {
+    ghost use Rattle.std.specs.Prelude.{◌≡◌, ◌≤◌, length};
+    ghost use Rattle.virt_types.specs.Limits.{most_domains};
+    ghost use Rattle.driver.specs.Cells.{DriverView};
+
+    ghost Value = { DriverView };
+
+    ghost view = { λ d. record { list = d.cells.list; store = d.cells.store; domains = d.cells.domains.items; starts = d.starts; statuses = d.statuses } };
+
+    ghost invariant = { λ d. (length d.cells.domains.items ≡ most_domains) × (most_domains ≤ d.room) };
+}
+
+impl<F: Files + Drop, K: Opening, G: Maker> Driver<F, K, G> {
+    /// Opens a driver on the directory of these files, and gives the row of the first passes of its cells. Its list has the
+    /// domains that are found there, by rising name, in slots 0, 1, .. Files of version 1 are put again. Where the driver is
+    /// not opened, the files and the maker of guests come back: for the first fault of the store, a text that is not that of
+    /// its file's domain, or a domain, network or pool too many.
+    pub fn open(
+        alloc: Global,
+        files: F,
+        guests: G,
+    ) -> Result<(Driver<F, K, G>, Row<F, K, G::M, G::E, G::Z, G>), (F, G, OrNoMemory<DriverFault>)>
+        requires sound { K.sound → IsSureAt (F.told files) }
+        ensures ok { IfOk result (λ made. HasCells F.told files made.1 made.0.starts made.0.statuses) }
+        ensures own { IfOk result (λ made. IsRowOf made.0 made.1) }
+        ensures ready { IfOk result (λ made. IsReadyRow made.1) }
+        ensures maker { IfOk result (λ made. made.1.guests ≡ guests) }
+        ensures err { IfErr result (λ e. IsUnopened F.told F.faults K.sound files e.2 e.0) }
+        ensures back { IfErr result (λ e. e.1 ≡ guests) }
+    {
+        let opened = match open_cells(alloc, files, guests) {
+            Ok(opened) => opened,
+            Err(refused) => return Err(refused),
+        };
+        let Opened {
+            cells,
+            row,
+            starts,
+            statuses,
+            room,
+        } = opened;
+        let driver = Driver {
+            alloc,
+            cells,
+            starts,
+            statuses,
+            room,
+        };
+        Ok((driver, row))
+    }
+
+    /// The requests that start the domains which the store says are to be started, by rising name.
+    pub fn found(&self) -> &RequestList
+        ensures { result.now ≡ self.now.starts }
+    {
+        &self.starts
+    }
+
+    /// What each status file said as the driver was opened; none where one said nothing.
+    pub fn statuses(&self) -> &ListOf<Option<Status>>
+        ensures { result.now ≡ self.now.statuses }
+    {
+        &self.statuses
+    }
+
+    /// Serves a request by a row: a domain's calls and reads, lists, and what a connection asks. The outcome says what the
+    /// reply rests on. Its texts are filled in with words from `random`. It may wait for the turns of others, for a guest and
+    /// for the store; while it asks one of these, it has no turn of a domain.
+    ///
+    /// Networks, pools and registrations are not served: they are refused (206).
+    pub fn call<R: Wait, D: Random>(
+        &self,
+        rt: &R,
+        row: Row<F, K, G::M, G::E, G::Z, G>,
+        who: Who,
+        request: &Request,
+        random: &mut D,
+    ) -> (Row<F, K, G::M, G::E, G::Z, G>, Outcome)
+        requires own { IsRowOf self.now row }
+        requires ready { IsReadyRow row }
+        ensures called { IsMadeOfDrawn (λ words. HasCalled F.told G.faults G.E.ends G.E.faults G.E.unheard F.faults who request.now words row result.0 result.1) (D.drawn random.old) (D.drawn random.new) }
+        ensures outcome { HasOutcome (known_row row) (known_row result.0) request.now result.1 }
+        ensures now { ReadsNow (known_row result.0) request.now result.1 }
+        ensures gone { HasGone (known_row row) (known_row result.0) }
+        ensures own { IsRowOf self.now result.0 }
+        ensures ready { IsReadyRow result.0 }
+    {
+        serve(rt, self.alloc, &self.cells, row, who, request, random)
+    }
+}
