@@ -7,7 +7,7 @@ ghost use Rattle.domain_cell.specs.Tickets.{HasMonitor, back_of, back_ticket, lo
 use crate::link::{Here, take_monitor};
 use domain_turns::{Back as CoreBack, Looked, PhaseLook as CorePhase, Step};
 use job_rules::JobRecord;
-use virt_types::{Ask, Reply};
+use virt_types::{Ask, Boxed, Reply};
 
 /// What a call takes along that asks: the monitor of its domain's guest, where that is there. It comes back with the
 /// answer.
@@ -27,7 +27,7 @@ pub enum Look<M> {
     /// Its job is excluded, and it waits.
     Excluded {
         /// What is held.
-        held: JobRecord,
+        held: Boxed<JobRecord>,
         /// The live boot.
         boot: Option<u64>,
         /// How many of its looks found it so.

@@ -20,7 +20,7 @@ use domain_driver::{PhaseParts, phase_parts};
 use domain_history::Chapter;
 use domain_spec::OpenOperation;
 use std::alloc::Global;
-use virt_types::{Answer, Bytes, Call, NoMemory, State, TransitionList, TryCopy, both};
+use virt_types::{Answer, Boxed, Bytes, Call, NoMemory, State, TransitionList, TryCopy, both};
 
 /// What a phase led to.
 #[derive(Clone, Copy, Debug, PartialEq, Eq)]
@@ -39,7 +39,7 @@ pub enum Step {
 #[derive(Drop)]
 pub struct PhaseOut {
     pub course: Course,
-    pub parts: PhaseParts,
+    pub parts: Boxed<PhaseParts>,
     pub copy: Option<StateRoom>,
     pub told: TransitionList,
     pub end: TransitionList,
@@ -144,19 +144,30 @@ fn first(
     }
 }
 
+// What the Phase needs.
+fn boxed_parts(
+    alloc: Global,
+    state: &State,
+    operation: &OpenOperation,
+) -> Result<Boxed<PhaseParts>, NoMemory>
+    ensures { IfOk result (λ parts. FitsPhase parts state.now operation.now) }
+{
+    Boxed::new(alloc, phase_parts(alloc, state, operation)?)
+}
+
 // What the Phase needs, and its course.
 fn first_and_parts(
     alloc: Global,
     state: &State,
     operation: &OpenOperation,
-) -> Result<((Course, Option<StateRoom>), PhaseParts), NoMemory>
+) -> Result<((Course, Option<StateRoom>), Boxed<PhaseParts>), NoMemory>
     ensures course { IfOk result (λ made. IsFirstOf state.now operation.now made.0.0) }
     ensures copy { IfOk result (λ made. HasCopyRoom made.0.0.answers made.0.0.plan made.0.1) }
     ensures parts { IfOk result (λ made. FitsPhase made.1 state.now operation.now) }
 {
     both(
         first(alloc, state, operation),
-        phase_parts(alloc, state, operation),
+        boxed_parts(alloc, state, operation),
     )
 }
 

@@ -63,7 +63,7 @@ fn close(chapter: &mut Chapter, by: Stamp, away: PhaseOut) -> Step
     } = away;
     drop(copy);
     let (asks, answers) = course.into_lists();
-    chapter.phase(by, asks, answers, parts, told, end);
+    chapter.phase(by, asks, answers, parts.into_inner(), told, end);
     step_in(chapter.operation())
 }
 

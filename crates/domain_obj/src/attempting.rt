@@ -80,7 +80,7 @@ fn look_or_give_up<M: Monitor + Drop, E: Ears + Drop, Z: Killer + Drop>(
         Look::Excluded { held, boot, looks } => {
             if turns >= ENOUGH && looks >= ENOUGH {
                 give_up_in(turn, alloc, who, call);
-                return Attempt::GaveUp(held);
+                return Attempt::GaveUp(held.into_inner());
             }
             kill_first(turn, call, first);
             Attempt::Waits(boot)

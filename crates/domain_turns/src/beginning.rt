@@ -19,7 +19,7 @@ use domain_record::Record;
 use history_spec::Stamp;
 use job_rules::{JobRecord, may_begin, may_take_up};
 use std::alloc::Global;
-use virt_types::{Call, NoMemory, Reply, Who};
+use virt_types::{Boxed, Call, NoMemory, Reply, Who};
 
 /// What became of a call that looked whether its operation may begin, or may be taken up.
 #[derive(Drop)]
@@ -31,7 +31,7 @@ pub enum OperationLook {
     /// It is excluded, and waits.
     Excluded {
         /// What is held.
-        held: JobRecord,
+        held: Boxed<JobRecord>,
         /// The live boot.
         boot: Option<u64>,
         /// How many of its looks found it so.

@@ -23,7 +23,7 @@ use domain_spec::{First, HeldJobs};
 use history_spec::Stamp;
 use job_rules::{JobRecord, WaitersFull, admits};
 use std::alloc::Global;
-use virt_types::{Ask, Call, NoMemory, RefusalCode, Reply, TryCopy, Who, WhoList, both};
+use virt_types::{Ask, Boxed, Call, NoMemory, RefusalCode, Reply, Who, WhoList, both};
 
 /// What became of a call that looked.
 #[derive(Drop)]
@@ -35,7 +35,7 @@ pub enum Looked {
     /// Its job is excluded, and it waits.
     Excluded {
         /// What is held.
-        held: JobRecord,
+        held: Boxed<JobRecord>,
         /// The live boot.
         boot: Option<u64>,
         /// How many of its looks found it so.
@@ -155,7 +155,7 @@ fn refusal_parts(
     rooms: usize,
     alloc: Global,
     call: &Call,
-) -> Result<(Call, WhoList), NoMemory>
+) -> Result<(Boxed<Call>, WhoList), NoMemory>
     requires few { rooms ≤ 128 }
     ensures same { kept.new ≡ with_room kept.old kept.new.spare }
     ensures marks { OnOk result (4 + rooms ≤ kept.new.spare) }
@@ -164,11 +164,18 @@ fn refusal_parts(
     ensures waiting { IfOk result (λ parts. parts.1 ≡ callers_in queue.now) }
 {
     kept.reserve(4 + rooms)?;
-    both(call.copy(), queue.callers(alloc))
+    both(Boxed::copy_of(alloc, call), queue.callers(alloc))
 }
 
 // A call is turned away, since 32 others wait.
-fn turn_away(kept: &mut Record, by: Stamp, who: Who, call: Call, held: JobRecord, waiting: WhoList)
+fn turn_away(
+    kept: &mut Record,
+    by: Stamp,
+    who: Who,
+    call: Boxed<Call>,
+    held: JobRecord,
+    waiting: WhoList,
+)
     requires room { 1 ≤ kept.old.spare }
     requires lost { (force_of kept.old).lost ≡ None }
     requires active { held.active ≡ job_held (force_of kept.old).job }
@@ -205,16 +212,23 @@ pub fn wait(
     ensures course { kept.new.course ≡ kept.old.course }
     ensures room { ((kept.new ≡ with_room kept.old kept.new.spare) × (kept.old.spare ≤ kept.new.spare)) ⊎ (3 + rooms ≤ kept.new.spare) }
 {
+    let found = match Boxed::new(alloc, held) {
+        Ok(found) => found,
+        Err(NoMemory) => {
+            leave(queue, by, who);
+            return Looked::NoMemory;
+        }
+    };
     match join(queue, &by, who) {
         Ok(looks) => Looked::Excluded {
-            held,
+            held: found,
             boot: live_boot(kept.state()),
             looks,
         },
         Err(full) => match refusal_parts(kept, queue, rooms, alloc, call) {
             Ok((copy, waiting)) => {
                 kept.state();
-                turn_away(kept, by.again(), who, copy, held, waiting);
+                turn_away(kept, by.again(), who, copy, found.into_inner(), waiting);
                 leave(queue, by, who);
                 Looked::WaitersFull(full.waiting as u32)
             }

@@ -8,7 +8,7 @@ use core_rules::Texts;
 use definition_words::mac_text;
 use std::alloc::Global;
 use virt_types::{
-    DeviceDef, Disk, DomainDef, Interface, Live, Mac, NoMemory, State, Text, TryCopy,
+    Boxed, DeviceDef, Disk, DomainDef, Interface, Live, Mac, NoMemory, State, Text, TryCopy,
 };
 
 /// A device that comes to a guest, with room for the guest's lists and one more.
@@ -30,7 +30,7 @@ pub enum Parts {
     /// For a device that comes.
     Attach {
         /// The device.
-        new: NewDevice,
+        new: Boxed<NewDevice>,
         /// Room for a refusal.
         texts: Texts,
     },
@@ -121,7 +121,7 @@ pub fn for_attach(alloc: Global, state: &State, device: &DeviceDef) -> Result<Pa
         State::Held(domain) => new_device(alloc, &domain.live, device)?,
     };
     Ok(Parts::Attach {
-        new,
+        new: Boxed::new(alloc, new)?,
         texts: Texts::new(alloc)?,
     })
 }

@@ -10,15 +10,16 @@ ghost use Rattle.save_core.specs.Parts.{guest_of, loaded_guest, reverted_to};
 use crate::loaded_from::loaded_of;
 use core_rules::{CallEnd, PhaseEnd};
 use virt_types::{
-    Call, Cause, Domain, DomainDef, Live, Name, RunState, STARTED_FROM_SNAPSHOT, STARTED_RESTORED,
-    STOPPED_FROM_SNAPSHOT, SUSPENDED_PAUSED, SlotList, Transition, TransitionList,
+    Boxed, Call, Cause, Domain, DomainDef, Live, Name, RunState, STARTED_FROM_SNAPSHOT,
+    STARTED_RESTORED, STOPPED_FROM_SNAPSHOT, SUSPENDED_PAUSED, SlotList, Transition,
+    TransitionList,
 };
 
 /// What a guest gets whose state is loaded in the boot that it has.
 #[derive(Drop)]
 pub struct LoadedGuest {
     /// The definition that comes with the state.
-    pub definition: DomainDef,
+    pub definition: Boxed<DomainDef>,
     /// The slots of its devices.
     pub slots: SlotList,
 }
@@ -91,7 +92,7 @@ fn take_over(live: &mut Live, ran: bool, guest: LoadedGuest)
     ensures { live.new ≡ record live.old { run = run_as ran; def = guest.definition; slots = guest.slots } }
 {
     live.run = run_as(ran);
-    live.def = guest.definition;
+    live.def = guest.definition.into_inner();
     live.slots = guest.slots;
 }
 

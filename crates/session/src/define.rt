@@ -145,7 +145,7 @@ fn plan_put(alloc: Global, map: &PlainMap, uuid: Uuid, def: DomainDef) -> Result
     match refuse_put(alloc, map, &uuid, &def)? {
         Some(why) => Ok(Plan::of(Reply::No(why))),
         None => Ok(Plan {
-            said: Reply::Ok(Value::Domain(reference(uuid, &def)?)),
+            said: Reply::Ok(Value::Domain(reference(alloc, uuid, &def)?)),
             put: Some(Box::new(alloc, (uuid, def))?),
             closes: false,
         }),

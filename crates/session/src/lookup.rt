@@ -20,21 +20,27 @@ use definition_print::print_domain;
 use procedure_spec::NAMES_BOUND;
 use std::alloc::Global;
 use virt_types::{
-    DomainDef, DomainRef, ListOf, NoMemory, Refusal, RefusalCode, Reply, TryCopy, Uuid, Value,
+    Boxed, DomainDef, DomainRef, ListOf, NoMemory, Refusal, RefusalCode, Reply, TryCopy, Uuid,
+    Value,
 };
 
 /// The least number of names that may be asked for.
 const LEAST_NAMES: u32 = 0;
 
 /// How replies name a domain. None is active here, so its number is -1.
-pub(crate) fn reference(uuid: Uuid, def: &DomainDef) -> Result<DomainRef, NoMemory>
+pub(crate) fn reference(
+    alloc: Global,
+    uuid: Uuid,
+    def: &DomainDef,
+) -> Result<Boxed<DomainRef>, NoMemory>
     ensures { IfOk result (λ domain. domain ≡ reference_of (uuid, def.now)) }
 {
-    Ok(DomainRef {
+    let reference = DomainRef {
         name: def.name.copy()?,
         uuid,
         id: -1,
-    })
+    };
+    Boxed::new(alloc, reference)
 }
 
 /// There is no such domain.
@@ -60,7 +66,7 @@ pub(crate) fn by_name(alloc: Global, map: &PlainMap, name: &str) -> Result<Reply
     ensures short { IfOk result (λ said. IsShort shape.Domain said) }
 {
     match map.named(name) {
-        Some((uuid, def)) => Ok(Reply::Ok(Value::Domain(reference(uuid, def)?))),
+        Some((uuid, def)) => Ok(Reply::Ok(Value::Domain(reference(alloc, uuid, def)?))),
         None => Ok(Reply::No(absent(alloc, name)?)),
     }
 }
@@ -71,7 +77,7 @@ pub(crate) fn by_uuid(alloc: Global, map: &PlainMap, uuid: &Uuid) -> Result<Repl
     ensures short { IfOk result (λ said. IsShort shape.Domain said) }
 {
     match map.identified(uuid) {
-        Some(def) => Ok(Reply::Ok(Value::Domain(reference(*uuid, def)?))),
+        Some(def) => Ok(Reply::Ok(Value::Domain(reference(alloc, *uuid, def)?))),
         None => Ok(Reply::No(absent_uuid(alloc, uuid)?)),
     }
 }

@@ -196,6 +196,7 @@ fn finish_done(
     drop(current);
     match call {
         Call::Snapshot(info) => {
+            let info = info.as_ref();
             finish_take(domain, info, answers, taking, texts.into_texts(), into)
         }
         _ => unreachable!(),

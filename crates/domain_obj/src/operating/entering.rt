@@ -106,7 +106,7 @@ fn enter_or_give_up<M: Monitor + Drop, E: Ears + Drop, Z: Killer + Drop>(
         } => {
             if turns >= ENOUGH && looks >= ENOUGH {
                 give_up_in(turn, alloc, who, call);
-                return Entry::GaveUp(held);
+                return Entry::GaveUp(held.into_inner());
             }
             Entry::Waits
         }
