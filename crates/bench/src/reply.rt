@@ -39,7 +39,7 @@ fn rows(alloc: Global, count: u64) -> Result<DomainRowList, NoMemory>
     Ok(ListOf::of(rows))
 }
 
-/// Writes the reply and reads it, and tells the length of its payload.
+/// Writes the reply and reads it, and gives the length of its payload.
 fn exchange(
     alloc: Global,
     header: &Header,

@@ -32,7 +32,7 @@ module _ (key : Entry → List ℕ) where
   unfolding slot_of
   slot_of-Some q slots i is = let found = position-Some (has key q) slots i None is in let e = has_entry q (entry_in slots i) found.1 in (found.0, e.0, e.1, e.2)
 
-  -- the slot of a domain that stands in one
+  -- the slot of a domain that is in one
   pub slot_of-at : (slots : Slots) (i : ℕ) (e : Entry) → AreApart key slots → i < length slots → entry_in slots i ≡ Some e → slot_of key (key e) slots ≡ Some i
   unfolding slot_of
   slot_of-at slots i e apart within is =
@@ -108,7 +108,7 @@ module _ (key : Entry → List ℕ) where
           (cases_eq k i))
           (cases_eq j i)
 
-  -- the key of what stood there, or a new one
+  -- the key of what was there, or a new one
   pub apart-same : (slots : Slots) (i : ℕ) (one other : Entry) → AreApart key slots → entry_in slots i ≡ Some one → key other ≡ key one → AreApart key (set slots i (Some other))
   apart-same slots i one other apart is same = apart-set slots i (Some other) apart
       (λ e e_is k third ne at e_same. ne (sym (apart i k one third is at (sym same ∙ (ap (λ (o : Option Entry). key (unwrap_or o other)) e_is ∙ e_same)))))

@@ -42,7 +42,7 @@ answer (call.HoldUuid uuid) slots = found (slot_of uuid_of uuid slots)
 answer (call.Claim name uuid) slots = claimed uuid slots (slot_of name_of name slots) (slot_of uuid_of uuid slots)
 answer (call.Release slot front occupied) slots = Ok slot
 
--- what stands in a slot, or else a domain that nobody holds yet
+-- what is in a slot, or else a domain that nobody holds yet
 abbrev pub entry_or_new : List ℕ → List ℕ → Option Entry → Entry
 entry_or_new name uuid None = new_entry name uuid
 entry_or_new name uuid (Some entry) = entry

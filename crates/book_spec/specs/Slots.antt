@@ -25,7 +25,7 @@ name_of entry = entry.name
 abbrev pub uuid_of : Entry → List ℕ
 uuid_of entry = entry.uuid
 
--- a domain with this name, or with this identifier, stands in a slot
+-- a domain with this name, or with this identifier, is in a slot
 abbrev pub has : (Entry → List ℕ) → List ℕ → Option Entry → Bool
 has key bytes None = false
 has key bytes (Some entry) = bytes_eq (key entry) bytes

@@ -1,4 +1,4 @@
-//! The list of domains: what stands in it, and what its calls are and answer.
+//! The list of domains: what is in it, and what its calls are and answer.
 use std::collections::LinkedList;
 use virt_types::{Bytes, Front, Name, Uuid};
 

@@ -1,4 +1,4 @@
--- What a turn tells in which the store's files changed and nothing else.
+-- What a turn shows in which the store's files changed and nothing else.
 use Rattle.std.proofs.Common.{◌≡◌, ◌∙◌, ◌++◌, ℕ, [], Option, Result, append-nil, ap, inl, refl, sym}
 use Rattle.history_spec.proofs.Marks.{added-more}
 use Rattle.turn_cell.specs.Passes.{Enters, Turned, left_by}

@@ -1,6 +1,6 @@
 // What happens in a story, one thing after the other.
+use crate::actions::Action;
 use crate::came::Came;
-use crate::deeds::Deed;
 use crate::stage::{Maker, Stage, caller};
 use crate::table::Act;
 use domain_listeners::Taken;
@@ -24,76 +24,76 @@ fn hearing_word(hearing: Hearing) -> &'static str {
 }
 
 impl<M: Monitor + Drop, E: Ears + Drop, Z: Killer + Drop, K: Maker<M, E, Z>> Stage<M, E, Z, K> {
-    // What became of a deed is told.
-    fn tell(&mut self, deed: Deed, came: &Came) {
-        self.row.put(deed.word());
+    // Says what became of a step.
+    fn tell(&mut self, action: Action, came: &Came) {
+        self.row.put(action.word());
         self.row.put(" ");
         came.put(&mut self.row);
         self.close();
     }
 
     // A call, until it is done.
-    fn do_whole(&mut self, deed: Deed) -> Came {
-        match deed.call(self.alloc) {
-            Ok(call) if deed.begins() => self.operate(&call),
+    fn do_whole(&mut self, action: Action) -> Came {
+        match action.call(self.alloc) {
+            Ok(call) if action.begins() => self.operate(&call),
             Ok(call) => self.call(&call),
             Err(_) => Came::Unwanted("not made"),
         }
     }
 
-    fn repeat(&mut self, times: u32, deed: Deed) {
+    fn repeat(&mut self, times: u32, action: Action) {
         for _ in 0..times {
-            self.do_whole(deed);
+            self.do_whole(action);
         }
     }
 
     fn repeat_pairs(&mut self, times: u32) {
         for _ in 0..times {
-            self.do_whole(Deed::Suspend);
-            self.do_whole(Deed::Resume);
+            self.do_whole(Action::Suspend);
+            self.do_whole(Action::Resume);
         }
     }
 
-    fn fill(&mut self, deed: Deed) {
+    fn fill(&mut self, action: Action) {
         for _ in 0..FULL {
             if self.played.chapter() == 0 {
-                self.do_whole(deed);
+                self.do_whole(action);
             }
         }
     }
 
     // The caller with this number looks.
-    fn look_once(&mut self, number: u64, deed: Deed) -> Came {
-        match deed.call(self.alloc) {
+    fn look_once(&mut self, number: u64, action: Action) -> Came {
+        match action.call(self.alloc) {
             Ok(call) => self.look(caller(number), &call),
             Err(_) => Came::Unwanted("not made"),
         }
     }
 
-    fn look_and_tell(&mut self, number: u64, deed: Deed) {
-        let came = self.look_once(number, deed);
+    fn look_and_tell(&mut self, number: u64, action: Action) {
+        let came = self.look_once(number, action);
         self.row.put_number(number);
         self.row.put(" ");
-        self.tell(deed, &came);
+        self.tell(action, &came);
     }
 
-    fn look_often(&mut self, first: u64, end: u64, deed: Deed) {
+    fn look_often(&mut self, first: u64, end: u64, action: Action) {
         for number in first..end {
-            self.look_once(number, deed);
+            self.look_once(number, action);
         }
     }
 
     // An operation begins, and its first phase is done.
-    fn begin_first(&mut self, deed: Deed) -> Came {
-        match deed.call(self.alloc) {
+    fn begin_first(&mut self, action: Action) -> Came {
+        match action.call(self.alloc) {
             Ok(call) => self.begin(&call),
             Err(_) => Came::Unwanted("not made"),
         }
     }
 
-    fn begin_and_tell(&mut self, deed: Deed) {
-        let began = self.begin_first(deed);
-        self.tell(deed, &began);
+    fn begin_and_tell(&mut self, action: Action) {
+        let began = self.begin_first(action);
+        self.tell(action, &began);
         self.go_on();
     }
 
@@ -157,23 +157,23 @@ impl<M: Monitor + Drop, E: Ears + Drop, Z: Killer + Drop, K: Maker<M, E, Z>> Sta
 
     fn act(&mut self, act: Act) {
         match act {
-            Act::Call(deed) => {
-                let came = self.do_whole(deed);
-                self.tell(deed, &came);
+            Act::Call(action) => {
+                let came = self.do_whole(action);
+                self.tell(action, &came);
             }
-            Act::Times(times, deed) => self.repeat(times, deed),
+            Act::Times(times, action) => self.repeat(times, action),
             Act::Pairs(times) => self.repeat_pairs(times),
-            Act::Fill(deed) => self.fill(deed),
-            Act::Look(number, deed) => self.look_and_tell(number, deed),
-            Act::Looks(first, end, deed) => self.look_often(first, end, deed),
-            Act::Finish(deed) => {
+            Act::Fill(action) => self.fill(action),
+            Act::Look(number, action) => self.look_and_tell(number, action),
+            Act::Looks(first, end, action) => self.look_often(first, end, action),
+            Act::Finish(action) => {
                 let came = self.answer_all();
-                self.tell(deed, &came);
+                self.tell(action, &came);
             }
-            Act::Begin(deed) => self.begin_and_tell(deed),
-            Act::End(deed) => {
+            Act::Begin(action) => self.begin_and_tell(action),
+            Act::End(action) => {
                 let came = self.go_through();
-                self.tell(deed, &came);
+                self.tell(action, &came);
             }
             Act::Info => self.tell_info(),
             Act::There => self.tell_there(),

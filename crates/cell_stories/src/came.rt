@@ -20,7 +20,7 @@ pub(crate) enum Came {
 }
 
 impl Came {
-    /// Puts it behind the row.
+    /// Puts it at the end of the row.
     pub(crate) fn put(&self, row: &mut Row) {
         match self {
             Came::Done(reply) => put_reply(row, reply),

@@ -32,7 +32,7 @@ fn put_marks(row: &mut Row, marks: &[Mark<Stamp>]) {
     }
 }
 
-/// Puts it behind the row.
+/// Puts it at the end of the row.
 pub(crate) fn put_history(alloc: Global, row: &mut Row, history: Chronicle) {
     let Chronicle {
         chapter,

@@ -2,10 +2,10 @@
 //! and what the plain judge says of the whole history.
 #![tactic(auto)]
 
+mod actions;
 mod acts;
 mod calls;
 mod came;
-mod deeds;
 mod history;
 mod makers;
 mod operations;

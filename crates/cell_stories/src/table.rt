@@ -1,5 +1,5 @@
 // The stories: what happens to a domain's cell in each of them.
-use crate::deeds::Deed;
+use crate::actions::Action;
 
 /// What there is when a story begins.
 #[derive(Clone, Copy)]
@@ -14,27 +14,27 @@ pub(crate) enum Scene {
     Obeys,
 }
 
-/// One thing that happens in a story. What is told of it stands in the row.
+/// One thing that happens in a story. What is told of it is in the row.
 #[derive(Clone, Copy)]
 pub(crate) enum Act {
     /// A call is made, until it is done.
-    Call(Deed),
+    Call(Action),
     /// The same call is made so often, and nothing is told of it.
-    Times(u32, Deed),
+    Times(u32, Action),
     /// The guest is suspended and resumed so often, and nothing is told of it.
     Pairs(u32),
     /// The same call is made until the chapter ends, or 2,100 times, and nothing is told of it.
-    Fill(Deed),
+    Fill(Action),
     /// The caller with this number looks. Where its call asks, the answer does not come yet.
-    Look(u64, Deed),
+    Look(u64, Action),
     /// Those with these numbers look, without the last number, and nothing is told of it.
-    Looks(u64, u64, Deed),
+    Looks(u64, u64, Action),
     /// The call that asks is answered until it is done.
-    Finish(Deed),
+    Finish(Action),
     /// An operation begins, and its first phase is done.
-    Begin(Deed),
+    Begin(Action),
     /// The operation goes on to its end.
-    End(Deed),
+    End(Action),
     /// The domain's state is read.
     Info,
     /// It is seen whether the domain is there.
@@ -68,10 +68,10 @@ pub(crate) const STORIES: [Story; 11] = [
         scene: Scene::Defined,
         rotates: false,
         acts: &[
-            Act::Call(Deed::Start),
-            Act::Call(Deed::Undefine),
+            Act::Call(Action::Start),
+            Act::Call(Action::Undefine),
             Act::Info,
-            Act::Call(Deed::Destroy),
+            Act::Call(Action::Destroy),
             Act::There,
         ],
     },
@@ -79,7 +79,7 @@ pub(crate) const STORIES: [Story; 11] = [
         title: "ends at its start",
         scene: Scene::EndsSoon,
         rotates: false,
-        acts: &[Act::Call(Deed::Start), Act::Call(Deed::Start)],
+        acts: &[Act::Call(Action::Start), Act::Call(Action::Start)],
     },
     // 32 callers may wait at once, here for a call that asks.
     Story {
@@ -87,42 +87,45 @@ pub(crate) const STORIES: [Story; 11] = [
         scene: Scene::Defined,
         rotates: false,
         acts: &[
-            Act::Call(Deed::Start),
-            Act::Look(100, Deed::Suspend),
-            Act::Look(101, Deed::Resume),
-            Act::Looks(102, 132, Deed::Resume),
-            Act::Look(132, Deed::Resume),
-            Act::Look(133, Deed::Resume),
-            Act::Look(132, Deed::Resume),
-            Act::Finish(Deed::Suspend),
-            Act::Look(110, Deed::Resume),
-            Act::Look(133, Deed::Resume),
-            Act::Look(134, Deed::Resume),
-            Act::Finish(Deed::Resume),
+            Act::Call(Action::Start),
+            Act::Look(100, Action::Suspend),
+            Act::Look(101, Action::Resume),
+            Act::Looks(102, 132, Action::Resume),
+            Act::Look(132, Action::Resume),
+            Act::Look(133, Action::Resume),
+            Act::Look(132, Action::Resume),
+            Act::Finish(Action::Suspend),
+            Act::Look(110, Action::Resume),
+            Act::Look(133, Action::Resume),
+            Act::Look(134, Action::Resume),
+            Act::Finish(Action::Resume),
         ],
     },
     Story {
         title: "a long chapter",
         scene: Scene::Vacant,
         rotates: false,
-        acts: &[Act::Times(2048, Deed::Suspend)],
+        acts: &[Act::Times(2048, Action::Suspend)],
     },
     Story {
         title: "the next chapter",
         scene: Scene::Vacant,
         rotates: true,
-        acts: &[Act::Times(2048, Deed::Suspend), Act::Call(Deed::Suspend)],
+        acts: &[
+            Act::Times(2048, Action::Suspend),
+            Act::Call(Action::Suspend),
+        ],
     },
     Story {
         title: "resumes meanwhile",
         scene: Scene::Vacant,
         rotates: false,
         acts: &[
-            Act::Call(Deed::Define),
-            Act::Call(Deed::Start),
-            Act::Look(100, Deed::Suspend),
+            Act::Call(Action::Define),
+            Act::Call(Action::Start),
+            Act::Look(100, Action::Suspend),
             Act::Resumes(1),
-            Act::Finish(Deed::Suspend),
+            Act::Finish(Action::Suspend),
         ],
     },
     // 64 events are held, and a guest is not heard again before they apply.
@@ -131,10 +134,10 @@ pub(crate) const STORIES: [Story; 11] = [
         scene: Scene::Defined,
         rotates: false,
         acts: &[
-            Act::Call(Deed::Start),
-            Act::Look(100, Deed::Suspend),
+            Act::Call(Action::Start),
+            Act::Look(100, Action::Suspend),
             Act::Resumes(65),
-            Act::Finish(Deed::Suspend),
+            Act::Finish(Action::Suspend),
         ],
     },
     Story {
@@ -142,10 +145,10 @@ pub(crate) const STORIES: [Story; 11] = [
         scene: Scene::Obeys,
         rotates: false,
         acts: &[
-            Act::Call(Deed::Start),
-            Act::Look(100, Deed::Suspend),
+            Act::Call(Action::Start),
+            Act::Look(100, Action::Suspend),
             Act::Kill,
-            Act::Finish(Deed::Suspend),
+            Act::Finish(Action::Suspend),
         ],
     },
     // A registration keeps 256 transitions.
@@ -154,10 +157,10 @@ pub(crate) const STORIES: [Story; 11] = [
         scene: Scene::Defined,
         rotates: false,
         acts: &[
-            Act::Call(Deed::Start),
+            Act::Call(Action::Start),
             Act::Watch,
             Act::Pairs(128),
-            Act::Call(Deed::Suspend),
+            Act::Call(Action::Suspend),
             Act::Take,
         ],
     },
@@ -166,10 +169,10 @@ pub(crate) const STORIES: [Story; 11] = [
         scene: Scene::Defined,
         rotates: false,
         acts: &[
-            Act::Call(Deed::Start),
+            Act::Call(Action::Start),
             Act::Watch,
-            Act::Begin(Deed::Save),
-            Act::Fill(Deed::Kick),
+            Act::Begin(Action::Save),
+            Act::Fill(Action::Kick),
         ],
     },
     Story {
@@ -177,11 +180,11 @@ pub(crate) const STORIES: [Story; 11] = [
         scene: Scene::Defined,
         rotates: true,
         acts: &[
-            Act::Call(Deed::Start),
+            Act::Call(Action::Start),
             Act::Watch,
-            Act::Begin(Deed::Save),
-            Act::Fill(Deed::Kick),
-            Act::End(Deed::Save),
+            Act::Begin(Action::Save),
+            Act::Fill(Action::Kick),
+            Act::End(Action::Save),
             Act::Take,
         ],
     },

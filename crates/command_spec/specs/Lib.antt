@@ -1,6 +1,6 @@
 pub mod Columns
 pub mod Commands
-pub mod Deeds
+pub mod Actions
 pub mod Laws
 pub mod Lines
 pub mod Output

@@ -1,4 +1,4 @@
--- The ask that is next after some answers stands at one place of a plan.
+-- The ask that is next after some answers is at one place of a plan.
 use Rattle.std.proofs.Common.{◌≡◌, ℕ, zero, suc, ◌+◌, ◌-◌, ◌<◌, ◌≤◌, List, [], ◌∷◌, ◌++◌, Bool, true, false, not, Option, None, Some, if◌then◌else◌, length, drop, take, map, slice_get, refl, sym, ap, ◌∙◌, nat_lt, arith}
 use Rattle.std.specs.List.{position_or_len}
 use Rattle.std.proofs.Math.Seq.{drop-append-add}

@@ -1,4 +1,4 @@
--- Where the ask that is next stands in a plan: among the planned asks, or in the undo of one of them.
+-- Where the next ask is in a plan: among the planned asks, or in the undo of one of them.
 use Rattle.std.specs.Prelude.{ℕ, ◌+◌, ◌-◌, ◌==◌, List, length, slice_get, option_map, Option, None, Some, if◌then◌else◌}
 use Rattle.domain_spec.specs.Types.{Answer, Ask}
 use Rattle.domain_spec.specs.declared.planned.PlannedAsk.{PlannedAsk}
@@ -37,7 +37,7 @@ undo_step_of (Some planned) step = slice_get planned.undo step
 abbrev pub undo_step : List PlannedAsk → ℕ → ℕ → Option Ask
 undo_step plan of step = undo_step_of (slice_get plan of) step
 
--- what is next where it stands at this place of the plan
+-- what is next where it is at this place of the plan
 abbrev pub next_at : List PlannedAsk → Place → Next
 next_at plan (place.Plan n) = next_if (planned_at plan n)
 next_at plan (place.Undo of step) = next_if (undo_step plan of step)

@@ -1,4 +1,4 @@
-// Where the ask that is next stands in a plan.
+// Where the next ask is in a plan.
 ghost use Rattle.std.specs.Prelude.{◌≡◌, ◌<◌, length};
 ghost use Rattle.domain_spec.specs.Asks.{asks_left, first_bad, plain};
 ghost use Rattle.core_rules.specs.Next.{at_most, next_of};
@@ -9,7 +9,7 @@ use crate::next::Next;
 use domain_spec::PlannedAsk;
 use virt_types::{Answer, Ask};
 
-/// Where the ask that is next stands in a plan.
+/// Where the next ask is in a plan.
 #[derive(Clone, Copy, Debug, PartialEq, Eq)]
 pub enum Place {
     /// The planned ask at this place.

@@ -34,7 +34,7 @@ impl Model for KeptText {
     ghost invariant = { λ k. (string_bytes k.text ≡ []) × ((string_len k.text ≡ 0) × (1024 ≤ string_capacity k.text)) };
 }
 
-// Puts a text behind another, into room that is there.
+// Puts a text after another, into room that is there.
 fn put(text: &mut String, more: &str)
     requires { string_len text.old + length more.now ≤ string_capacity text.old }
     ensures bytes { string_bytes text.new ≡ string_bytes text.old ++ more.now }
@@ -47,7 +47,7 @@ fn put(text: &mut String, more: &str)
     }
 }
 
-// Puts a number behind a text, into room that is there.
+// Puts a number after a text, into room that is there.
 fn put_number(text: &mut String, n: u64)
     requires { string_len text.old + 40 ≤ string_capacity text.old }
     ensures bytes { string_bytes text.new ≡ string_bytes text.old ++ decimal n }

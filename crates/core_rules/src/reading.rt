@@ -129,7 +129,7 @@ fn state_running(run: RunState) -> DomainState
     }
 }
 
-/// The state of a domain as the wire tells it.
+/// The state of a domain as the wire reports it.
 pub fn state_in(live: &Option<Live>) -> DomainState
     ensures { result ≡ state_in live.now }
 {

@@ -14,7 +14,7 @@ use Rattle.store_spec.specs.ImageFile.{image_bytes}
 use Rattle.store_spec.specs.ImageSteps.{image_draft, image_name}
 use Rattle.image_store.specs.Storing.{WritesImage}
 use Rattle.def_keeper.specs.declared.mark.DefKey.{DefKey}
-use Rattle.def_keeper.specs.declared.mark.StoreDeed.TheVariants as deed
+use Rattle.def_keeper.specs.declared.mark.StoreAction.TheVariants as action
 use Rattle.def_keeper.specs.declared.mark.StoreMark.{StoreMark}
 use Rattle.def_keeper.specs.Chapters.{by, with_marks}
 use Rattle.def_keeper.specs.Imaging.{HasRead, HasWritten, failed}
@@ -46,13 +46,13 @@ same_history : (old new : StoreHistory) → new ≡ old → Answers old new
 same_history old new same = record { more = []; is = same ∙ (λ k. record old { marks = sym (append-nil old.marks) k }); tries = refl; none = refl }
 
 pub written_answers : (number : ℕ) (name : List ℕ) (i : Image) (old new : StoreHistory) (r : Result (Unit {0}) Fault) → HasWritten number name i old new r → Answers old new
-written_answers number name i old new (Ok done) is = record { more = by number (deed.ImageWritten name i (Ok tt)) ∷ []; is = is; tries = refl; none = refl }
-written_answers number name i old new (Err fault.Failed) is = record { more = by number (deed.ImageWritten name i (Err failed)) ∷ []; is = is; tries = refl; none = refl }
+written_answers number name i old new (Ok done) is = record { more = by number (action.ImageWritten name i (Ok tt)) ∷ []; is = is; tries = refl; none = refl }
+written_answers number name i old new (Err fault.Failed) is = record { more = by number (action.ImageWritten name i (Err failed)) ∷ []; is = is; tries = refl; none = refl }
 written_answers number name i old new (Err fault.NoMemory) same = same_history old new same
 
 pub read_answers : (number : ℕ) (name : List ℕ) (old new : StoreHistory) (r : Result Image (OrNoMemory ImageFault)) → HasRead number name old new r → Answers old new
-read_answers number name old new (Ok i) is = record { more = by number (deed.ImageRead name (Ok i)) ∷ []; is = is; tries = refl; none = refl }
-read_answers number name old new (Err (or.Fault f)) is = record { more = by number (deed.ImageRead name (Err f)) ∷ []; is = is; tries = refl; none = refl }
+read_answers number name old new (Ok i) is = record { more = by number (action.ImageRead name (Ok i)) ∷ []; is = is; tries = refl; none = refl }
+read_answers number name old new (Err (or.Fault f)) is = record { more = by number (action.ImageRead name (Err f)) ∷ []; is = is; tries = refl; none = refl }
 read_answers number name old new (Err or.NoMemory) same = same_history old new same
 
 pub kept_answered : (told : Told) (old new : StoreHistory) (map : Definitions) (doubt : Option DefKey) → Answers old new → IsKeptAt told old map doubt → IsKeptAt told new map doubt

@@ -24,7 +24,7 @@ use Rattle.store_spec.proofs.Whole.{aside_sync, aside_write}
 use Rattle.virt_types.specs.declared.memory.Fault.TheVariants as fault
 use Rattle.files_disk.specs.Telling.{Told, more}
 use Rattle.def_keeper.specs.declared.mark.DefKey.{DefKey}
-use Rattle.def_keeper.specs.declared.mark.StoreDeed.TheVariants as deed
+use Rattle.def_keeper.specs.declared.mark.StoreAction.TheVariants as action
 use Rattle.def_keeper.specs.declared.mark.StoreFault.TheVariants as store
 use Rattle.def_keeper.specs.declared.mark.StoreMark.{StoreMark}
 use Rattle.virt_types.specs.declared.memory.Fault.{Fault}
@@ -238,33 +238,33 @@ module _ (number : ℕ) where
 
   -- what was in doubt is settled
   pub at_settled : (told now : Told) (h : StoreHistory) (map : Definitions) (key : DefKey) (c : Change) → kind_of c ≡ key.kind → uuid_of c ≡ key.uuid → entry_of c ≡ map key.kind key.uuid → IsChange c
-      → Tries c told now (Ok tt) → IsKeptAt told h map (Some key) → IsKeptAt now (with_marks (by number (deed.Tried c) ∷ []) h) map None
+      → Tries c told now (Ok tt) → IsKeptAt told h map (Some key) → IsKeptAt now (with_marks (by number (action.Tried c) ∷ []) h) map None
   at_settled told now h map key c kinds uuids entry good tries kept =
       let os = kept.0 in
       let t = start_doubt h.base.begun os (found h.base.map) map (tries_in h.marks) c key kinds uuids kept.2 in
       let disk = all_done h.base.begun os (found h.base.map) (tries_in h.marks) kept.2.reach c good t in (
         on os (steps_of c),
         told_more told now os (steps_of c) kept.1 tries,
-        subst (λ (l : List Try). IsKept h.base.begun (on os (steps_of c)) (found h.base.map) l map None) (sym (tries_with h (by number (deed.Tried c) ∷ [])))
+        subst (λ (l : List Try). IsKept h.base.begun (on os (steps_of c)) (found h.base.map) l map None) (sym (tries_with h (by number (action.Tried c) ∷ [])))
             (kept_settled h.base.begun os (on os (steps_of c)) (found h.base.map) map (tries_in h.marks) kept.2.reach c key kinds uuids entry kept.2 disk),
       )
 
   -- it could not be settled
   pub at_unsettled : (told now : Told) (h : StoreHistory) (map : Definitions) (key : DefKey) (c : Change) → kind_of c ≡ key.kind → uuid_of c ≡ key.uuid → IsChange c
-      → Tries c told now (Err fault.Failed) → IsKeptAt told h map (Some key) → IsKeptAt now (with_marks (by number (deed.Tried c) ∷ []) h) map (Some key)
+      → Tries c told now (Err fault.Failed) → IsKeptAt told h map (Some key) → IsKeptAt now (with_marks (by number (action.Tried c) ∷ []) h) map (Some key)
   at_unsettled told now h map key c kinds uuids good tries kept =
       let os = kept.0 in
       let t = start_doubt h.base.begun os (found h.base.map) map (tries_in h.marks) c key kinds uuids kept.2 in
       let s = stopped h.base.begun told now os (found h.base.map) (tries_in h.marks) kept.2.reach c kept.1 good t tries in (
         s.0,
         s.1,
-        subst (λ (l : List Try). IsKept h.base.begun s.0 (found h.base.map) l map (Some key)) (sym (tries_with h (by number (deed.Tried c) ∷ [])))
+        subst (λ (l : List Try). IsKept h.base.begun s.0 (found h.base.map) l map (Some key)) (sym (tries_with h (by number (action.Tried c) ∷ [])))
             (kept_failed h.base.begun s.0 (found h.base.map) map (tries_in h.marks) kept.2.reach c key kinds uuids kept.2.agrees s.2),
       )
 
   -- a change is done, and acknowledged
   pub at_done : (told now : Told) (h : StoreHistory) (map then : Definitions) (c : Change) → IsChange c → ((k : BookKind) (uuid : List ℕ) → then k uuid ≡ changed c map k uuid)
-      → Tries c told now (Ok tt) → IsKeptAt told h map None → IsKeptAt now (with_marks (by number (deed.Changed c (Ok tt) (moment_of now)) ∷ []) h) then None
+      → Tries c told now (Ok tt) → IsKeptAt told h map None → IsKeptAt now (with_marks (by number (action.Changed c (Ok tt) (moment_of now)) ∷ []) h) then None
   at_done told now h map then c good is tries kept =
       let os = kept.0 in
       let t = start_any h.base.begun os (found h.base.map) map (tries_in h.marks) c kept.2 in
@@ -273,21 +273,21 @@ module _ (number : ℕ) where
         on os (steps_of c),
         told_is,
         subst (λ (l : List Try). IsKept h.base.begun (on os (steps_of c)) (found h.base.map) l then None)
-            (ap (λ (m : ℕ). tries_in h.marks ++ done c m ∷ []) (sym (ap moment_of told_is)) ∙ sym (tries_with h (by number (deed.Changed c (Ok tt) (moment_of now)) ∷ [])))
+            (ap (λ (m : ℕ). tries_in h.marks ++ done c m ∷ []) (sym (ap moment_of told_is)) ∙ sym (tries_with h (by number (action.Changed c (Ok tt) (moment_of now)) ∷ [])))
             (kept_done h.base.begun os (on os (steps_of c)) (found h.base.map) map then (tries_in h.marks) (length (tries_in h.marks)) c is kept.2 disk),
       )
 
   -- a change failed
   pub at_failed : (told now : Told) (h : StoreHistory) (map : Definitions) (c : Change) (moment : ℕ) → IsChange c
       → Tries c told now (Err fault.Failed) → IsKeptAt told h map None
-      → IsKeptAt now (with_marks (by number (deed.Tried c) ∷ by number (deed.Changed c (Err store.Device) moment) ∷ []) h) map (Some (record { kind = kind_of c; uuid = uuid_of c }))
+      → IsKeptAt now (with_marks (by number (action.Tried c) ∷ by number (action.Changed c (Err store.Device) moment) ∷ []) h) map (Some (record { kind = kind_of c; uuid = uuid_of c }))
   at_failed told now h map c moment good tries kept =
       let os = kept.0 in
       let t = start_any h.base.begun os (found h.base.map) map (tries_in h.marks) c kept.2 in
       let s = stopped h.base.begun told now os (found h.base.map) (tries_in h.marks) (length (tries_in h.marks)) c kept.1 good t tries in (
         s.0,
         s.1,
-        subst (λ (l : List Try). IsKept h.base.begun s.0 (found h.base.map) l map (Some (record { kind = kind_of c; uuid = uuid_of c }))) (sym (tries_with h (by number (deed.Tried c) ∷ by number (deed.Changed c (Err store.Device) moment) ∷ [])))
+        subst (λ (l : List Try). IsKept h.base.begun s.0 (found h.base.map) l map (Some (record { kind = kind_of c; uuid = uuid_of c }))) (sym (tries_with h (by number (action.Tried c) ∷ by number (action.Changed c (Err store.Device) moment) ∷ [])))
             (kept_failed h.base.begun s.0 (found h.base.map) map (tries_in h.marks) (length (tries_in h.marks)) c (record { kind = kind_of c; uuid = uuid_of c }) refl refl
             (λ k uuid apart. kept.2.agrees k uuid (λ e. none_some (record { kind = k; uuid = uuid }) e)) s.2),
       )
@@ -348,7 +348,7 @@ map_same h map then marks none same was k uuid =
     same k uuid ∙ was k uuid
     ∙ ap (λ (cs : List Change). after (found h.base.map) cs k uuid) (sym (acknowledged_more h.marks marks ∙ ap (λ (l : List Change). acknowledged_in h.marks ++ l) none ∙ append-nil (acknowledged_in h.marks)))
 
--- a change that leaves what the map has is one that files can tell
+-- a change that leaves what the map has is one that files can express
 pub settling_good : (key : DefKey) (map : Definitions) (c : Change) → IsSettling key map c → AllGood map → IsUuid key.uuid → IsChange c
 settling_good key map c s good uuid = record {
   uuid = subst IsUuid (sym s.uuid) uuid;
@@ -367,11 +367,11 @@ marks_after h first more = λ i. record h { marks = append_assoc h.marks first m
 pub left_by : (number : ℕ) (c : Change) (doubt : Option DefKey) (map : Definitions) (moment : ℕ) (old mid new : StoreHistory) (first : List StoreMark) → Settles number doubt map first → mid ≡ with_marks first old
     → (r : Result (Unit {0}) Fault) → HasMade number c moment mid new r → HasLeft number c doubt map moment old new (as_answer r)
 left_by number c doubt map moment old mid new first settles is (Ok x) made =
-    (first ++ by number (deed.Changed c (Ok tt) moment) ∷ [], (first, settles, refl), made ∙ ap (λ (h : StoreHistory). with_marks (by number (deed.Changed c (Ok tt) moment) ∷ []) h) is ∙ marks_after old first (by number (deed.Changed c (Ok tt) moment) ∷ []))
+    (first ++ by number (action.Changed c (Ok tt) moment) ∷ [], (first, settles, refl), made ∙ ap (λ (h : StoreHistory). with_marks (by number (action.Changed c (Ok tt) moment) ∷ []) h) is ∙ marks_after old first (by number (action.Changed c (Ok tt) moment) ∷ []))
 left_by number c doubt map moment old mid new first settles is (Err fault.Failed) made = (
-  first ++ by number (deed.Tried c) ∷ by number (deed.Changed c (Err store.Device) moment) ∷ [],
+  first ++ by number (action.Tried c) ∷ by number (action.Changed c (Err store.Device) moment) ∷ [],
   (first, settles, inr refl),
-  made ∙ ap (λ (h : StoreHistory). with_marks (by number (deed.Tried c) ∷ by number (deed.Changed c (Err store.Device) moment) ∷ []) h) is ∙ marks_after old first (by number (deed.Tried c) ∷ by number (deed.Changed c (Err store.Device) moment) ∷ []),
+  made ∙ ap (λ (h : StoreHistory). with_marks (by number (action.Tried c) ∷ by number (action.Changed c (Err store.Device) moment) ∷ []) h) is ∙ marks_after old first (by number (action.Tried c) ∷ by number (action.Changed c (Err store.Device) moment) ∷ []),
 )
 left_by number c doubt map moment old mid new first settles is (Err fault.NoMemory) made = (first, inr settles, made ∙ is)
 
@@ -392,16 +392,16 @@ pub map_told : {A : Type 0} (number : ℕ) (c : Change) (doubt : Option DefKey) 
     → OnOk r ((k : BookKind) (uuid : List ℕ) → then k uuid ≡ changed c map k uuid) → OnErr r ((k : BookKind) (uuid : List ℕ) → then k uuid ≡ map k uuid) → IsMapOf h map → IsMapOf next then
 map_told number c doubt was moment h next map then (Ok x) left ok err is =
     subst (λ (n : StoreHistory). IsMapOf n then) (sym left.2)
-    (map_more h map then c left.0 (ap (λ (l : List StoreMark). acknowledged_in l) left.1.2 ∙ two_acknowledged left.1.0 (by number (deed.Changed c (Ok tt) moment) ∷ []) (c ∷ []) (settles_none number doubt was left.1.0 left.1.1) refl) ok is)
+    (map_more h map then c left.0 (ap (λ (l : List StoreMark). acknowledged_in l) left.1.2 ∙ two_acknowledged left.1.0 (by number (action.Changed c (Ok tt) moment) ∷ []) (c ∷ []) (settles_none number doubt was left.1.0 left.1.1) refl) ok is)
 map_told number c doubt was moment h next map then (Err (or.Fault store.Device)) left ok err is =
     subst (λ (n : StoreHistory). IsMapOf n then) (sym left.2) (map_same h map then left.0 (by_case left.1.2) err is)
   where
     none : acknowledged_in left.1.0 ≡ []
     none = settles_none number doubt was left.1.0 left.1.1
 
-    by_case : (left.0 ≡ left.1.0 ++ by number (deed.Changed c (Err store.Device) moment) ∷ []) ⊎ (left.0 ≡ left.1.0 ++ by number (deed.Tried c) ∷ by number (deed.Changed c (Err store.Device) moment) ∷ []) → acknowledged_in left.0 ≡ []
-    by_case (inl one) = ap (λ (l : List StoreMark). acknowledged_in l) one ∙ two_acknowledged left.1.0 (by number (deed.Changed c (Err store.Device) moment) ∷ []) [] none refl
-    by_case (inr two) = ap (λ (l : List StoreMark). acknowledged_in l) two ∙ two_acknowledged left.1.0 (by number (deed.Tried c) ∷ by number (deed.Changed c (Err store.Device) moment) ∷ []) [] none refl
+    by_case : (left.0 ≡ left.1.0 ++ by number (action.Changed c (Err store.Device) moment) ∷ []) ⊎ (left.0 ≡ left.1.0 ++ by number (action.Tried c) ∷ by number (action.Changed c (Err store.Device) moment) ∷ []) → acknowledged_in left.0 ≡ []
+    by_case (inl one) = ap (λ (l : List StoreMark). acknowledged_in l) one ∙ two_acknowledged left.1.0 (by number (action.Changed c (Err store.Device) moment) ∷ []) [] none refl
+    by_case (inr two) = ap (λ (l : List StoreMark). acknowledged_in l) two ∙ two_acknowledged left.1.0 (by number (action.Tried c) ∷ by number (action.Changed c (Err store.Device) moment) ∷ []) [] none refl
 map_told number c doubt was moment h next map then (Err (or.Fault (store.NameKept one two))) left ok err is =
     subst (λ (n : StoreHistory). IsMapOf n then) (sym left.2) (map_same h map then left.0 (ap (λ (l : List StoreMark). acknowledged_in l) left.1) err is)
 map_told number c doubt was moment h next map then (Err or.NoMemory) left ok err is =

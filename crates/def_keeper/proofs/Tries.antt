@@ -80,8 +80,8 @@ after_try base tries x = ap (λ (cs : List Change). after base cs) (changes_more
 -- marks more
 pub tries_more : (ms ns : List StoreMark) → tries_in (ms ++ ns) ≡ tries_in ms ++ tries_in ns
 tries_more [] ns = refl
-tries_more (m ∷ ms) ns = ap (λ (l : List Try). try_of m.deed ++ l) (tries_more ms ns) ∙ sym (append_assoc (try_of m.deed) (tries_in ms) (tries_in ns))
+tries_more (m ∷ ms) ns = ap (λ (l : List Try). try_of m.action ++ l) (tries_more ms ns) ∙ sym (append_assoc (try_of m.action) (tries_in ms) (tries_in ns))
 
 pub acknowledged_more : (ms ns : List StoreMark) → acknowledged_in (ms ++ ns) ≡ acknowledged_in ms ++ acknowledged_in ns
 acknowledged_more [] ns = refl
-acknowledged_more (m ∷ ms) ns = ap (λ (l : List Change). acknowledged_by m.deed ++ l) (acknowledged_more ms ns) ∙ sym (append_assoc (acknowledged_by m.deed) (acknowledged_in ms) (acknowledged_in ns))
+acknowledged_more (m ∷ ms) ns = ap (λ (l : List Change). acknowledged_by m.action ++ l) (acknowledged_more ms ns) ∙ sym (append_assoc (acknowledged_by m.action) (acknowledged_in ms) (acknowledged_in ns))

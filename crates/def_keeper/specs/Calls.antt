@@ -14,7 +14,7 @@ use Rattle.store_spec.specs.declared.version.Version.TheVariants as version
 use Rattle.store_spec.specs.Changes.{Definitions, entry_of, kind_of, uuid_of}
 use Rattle.store_spec.specs.DefinitionFile.{IsEntryOf, has_feed}
 use Rattle.def_keeper.specs.declared.mark.DefKey.{DefKey}
-use Rattle.def_keeper.specs.declared.mark.StoreDeed.TheVariants as deed
+use Rattle.def_keeper.specs.declared.mark.StoreAction.TheVariants as action
 use Rattle.def_keeper.specs.declared.mark.StoreFault.{StoreFault}
 use Rattle.def_keeper.specs.declared.mark.StoreFault.TheVariants as store
 use Rattle.def_keeper.specs.declared.mark.StoreMark.{StoreMark}
@@ -65,8 +65,8 @@ HasSettled number doubt map old new (Err fault.NoMemory) = new ≡ old
 
 -- a change was made, or failed; without memory it was not tried
 abbrev pub HasMade : ℕ → Change → ℕ → StoreHistory → StoreHistory → Result (Unit {0}) Fault → Type 0
-HasMade number c moment old new (Ok done) = new ≡ with_marks (by number (deed.Changed c (Ok tt) moment) ∷ []) old
-HasMade number c moment old new (Err fault.Failed) = new ≡ with_marks (by number (deed.Tried c) ∷ by number (deed.Changed c (Err store.Device) moment) ∷ []) old
+HasMade number c moment old new (Ok done) = new ≡ with_marks (by number (action.Changed c (Ok tt) moment) ∷ []) old
+HasMade number c moment old new (Err fault.Failed) = new ≡ with_marks (by number (action.Tried c) ∷ by number (action.Changed c (Err store.Device) moment) ∷ []) old
 HasMade number c moment old new (Err fault.NoMemory) = new ≡ old
 
 -- what is in doubt after it

@@ -6,8 +6,8 @@ use Rattle.virt_types.specs.declared.memory.OrNoMemory.TheVariants as or
 use Rattle.store_spec.specs.declared.change.Change.{Change}
 use Rattle.store_spec.specs.Changes.{Definitions, entry_of, kind_of, uuid_of}
 use Rattle.def_keeper.specs.declared.mark.DefKey.{DefKey}
-use Rattle.def_keeper.specs.declared.mark.StoreDeed.{StoreDeed}
-use Rattle.def_keeper.specs.declared.mark.StoreDeed.TheVariants as deed
+use Rattle.def_keeper.specs.declared.mark.StoreAction.{StoreAction}
+use Rattle.def_keeper.specs.declared.mark.StoreAction.TheVariants as action
 use Rattle.def_keeper.specs.declared.mark.StoreFault.{StoreFault}
 use Rattle.def_keeper.specs.declared.mark.StoreFault.TheVariants as fault
 use Rattle.def_keeper.specs.declared.mark.StoreMark.{StoreMark}
@@ -45,23 +45,23 @@ pub record IsCounted (chapter marks : ℕ) (told : StoreHistory) : Type 0 where
   pub marks_are : marks ≡ length told.marks
 
 -- a mark of the pass of this number
-abbrev pub by : ℕ → StoreDeed → StoreMark
-by number d = record { number = number; deed = d }
+abbrev pub by : ℕ → StoreAction → StoreMark
+by number d = record { number = number; action = d }
 
 -- what is in doubt is settled by a change that leaves there what the map has
 abbrev pub Settles : ℕ → Option DefKey → Definitions → List StoreMark → Type 0
 Settles number None map marks = marks ≡ []
-Settles number (Some key) map marks = (c : Change) × (kind_of c ≡ key.kind) × (uuid_of c ≡ key.uuid) × (entry_of c ≡ map key.kind key.uuid) × (marks ≡ by number (deed.Tried c) ∷ [])
+Settles number (Some key) map marks = (c : Change) × (kind_of c ≡ key.kind) × (uuid_of c ≡ key.uuid) × (entry_of c ≡ map key.kind key.uuid) × (marks ≡ by number (action.Tried c) ∷ [])
 
 -- a change that the store failed was tried, or was not, since what was in doubt could not be settled
 abbrev pub Fails : ℕ → Change → ℕ → List StoreMark → List StoreMark → Type 0
 Fails number c moment first marks =
-    (marks ≡ first ++ by number (deed.Changed c (Err fault.Device) moment) ∷ [])
-    ⊎ (marks ≡ first ++ by number (deed.Tried c) ∷ by number (deed.Changed c (Err fault.Device) moment) ∷ [])
+    (marks ≡ first ++ by number (action.Changed c (Err fault.Device) moment) ∷ [])
+    ⊎ (marks ≡ first ++ by number (action.Tried c) ∷ by number (action.Changed c (Err fault.Device) moment) ∷ [])
 
 -- the marks that a change leaves: of what it settles, of itself, and of its answer
 abbrev pub Leaves : ℕ → Change → Option DefKey → Definitions → ℕ → {A : Type 0} → Result A (OrNoMemory StoreFault) → List StoreMark → Type 0
-Leaves number c doubt map moment (Ok a) marks = (first : List StoreMark) × Settles number doubt map first × (marks ≡ first ++ by number (deed.Changed c (Ok tt) moment) ∷ [])
+Leaves number c doubt map moment (Ok a) marks = (first : List StoreMark) × Settles number doubt map first × (marks ≡ first ++ by number (action.Changed c (Ok tt) moment) ∷ [])
 Leaves number c doubt map moment (Err (or.Fault fault.Device)) marks = (first : List StoreMark) × Settles number doubt map first × Fails number c moment first marks
-Leaves number c doubt map moment (Err (or.Fault (fault.NameKept one two))) marks = marks ≡ by number (deed.Changed c (Err (fault.NameKept one two)) moment) ∷ []
+Leaves number c doubt map moment (Err (or.Fault (fault.NameKept one two))) marks = marks ≡ by number (action.Changed c (Err (fault.NameKept one two)) moment) ∷ []
 Leaves number c doubt map moment (Err or.NoMemory) marks = (marks ≡ []) ⊎ Settles number doubt map marks

@@ -31,12 +31,12 @@ IsDefinitionOf d file k uuid name = (bytes : List ℕ) × (d file ≡ Some bytes
 abbrev pub IsNamedBefore : Directory → List ℕ → BookKind → List ℕ → Type 0
 IsNamedBefore d file k name = (earlier : List ℕ) × (uuid : List ℕ) × ComesBefore earlier file × IsDefinitionOf d earlier k uuid name
 
--- a status file of this name and these bytes tells of this boot of a domain of this name
+-- a status file of this name and these bytes reports this boot of a domain of this name
 abbrev pub TellsOf : List ℕ → List ℕ → List ℕ → ℕ → Type 0
 TellsOf file bytes name boot = (s : Status) × IsStatusFile file bytes s × (s.name ≡ name) × (s.boot ≡ boot)
 
 -- what a file of these bytes is found to be: a definition whose name no earlier file of its kind has; no such one; a
--- boot that was live; or a status file that tells nothing
+-- boot that was live; or a status file that reports nothing
 abbrev pub IsFinding : Directory → List ℕ → List ℕ → Finding → Type 0
 IsFinding d file bytes (finding.Ok k name uuid) = IsNamedSo file bytes k uuid name × (IsNamedBefore d file k name → ⊥)
 IsFinding d file bytes finding.Damaged = (k : BookKind) (uuid name : List ℕ) → IsNamedSo file bytes k uuid name → IsNamedBefore d file k name

@@ -4,33 +4,33 @@ use Rattle.history_spec.specs.declared.history.History.{History}
 use Rattle.store_spec.specs.declared.change.Change.{Change}
 use Rattle.store_spec.specs.Prefix.{Try}
 use Rattle.def_keeper.specs.declared.mark.StoreBase.{StoreBase}
-use Rattle.def_keeper.specs.declared.mark.StoreDeed.{StoreDeed}
-use Rattle.def_keeper.specs.declared.mark.StoreDeed.TheVariants as deed
+use Rattle.def_keeper.specs.declared.mark.StoreAction.{StoreAction}
+use Rattle.def_keeper.specs.declared.mark.StoreAction.TheVariants as action
 use Rattle.def_keeper.specs.declared.mark.StoreMark.{StoreMark}
 
 abbrev pub StoreHistory : Type 0
 StoreHistory = History StoreBase StoreMark
 
--- the change that a deed tried, if it did
-abbrev pub try_of : StoreDeed → List Try
-try_of (deed.Tried c) = record { change = c; acknowledged = None } ∷ []
-try_of (deed.Changed c (Ok done) moment) = record { change = c; acknowledged = Some moment } ∷ []
+-- the change that a call tried, if it did
+abbrev pub try_of : StoreAction → List Try
+try_of (action.Tried c) = record { change = c; acknowledged = None } ∷ []
+try_of (action.Changed c (Ok done) moment) = record { change = c; acknowledged = Some moment } ∷ []
 try_of other = []
 
 -- the changes that were tried, in order
 abbrev pub tries_in : List StoreMark → List Try
 tries_in [] = []
-tries_in (m ∷ ms) = try_of m.deed ++ tries_in ms
+tries_in (m ∷ ms) = try_of m.action ++ tries_in ms
 
--- the change that a deed acknowledged
-abbrev pub acknowledged_by : StoreDeed → List Change
-acknowledged_by (deed.Changed c (Ok done) moment) = c ∷ []
+-- the change that a call acknowledged
+abbrev pub acknowledged_by : StoreAction → List Change
+acknowledged_by (action.Changed c (Ok done) moment) = c ∷ []
 acknowledged_by other = []
 
 -- the changes that were acknowledged, in order
 abbrev pub acknowledged_in : List StoreMark → List Change
 acknowledged_in [] = []
-acknowledged_in (m ∷ ms) = acknowledged_by m.deed ++ acknowledged_in ms
+acknowledged_in (m ∷ ms) = acknowledged_by m.action ++ acknowledged_in ms
 
 -- the changes of some tries
 abbrev pub changes_of : List Try → List Change

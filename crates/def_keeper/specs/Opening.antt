@@ -41,7 +41,7 @@ files_in rows = map (λ f. definition_name f.kind f.uuid) rows
 abbrev pub IsFound : Directory → FoundDefinition → Type 0
 IsFound d f = (bytes : List ℕ) × (e : Entry) × (d (definition_name f.kind f.uuid) ≡ Some bytes) × IsDefinitionFile f.version e bytes
 
--- of the files with these names the map has the definitions, and the rows tell the version of each
+-- of the files with these names the map has the definitions, and the rows give the version of each
 pub record HasFound (names : List (List ℕ)) (d : Directory) (map : Definitions) (rows : List FoundDefinition) : Type 0 where
   pub files : (k : BookKind) (uuid : List ℕ) → IsUuid uuid → is_listed (definition_name k uuid) names ≡ true → Holds (d (definition_name k uuid)) (map k uuid)
   pub none : (k : BookKind) (uuid : List ℕ) → is_listed (definition_name k uuid) names ≡ false → map k uuid ≡ None
@@ -51,7 +51,7 @@ pub record HasFound (names : List (List ℕ)) (d : Directory) (map : Definitions
   pub from : All (λ n. is_listed n names ≡ true) (files_in rows)
   pub all : (k : BookKind) (uuid : List ℕ) (e : Entry) → map k uuid ≡ Some e → (v : Version) × Contains rows (record { kind = k; uuid = uuid; version = v })
 
--- the directory stands for the map, and the rows tell the version of each file, by rising names
+-- the directory stands for the map, and the rows give the version of each file, by rising names
 pub record IsWhole (d : Directory) (map : Definitions) (rows : List FoundDefinition) : Type 0 where
   pub stands : StandsFor d map
   pub versions : All (IsFound d) rows

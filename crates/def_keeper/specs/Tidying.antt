@@ -20,7 +20,7 @@ abbrev pub Tidies : Told → Told → Type 0
 Tidies None new = new ≡ None
 Tidies (Some os) new = (added : List Operation) × (new ≡ Some (os ++ added)) × All IsTidying added
 
--- a report is what the status file of this name tells
+-- a report is what the status file of this name says
 abbrev pub IsReported : Directory → List ℕ → Option Status → Type 0
 IsReported d name s = IsStatusName name × ((bytes : List ℕ) × (d name ≡ Some bytes) × TellsStatus name bytes s)
 

@@ -7,7 +7,7 @@ ghost use Rattle.def_keeper.specs.Calls.{CanBeMade, CanBePut};
 use store_reading::known_uuid;
 use store_spec::{Change, Entry};
 
-/// An entry with a title in one line and a text within the limit can stand in a file.
+/// An entry with a title in one line and a text within the limit can be in a file.
 pub(crate) fn known_entry(entry: &Entry)
     requires { CanBePut entry.now }
     ensures { IsEntryOf version.Two entry.now }
@@ -17,7 +17,7 @@ pub(crate) fn known_entry(entry: &Entry)
     let _text = entry.text.as_str();
 }
 
-/// A change of such an entry is one that files can tell.
+/// A change of such an entry is one that files can express.
 pub(crate) fn known_change(change: &Change)
     requires { CanBeMade change.now }
     ensures { IsChange change.now }

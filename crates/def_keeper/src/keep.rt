@@ -6,7 +6,7 @@ ghost use Rattle.store_spec.specs.declared.kind.BookKind.{BookKind as TheKind};
 ghost use Rattle.store_spec.specs.declared.change.Change.TheVariants as change;
 ghost use Rattle.store_spec.specs.Changes.{changed, kind_of, uuid_of};
 ghost use Rattle.store_spec.specs.Steps.{IsChange};
-ghost use Rattle.def_keeper.specs.declared.mark.StoreDeed.TheVariants as deed;
+ghost use Rattle.def_keeper.specs.declared.mark.StoreAction.TheVariants as action;
 ghost use Rattle.def_keeper.specs.declared.mark.StoreFault.TheVariants as store;
 ghost use Rattle.def_keeper.specs.declared.mark.StoreMark.{StoreMark};
 ghost use Rattle.def_keeper.specs.Calls.{AllGood, HasDevice, HasLeft, HasMade, HasSettled, IsDoubtAfter, IsFreeFor, IsQuiet, IsSettling, IsTakenBy, Refuses, as_answer, doubt_after};
@@ -298,7 +298,7 @@ fn refuse<F: Files>(files: &F, chronicle: &mut Chronicle, change: &Change, one: 
     ghost number: { ℕ }
     requires few { length chronicle.old.marks < 2 ^ 63 }
     ensures fault { result ≡ store.NameKept one (uuid_of change.now) }
-    ensures marks { chronicle.new ≡ with_marks (by number (deed.Changed change.now (Err (store.NameKept one (uuid_of change.now))) (moment_of (F.told files.now))) ∷ []) chronicle.old }
+    ensures marks { chronicle.new ≡ with_marks (by number (action.Changed change.now (Err (store.NameKept one (uuid_of change.now))) (moment_of (F.told files.now))) ∷ []) chronicle.old }
 {
     let two = uuid_of(change);
     mark_answer(chronicle, files, change, StoreFault::NameKept { one, two });
@@ -309,7 +309,7 @@ fn refuse<F: Files>(files: &F, chronicle: &mut Chronicle, change: &Change, one: 
 fn fail<F: Files>(files: &F, chronicle: &mut Chronicle, change: &Change)
     ghost number: { ℕ }
     requires few { length chronicle.old.marks < 2 ^ 63 + 1 }
-    ensures { chronicle.new ≡ with_marks (by number (deed.Changed change.now (Err store.Device) (moment_of (F.told files.now))) ∷ []) chronicle.old }
+    ensures { chronicle.new ≡ with_marks (by number (action.Changed change.now (Err store.Device) (moment_of (F.told files.now))) ∷ []) chronicle.old }
 {
     mark_answer(chronicle, files, change, StoreFault::Device);
 }

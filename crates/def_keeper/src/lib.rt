@@ -32,7 +32,7 @@ pub use examining::examine;
 pub use image_turns::{read_image_in, write_image_in};
 pub use keeper::Keeper;
 pub use laws::openings_keep_definitions;
-pub use mark::{DefKey, StoreBase, StoreDeed, StoreFault, StoreMark};
+pub use mark::{DefKey, StoreAction, StoreBase, StoreFault, StoreMark};
 pub use opening::Opening;
 pub use outcome::{Found, FoundDefinition, OpenFault};
 pub use report::{Finding, Report, ReportList};

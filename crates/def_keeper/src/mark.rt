@@ -27,7 +27,7 @@ pub enum StoreFault {
 }
 
 /// What a call did. No value of it is made.
-pub enum StoreDeed {
+pub enum StoreAction {
     /// A change was tried, and nobody was told that it is done: its call failed, or it settled an
     /// earlier one.
     Tried(Change),
@@ -63,8 +63,8 @@ pub enum StoreDeed {
 pub struct StoreMark {
     /// The number of the pass.
     pub number: u64,
-    /// The deed.
-    pub deed: StoreDeed,
+    /// What the call did.
+    pub action: StoreAction,
 }
 
 /// What a chapter of a store begins with. No value of it is made.

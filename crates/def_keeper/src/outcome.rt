@@ -19,7 +19,7 @@ pub struct FoundDefinition {
 pub struct Found {
     /// The version of each definition's file, in the order of the files' names.
     pub definitions: ListOf<FoundDefinition>,
-    /// What each status file tells, in the order of their names; none where one tells nothing.
+    /// What each status file reports, in the order of their names; none where one reports nothing.
     pub statuses: ListOf<Option<Status>>,
 }
 

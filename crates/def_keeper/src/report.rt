@@ -24,7 +24,7 @@ pub enum Finding {
         /// The number of the boot.
         boot: u64,
     },
-    /// A status file that tells nothing.
+    /// A status file that reports nothing.
     Unread,
 }
 

@@ -45,7 +45,7 @@ fn yes_or_no(flag: bool) -> &'static str
     if flag { "yes" } else { "no" }
 }
 
-// A first line: what tells the version, the flag and the name.
+// A first line: what gives the version, the flag and the name.
 fn first_line(
     alloc: Global,
     front: &[u8],
@@ -113,7 +113,7 @@ pub(crate) fn status_draft(alloc: Global, uuid: Uuid) -> Result<Text, NoMemory>
     file_name(alloc, "run", uuid, ".tmp")
 }
 
-// Puts a number behind its label.
+// Puts a number after its label.
 fn put_number(bytes: &mut Vec<u8>, label: &[u8], number: u64) -> Result<(), NoMemory>
     ensures { OnOk result (bytes.new.items ≡ bytes.old.items ++ label.now ++ decimal number) }
 {

@@ -22,7 +22,7 @@ use Rattle.def_map.proofs.Elements.{by_elements, contains_cases, contains_here, 
 abbrev pub same_name : Entry → Entry → Bool
 same_name one other = bytes_eq one.name other.name
 
--- in the rows of a kind a name stands once
+-- in the rows of a kind a name occurs once
 abbrev pub HasNamesOnce : BookKind → List (List ℕ × Option Entry) → Type 0
 HasNamesOnce k rows = (one other : List ℕ) (e f : Entry) → Contains rows (one, Some e) → Contains rows (other, Some f) → is_of k one ≡ true → is_of k other ≡ true → e.name ≡ f.name → one ≡ other
 

@@ -33,7 +33,7 @@ place_if : (a : Answer) (n m : ℕ) → is_ok_answer a ≡ true
 place_if a n m e =
     ap (λ (t : Bool). let first = (if not (not t) then 1 + n else 0) in if nat_lt first (suc m) then Some first else None) e ∙ further_by n m (nat_lt n m) refl
 
--- behind an answer Ok the first that is not Ok stands one place further
+-- after an answer Ok the first that is not Ok is one place further
 pub bad_behind : (a : Answer) (answers : List Answer) → is_ok_answer a ≡ true → bad_place (a ∷ answers) ≡ further (bad_place answers)
 bad_behind a answers e = place_if a (position_or_len (λ x. not (is_ok_answer x)) answers) (length answers) e
 
@@ -50,7 +50,7 @@ more_taken k p plan = let e : (1 + k) + 1 ≡ suc (k + 1) = omega arith in ap (�
 get_further : (k : ℕ) (p : PlannedAsk) (plan : List PlannedAsk) → slice_get (p ∷ plan) (1 + k) ≡ slice_get plan k
 get_further k p plan = let e : 1 + k ≡ suc k = omega arith in ap (λ (n : ℕ). slice_get (p ∷ plan) n) e
 
--- the asks behind the first, where that was done
+-- the asks after the first, where that was done
 behind : (p : PlannedAsk) (plan : List PlannedAsk) (o : Option ℕ) (bad : Option Answer)
     → course_by (p ∷ plan) (further o) bad ≡ p.ask ∷ course_by plan o bad
 behind p plan None bad = refl

@@ -1,4 +1,4 @@
--- Where the answers that are tried stand in a phase's plan.
+-- Where the answers that are tried are in a phase's plan.
 use Rattle.std.proofs.Common.{◌≡◌, ℕ, zero, suc, List, [], ◌∷◌, ◌++◌, slice_get, option_map, Bool, true, false, Option, None, Some, if◌then◌else◌, refl, sym, ap, ◌∙◌}
 use Rattle.domain_spec.specs.Types.{Answer, Ask, Call, State}
 use Rattle.domain_spec.specs.declared.open.OpenOperation.{OpenOperation}

@@ -1,4 +1,4 @@
--- Where the answers that are tried stand in a plan.
+-- Where the answers that are tried are in a plan.
 use Rattle.std.proofs.Common.{◌≡◌, ℕ, zero, suc, ◌+◌, ◌-◌, ◌<◌, List, [], ◌∷◌, ◌++◌, Bool, true, false, not, Option, None, Some, if◌then◌else◌, length, refl, sym, ap, ◌∙◌, subst, nat_lt, arith, slice_get, drop, take, option_map, append-nil, append_assoc}
 use Rattle.std.specs.List.{position_or_len}
 use Rattle.std.proofs.lemmas.Bool.Decides.{nat_tests}

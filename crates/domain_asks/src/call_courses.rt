@@ -31,7 +31,7 @@ fn planned_ask(
     }
 }
 
-// The rest of a call's plan, behind its beginning.
+// The rest of a call's plan, after its beginning.
 fn plan_on(
     alloc: Global,
     state: &State,

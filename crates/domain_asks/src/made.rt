@@ -8,7 +8,7 @@ use domain_spec::PlannedAsk;
 use std::collections::VecDeque;
 use virt_types::{Answer, Ask, AskList};
 
-// The first so many asks of an undo, behind the others.
+// The first so many asks of an undo, after the others.
 fn put_undo(undo: AskList, count: usize, into: &mut Vec<Ask>)
     requires { vec_len into.old + length undo ≤ vec_capacity into.old }
     ensures { into.new.items ≡ into.old.items ++ take count undo }
@@ -21,7 +21,7 @@ fn put_undo(undo: AskList, count: usize, into: &mut Vec<Ask>)
     }
 }
 
-/// Puts the asks behind the others that were made where these answers came.
+/// Puts the asks after the others that were made where these answers came.
 pub fn put_made(plan: &mut VecDeque<PlannedAsk>, answers: &[Answer], into: &mut Vec<Ask>)
     requires { vec_len into.old + most_asks plan.old.items ≤ vec_capacity into.old }
     ensures { into.new.items ≡ into.old.items ++ made_along plan.old.items answers.now }

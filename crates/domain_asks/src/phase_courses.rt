@@ -27,7 +27,7 @@ fn planned_ask(
     }
 }
 
-// The rest of the plan, behind its beginning.
+// The rest of the plan, after its beginning.
 fn plan_on(
     alloc: Global,
     state: &State,

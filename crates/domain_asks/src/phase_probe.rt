@@ -33,7 +33,7 @@ fn ask_after(
     }
 }
 
-// One more answer without a value, behind the others.
+// One more answer without a value, after the others.
 #[tactic(auto, using(crate::proofs::PhaseProbing::brings_more))]
 fn put(answers: &mut Vec<Answer>, answer: Answer) -> Result<(), NoMemory>
     requires before { BringsNone answers.old.items }
@@ -84,7 +84,7 @@ pub fn ask_at(
     }
 }
 
-// The steps that are left of what undoes an ask, behind the others.
+// The steps that are left of what undoes an ask, after the others.
 fn put_undo(
     alloc: Global,
     state: &State,

@@ -60,7 +60,7 @@ impl Plan {
         }
     }
 
-    /// One more ask, behind the others. Where there is no memory nothing changes.
+    /// One more ask, after the others. Where there is no memory nothing changes.
     #[tactic(auto, using(crate::proofs::Courses::most_more))]
     pub fn push(&mut self, planned: PlannedAsk) -> Result<(), NoMemory>
         ensures ok { OnOk result (self.new ≡ self.old ++ planned ∷ []) }

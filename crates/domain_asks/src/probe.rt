@@ -29,7 +29,7 @@ fn ask_after(
     }
 }
 
-// One more answer, behind the others.
+// One more answer, after the others.
 fn put(answers: &mut Vec<Answer>, answer: Answer) -> Result<(), NoMemory>
     ensures { OnOk result (answers.new.items ≡ answers.old.items ++ answer ∷ []) }
 {
@@ -76,7 +76,7 @@ pub fn ask_at(
     }
 }
 
-// The steps that are left of what undoes an ask, behind the others.
+// The steps that are left of what undoes an ask, after the others.
 fn put_undo(
     alloc: Global,
     state: &State,

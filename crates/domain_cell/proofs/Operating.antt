@@ -9,7 +9,7 @@ use Rattle.domain_spec.specs.declared.step.Outcome.{Outcome}
 use Rattle.domain_spec.specs.declared.step.Outcome.TheVariants as outcome
 use Rattle.domain_spec.specs.CanTake.{CanTake, HasNoneOpen, IsOperationOf}
 use Rattle.domain_spec.specs.Cell.{HeldEvent, LentEars, Queue}
-use Rattle.domain_spec.specs.Open.{GoesOn, is_rest}
+use Rattle.domain_spec.specs.Open.{OperationGoesOn, is_rest}
 use Rattle.domain_spec.specs.Turns.{AllHaveRoom}
 use Rattle.domain_turns.specs.OfAsks.{Asked}
 use Rattle.domain_turns.specs.OfLedger.{WaitsWith}
@@ -132,7 +132,7 @@ take_keeps old new q p held ears x y rooms places n who d result whole looks so 
 
 -- a phase
 
-no_rest : (o : Outcome) → GoesOn o → is_rest o ≡ false
+no_rest : (o : Outcome) → OperationGoesOn o → is_rest o ≡ false
 no_rest (outcome.On p) h = refl
 no_rest (outcome.Over r) h = absurd h
 no_rest (outcome.Rest r) h = absurd h

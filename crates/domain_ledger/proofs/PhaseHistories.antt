@@ -18,7 +18,7 @@ use Rattle.domain_spec.specs.Call.{takes_up}
 use Rattle.domain_spec.specs.Fold.{after, after_phase, job_at_exit, lost_boot, standing}
 use Rattle.domain_spec.specs.Lawful.{IsNested, IsPhased}
 use Rattle.domain_spec.specs.Legal.{IsLawful}
-use Rattle.domain_spec.specs.Open.{GoesOn, IsOwnJob, MayAdmit, job_held, operation_held}
+use Rattle.domain_spec.specs.Open.{IsOwnJob, MayAdmit, OperationGoesOn, job_held, operation_held}
 use Rattle.domain_spec.specs.Phase.{phase_of}
 use Rattle.domain_spec.specs.Reading.{carries_ended, live_boot}
 use Rattle.core_rules.specs.declared.next.Next.{Next}
@@ -168,7 +168,7 @@ caller_by None op (Some k) who may = may.caller
 caller_by (Some held) op None who may = absurd may
 caller_by (Some held) op (Some k) who may = absurd may
 
-goes_by : (oc : Outcome) → GoesOn oc → (p : Phase) × (oc ≡ outcome.On p)
+goes_by : (oc : Outcome) → OperationGoesOn oc → (p : Phase) × (oc ≡ outcome.On p)
 goes_by (outcome.On p) due = (p, refl)
 goes_by (outcome.Over r) due = absurd due
 goes_by (outcome.Rest r) due = absurd due

@@ -51,7 +51,7 @@ fresh_more done (s ∷ rs) r fresh e =
     let h = or_parts (is_numbered r.client s) (list_any (is_numbered r.client) rs) e in
     (none_more done r s.client fresh.0 (other s.client r.client h.0), fresh_more done rs r fresh.1 h.1)
 
--- the registration is found behind the others
+-- the registration is found after the others
 found_if : (b : Bool) (p : Registration → Bool) (r : Registration) (rest : Option Registration) → p r ≡ b → b ≡ true → (if p r then Some r else rest) ≡ Some r
 found_if true p r rest e f = ap (λ (b : Bool). if b then Some r else rest) e
 found_if false p r rest e f = cc
@@ -128,7 +128,7 @@ cut_client : (r : Registration) (over : Bool) → is_over r ≡ over → (cut_if
 cut_client r true e = ap (λ (b : Bool). (if b then record r { pending = take (most_of r) r.pending; is_lost = true } else r).client) e
 cut_client r false e = ap (λ (b : Bool). (if b then record r { pending = take (most_of r) r.pending; is_lost = true } else r).client) e
 
--- the cuts of those behind, where the ones before have room
+-- the cuts of those that follow, where the ones before have room
 record AreLeft (done rs : List Registration) : Type 0 where
   due : AreCut (done ++ rs) (cuts_due rs)
   left : registrations_at (done ++ rs) (cuts_due rs) ≡ done ++ map cut_if_over rs

@@ -81,7 +81,7 @@ over_by : (l : Listening) (events : List Transition) (lost : Bool) → l.kept.is
 over_by l events true is over = absurd (lost_not_over l events is over)
 over_by l events false is over = over_open l events (nat_lt (most_of l.kept) (length (l.kept.pending ++ events))) is refl (rw is at over)
 
--- the marks with that one behind them
+-- the marks with that one after them
 pub mark_cut : (old new : List Cut) (l : Listening) (events : List Transition) (c : Cut) → is_over (with_pending events l.kept) ≡ true
     → c ≡ said_of (hears events l) → new ≡ old ++ c ∷ [] → map cut_mark new ≡ map cut_mark old ++ cuts_due (with_pending events l.kept ∷ [])
 mark_cut old new l events c over is more =

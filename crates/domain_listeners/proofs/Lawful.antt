@@ -204,7 +204,7 @@ cut_of r c h over =
       all = omega arith;
     }
 
--- the cuts of these are lawful, where the clients behind those in front are theirs
+-- the cuts of these are lawful, where the clients after those in front are theirs
 abbrev AreLawful : List Registration → Type 0
 AreLawful rs = (front cs : List Client) (s : Standing) → s.lost ≡ None → s.clients ≡ front ++ cs → ArePairs rs cs → AreOthers front rs → AreDifferent rs → IsLegal s (cuts_due rs)
 

@@ -6,7 +6,7 @@ use Rattle.domain_spec.specs.Registrations.{with_pending}
 use Rattle.domain_listeners.specs.Listening.{Listening, hears, registrations}
 use Rattle.domain_listeners.specs.Telling.{cuts_due}
 
--- the first so many heard these transitions, and their cuts came behind the others
+-- the first so many heard these transitions, and their cuts came after the others
 pub record HeardTo (events : List Transition) (old new : List Listening) (before left : List (Mark ℕ)) (place : ℕ) : Type 0 where
   pub now : new ≡ map (hears events) (take place old) ++ drop place old
   pub cuts : left ≡ before ++ cuts_due (map (with_pending events) (registrations (take place old)))

@@ -190,7 +190,7 @@ impl Listeners {
     }
 }
 
-// These transitions come for each of these; the cuts that are due come behind the others.
+// These transitions come for each of these; the cuts that are due come after the others.
 fn hear_each(listeners: &mut Vec<Listener>, events: &[Transition], cuts: &mut Vec<Cut>)
     requires room { vec_len cuts.old + vec_len listeners.old ≤ vec_capacity cuts.old }
     ensures listeners { listeners.new.items ≡ map (hears events.now) listeners.old.items }

@@ -403,7 +403,7 @@ undone_at_once pass report = record { turns = 0; goes = goes_nowhere pass; repor
 pub spent_waiting : (who : Who) (d : Call) (before now after : DomainPass) (f : First) (count : ℕ) (report report_now : List (Ask × Answer)) → LooksOn who d before now f count → report_now ≡ report → IsSpent now after → IsSpentWaiting before after report report_now
 spent_waiting who d before now after f count report report_now k same spent = record { turns = k.turns; last = now; goes = k.goes; reported = same; spent = spent }
 
--- as its calls tell it
+-- as its calls show it
 
 pub looks_again : (who : Who) (d : Call) (before now after rested : DomainPass) (f later : First) (count next : ℕ) (boot : Option ℕ) → LooksOn who d before now f count → next ≤ count + 1 → WaitsNow who now after boot → later ≡ first_after f d boot
     → rested ≡ after → LooksOn who d before rested later next

@@ -201,7 +201,7 @@ lost_between who o before now after report report_now due k same spent =
       spent = spent;
     }
 
--- as its calls tell it
+-- as its calls show it
 
 pub phase_ended : (who : Who) (o : OpenOperation) (before now mid after : DomainPass) (report report_now later : List (Ask × Answer)) (x : Ask) (sent : Bool) (r : OnePhase) → IsDueFor who o before → Awaits before now → report_now ≡ report
     → IsPhaseAway who o now mid x sent → HasFinishedPhase mid after report_now later r → HasRunPhase who o before after report later r

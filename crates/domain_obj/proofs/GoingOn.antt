@@ -78,7 +78,7 @@ goes_on_first who o pass report due =
       };
     }
 
--- the operation as it stands
+-- the operation as it is
 
 pub operation_is : (who : Who) (o : OpenOperation) (before now : DomainPass) (report report_now : List (Ask × Answer)) (k : GoesOnBy who o before now report report_now) → now.share.kept.operation ≡ Some (with_outcome (outcome.On k.phase) o)
 operation_is who o before now report report_now k = ap (λ (s : CellShare). s.kept.operation) k.came.share

@@ -1,4 +1,4 @@
--- What a phase led its operation to stands there once its turn is over, and so its caller is told.
+-- What a phase led its operation to is there once its turn is over, and so its caller is told.
 use Rattle.std.proofs.Common.{◌≡◌, ℕ, ◌++◌, List, [], ◌∷◌, Bool, true, false, Option, None, Some, if◌then◌else◌, refl, sym, ap, subst}
 use Rattle.history_spec.specs.Pass.{AreOf, bears, own}
 use Rattle.domain_spec.specs.Types.{Answer, Ask, Phase, Reply, Transition, Who}

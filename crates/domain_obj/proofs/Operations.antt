@@ -195,7 +195,7 @@ operation_then who d before now mid after count report report_now later over.Spe
       spent = e.spent;
     }
 
--- as its calls tell it: they name the operation that the pass has
+-- as its calls show it: they name the operation that the pass has
 pub operated_so : (who : Who) (d : Call) (before now mid after : DomainPass) (count : ℕ) (report report_now later : List (Ask × Answer)) (r : Over) → Enters who d before now count → report_now ≡ report → IsBegun who d now mid
     → HasRunPhases who (operation_or mid no_operation) mid after report_now later r → HasOperated who d before after report later (operated_by r)
 operated_so who d before now mid after count report report_now later r k same h e =

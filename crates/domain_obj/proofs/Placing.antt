@@ -1,4 +1,4 @@
--- Where the last mark of a turn stands.
+-- Where the last mark of a turn is.
 use Rattle.std.proofs.Common.{◌≡◌, ◌⊎◌, inl, inr, ◌<◌, ◌≤◌, ℕ, zero, suc, ◌+◌, ◌-◌, List, [], ◌∷◌, ◌++◌, Bool, true, false, ◌||◌, Option, None, Some, slice_get, if◌then◌else◌, refl, sym, ap, ◌∙◌, subst, arith}
 use Rattle.std.proofs.lemmas.Bool.Decides.{nat_tests}
 use Rattle.std.specs.List.{list_any}
@@ -156,7 +156,7 @@ placed_last after n new old left xs m place saw marks of e at =
       there = λ same. ap (λ (ms : List (Mark ℕ)). slice_get ms (place.marks - 1)) seen_marks ∙ ap (λ (k : ℕ). slice_get (old ++ left) (k - 1)) place_is ∙ last.1;
     }
 
--- it stands there still when the pass has seen more
+-- it is still there when the pass has seen more
 
 get_prefix : (ms more : List (Mark ℕ)) (i : ℕ) (m : Mark ℕ) → slice_get ms i ≡ Some m → slice_get (ms ++ more) i ≡ Some m
 get_prefix [] more i m e = cc

@@ -19,7 +19,7 @@ legal_if : (ms : List (Mark ℕ)) (left held : DomainHistory) → IsLegalHistory
 legal_if [] left held h g = g
 legal_if (m ∷ ms) left held h g = h
 
--- one turn, as its calls tell it
+-- one turn, as its calls show it
 pub one_turn : (more : List (Mark ℕ)) (before after : DomainPass) (turn now : DomainTurn) → Enters meaning before turn → now ≡ record turn { value = now.value } → Changes meaning turn.pass.number more turn.value now.value
     → IsLegalHistory (history_of now.value) → after ≡ left_by meaning now → Goes 1 (tagged (history_of now.value).chapter more) before after
 one_turn more before after turn now enters same change legal left =

@@ -124,7 +124,7 @@ pass_waits n who before after a old new more waits goes renewed none is =
     let none_was = none_open n who before after a old new more goes renewed none in
     pass_becomes n who before after a old new more (λ s. waiting_as waits s) goes renewed (cell_becomes old new n (record (share_of (cell_in old) n) { waits = waits }) none_was none_was is)
 
--- where the Admit stands
+-- where the Admit is
 
 get_behind : (xs ys : List (Mark ℕ)) (m : Mark ℕ) → slice_get (xs ++ m ∷ ys) (length xs) ≡ Some m
 get_behind [] ys m = refl
@@ -154,7 +154,7 @@ pub goes_with : (n : ℕ) (before after : DomainPass) (a new : Celled) (left : L
 goes_with n before after a new left its goes own_are =
     subst (λ (k : ℕ). Goes 1 (tagged new.core.turning.chapter (its k)) before after) goes.number (goes_by new.core.turning.chapter before after (own whose n left) (its n) goes.goes own_are)
 
--- where the last of them stands
+-- where the last of them is
 pub placed_with : (n : ℕ) (before after : DomainPass) (a old new : Celled) (left xs : List (Mark ℕ)) (its : ℕ → Mark ℕ) (place : Front) → PassGoes n before after a new (own whose n left) → Adds n old new left → own whose n left ≡ xs ++ its n ∷ [] → IsLastPlace place new
     → IsPlaced place new.core.turning.chapter (its before.number) after
 placed_with n before after a old new left xs its place goes adds own_are at =

@@ -22,8 +22,8 @@ use Rattle.domain_obj.specs.declared.ending.Called.{Called}
 use Rattle.domain_obj.specs.declared.ending.Called.TheVariants as called
 use Rattle.domain_cell.specs.OfShares.{told}
 
--- the boot that an Admit carries was live at the end of `found`, which goes on from what the pass had seen at first, and of
--- which the Admit stands right behind; only that of a Destroy may be a beginning of that
+-- the boot that an Admit carries was live at the end of `found`, which goes on from what the pass had seen at first, and
+-- right after which the Admit comes; only that of a Destroy may be a beginning of that
 pub record CarriesBoot (d : Call) (chapter : ℕ) (boot : Option ℕ) (admit : Mark ℕ) (before after : DomainPass) : Type 0 where
   pub found : DomainHistory
   pub admitted : DomainHistory

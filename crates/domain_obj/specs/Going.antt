@@ -1,4 +1,4 @@
--- What an operation does in one turn, as its cell's calls tell it: its due phase, and its end.
+-- What an operation does in one turn, as its cell's calls show it: its due phase, and its end.
 use Rattle.std.specs.Prelude.{◌≡◌, ◌⊎◌, ℕ, is_some, None}
 use Rattle.domain_spec.specs.Types.{Reply, Who}
 use Rattle.domain_spec.specs.Cell.{share_of}

@@ -1,4 +1,4 @@
--- What a pass does in its turn, as its cell's calls tell it.
+-- What a pass does in its turn, as its cell's calls show it.
 use Rattle.std.specs.Prelude.{◌≡◌, ◌⊎◌, ◌<◌, ◌≤◌, ℕ, [], length, is_some, None}
 use Rattle.domain_spec.specs.Types.{Answer, Call, Who}
 use Rattle.domain_spec.specs.Types.code

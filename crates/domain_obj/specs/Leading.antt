@@ -17,7 +17,7 @@ IsTold (outcome.Over r) next.Over = Unit {0}
 IsTold (outcome.Rest r) (next.Rest said) = IsToldAtEnd r said
 IsTold other said = ⊥
 
--- a step is told so, over the operation as it stands
+-- a step is told so, over the operation as it is
 abbrev pub Leads : Option OpenOperation → Step → Next → Type 0
 Leads o step.On next.On = Unit {0}
 Leads o step.Over next.Over = Unit {0}

@@ -21,7 +21,7 @@ seen_by (hushed.Unheard seen) = Some seen
 seen_by (hushed.Often seen) = Some seen
 seen_by hushed.Spent = None
 
--- it tells the place of the last mark, where one was left, and else what the pass has seen; and that where a ticket was left
+-- it gives the place of the last mark, where one was left, and else what the pass has seen; and that where a ticket was left
 pub record IsAt (last : Option Front) (after : DomainPass) (at : At) : Type 0 where
   pub place : at.place ≡ place_or last at.seen
   pub seen : after.spent ≡ false → IsSeen (record { front = at.seen; occupied = at.occupied }) after

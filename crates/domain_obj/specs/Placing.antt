@@ -1,4 +1,4 @@
--- Where the marks of a pass stand in the history of its domain.
+-- Where the marks of a pass are in the history of its domain.
 use Rattle.std.specs.Prelude.{◌≡◌, ◌<◌, ◌≤◌, ◌-◌, ℕ, Some, slice_get}
 use Rattle.virt_types.specs.declared.caller.Front.{Front}
 use Rattle.domain_cell.specs.OfTurns.{last_place}

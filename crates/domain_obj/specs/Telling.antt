@@ -17,7 +17,7 @@ use Rattle.domain_obj.specs.Lending.{IsSilentTurn, with_out}
 use Rattle.domain_obj.specs.declared.said.Told.{Told}
 use Rattle.domain_obj.specs.declared.said.Told.TheVariants as told
 
--- what is told of what was heard: a lost link is an end for that reason, which ears cannot tell themselves
+-- what is told of what was heard: a lost link is an end for that reason, which ears cannot report themselves
 abbrev pub told_of : Heard → Option Told
 told_of (heard.Event e) = Some (told.Event e)
 told_of heard.Lost = Some (told.End reason.Lost)

@@ -42,7 +42,7 @@ waiting_as waits s = record s { kept = record s.kept { waits = waits } }
 abbrev pub job_let_in : ℕ → Who → Call → Option ℕ → OpenJob
 job_let_in n who d boot = record { number = n; who = who; job = job_of d; call = d; boot = boot; before = None }
 
--- the history as it stood right before this Admit, which carries this boot
+-- the history as it was right before this Admit, which carries this boot
 pub record WasLetIn (f : First) (chapter : ℕ) (boot : Option ℕ) (admit : Mark ℕ) (before after : DomainPass) : Type 0 where
   pub admitted : DomainHistory
   pub chapter_is : admitted.chapter ≡ chapter

@@ -46,7 +46,7 @@ module _ {M : Type 0} where
   answered_ticket (answered.Away t x) = Some t
   answered_ticket other = None
 
-  -- what became of a call, or a phase, is told so, over the operation as it stands
+  -- what became of a call, or a phase, is told so, over the operation as it is
   abbrev pub TellsBack : Option OpenOperation → Back M → Answered M → Type 0
   TellsBack o (back.Done r) (answered.Done said) = said ≡ r
   TellsBack o (back.Away t x) (answered.Away ticket asked) = (ticket ≡ t) × (asked ≡ x)

@@ -14,11 +14,11 @@ use virt_types::{Ask, Front, Reply};
 /// What became of a call.
 #[derive(Drop)]
 pub enum Called {
-    /// It was let in and done, and its caller is told this; its Done stands here.
+    /// It was let in and done, and its caller is told this; its Done is here.
     Done(Reply, Front),
-    /// Thirty of its looks or more found its job excluded, and it is refused; its Refused stands here.
+    /// Thirty of its looks or more found its job excluded, and it is refused; its Refused is here.
     TimedOut(Reply, Front),
-    /// Its job is excluded, and so many others wait that it is refused; its Refused stands here.
+    /// Its job is excluded, and so many others wait that it is refused; its Refused is here.
     WaitersFull(Reply, Front),
     /// There was no memory for it, and nothing is left of it.
     NoMemory,

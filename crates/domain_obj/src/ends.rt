@@ -4,7 +4,7 @@ use crate::Seen;
 /// Why a pass hears no more, and what it has seen by then.
 #[derive(Clone, Copy, Debug, PartialEq, Eq)]
 pub enum Hushed {
-    /// The ears had nothing more to tell.
+    /// The ears had nothing more to report.
     Quiet(Seen),
     /// There was no memory to hear.
     NoMemory(Seen),

@@ -16,9 +16,9 @@ use virt_types::{Ask, Front, Reply};
 /// How the asks of a call, or of a phase, end.
 #[derive(Drop)]
 pub enum Finished {
-    /// The call is done, and its caller is told this; its Done stands here.
+    /// The call is done, and its caller is told this; its Done is here.
     Done(Reply, Front),
-    /// The phase is done, and leads on so; its Phase stands here.
+    /// The phase is done, and leads on so; its Phase is here.
     Phased(Next, Front),
     /// No ticket was left.
     Spent,

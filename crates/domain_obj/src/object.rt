@@ -128,7 +128,7 @@ impl<M: Monitor + Drop, E: Ears + Drop, Z: Killer + Drop> DomainObj<M, E, Z> {
         (pass, reply, place_at(place, seen_by(hushed)))
     }
 
-    /// The pass hears the guest until its ears have nothing more to tell, none are to be had, or 64 things were heard.
+    /// The pass hears the guest until its ears have nothing more to report, none are to be had, or 64 things were heard.
     pub fn hear<R: Wait>(
         &self,
         rt: &R,

@@ -14,7 +14,7 @@ pub enum Told {
     End(EndReason),
 }
 
-/// What is told of what was heard. A lost link is an end for that reason; ears that tell such an end themselves have no
+/// What is told of what was heard. A lost link is an end for that reason; ears that report such an end themselves have no
 /// cause for it, so nothing is told of that.
 pub(crate) fn told_of(heard: Heard) -> Option<Told>
     ensures { result ≡ told_of heard }

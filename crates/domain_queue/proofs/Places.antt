@@ -120,7 +120,7 @@ among_none (w ∷ ws) who e =
 not_both : true ≡ false → ⊥
 not_both e = cc
 
--- a caller that waits finds no crowd, and one behind fewer than 32 neither
+-- a caller that waits finds no crowd, and one after fewer than 32 neither
 pub not_crowded : (ws : List Waiter) (who : Who) (place : ℕ) (d : Waiter) → position (is_of who) ws ≡ Some place → IsCrowded (map (λ w. w.who) ws) who → ⊥
 not_crowded ws who place d e h = not_both (sym (among_at ws who place d (first_at ws who place d e)) ∙ h.others)
 

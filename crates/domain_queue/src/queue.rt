@@ -156,7 +156,7 @@ fn remove(callers: &mut Vec<Waiter>, who: Who)
     }
 }
 
-// Puts these callers behind the others.
+// Puts these callers after the others.
 fn put_callers(waiters: &[Waiter], into: &mut RoomyList<Who>)
     requires room { length waiters.now ≤ into.old.room }
     ensures { into.new.list ≡ into.old.list ++ map (λ w. w.who) waiters.now }

@@ -27,7 +27,7 @@ fn kept(alloc: Global, listener: &Listener) -> Result<KeptRegistration, NoMemory
     }
 }
 
-// Puts these behind the others.
+// Puts these after the others.
 fn put_kept(
     alloc: Global,
     listeners: &[Listener],

@@ -25,7 +25,7 @@ use Rattle.domain_spec.specs.JobTable.{IsOwnPhase, MayBegin}
 use Rattle.domain_spec.specs.Lawful.{IsAdmitted}
 use Rattle.domain_spec.specs.Laws.{IsCounted}
 use Rattle.domain_spec.specs.Legal.{IsInOrder, IsLegal}
-use Rattle.domain_spec.specs.Open.{BeginsAlone, GoesOn, IsCarried, IsKnownBoot, IsOwnJob, MayAdmit, is_rest, job_held, operation_held}
+use Rattle.domain_spec.specs.Open.{BeginsAlone, IsCarried, IsKnownBoot, IsOwnJob, MayAdmit, OperationGoesOn, is_rest, job_held, operation_held}
 use Rattle.domain_spec.specs.Reading.{boots_of, live_boot}
 use Rattle.domain_spec.specs.Steps.{IsPhaseLetIn, LetsIn}
 use Rattle.domain_spec.specs.Turns.{BeginsBy, EveryRunIsLegal, GoOn, GoesOnBy, IsOpened, IsTurn, Leads, MayLeave, Runs, Turn, base_after, marks_after}
@@ -93,7 +93,7 @@ takes_begins_none (call.Confirm verdict) is = refl
 takes_begins_none (call.Finish go) is = refl
 takes_begins_none other is = cc
 
-awake_by : (o : Outcome) → GoesOn o → is_rest o ≡ false
+awake_by : (o : Outcome) → OperationGoesOn o → is_rest o ≡ false
 awake_by (outcome.On p) due = refl
 awake_by (outcome.Over r) due = absurd due
 awake_by (outcome.Rest r) due = absurd due

@@ -52,7 +52,7 @@ abbrev pub course_at : List PlannedAsk → List Answer → Option ℕ → List A
 course_at plan answers None = map (λ p. p.ask) plan
 course_at plan answers (Some k) = map (λ p. p.ask) (take (k + 1) plan) ++ undo_at (slice_get plan k) (first_bad answers)
 
--- all asks, as far as these answers tell: those of the plan, cut after the one whose answer is not
+-- all asks, as far as these answers show: those of the plan, cut after the one whose answer is not
 -- Ok, and then the undo of that one
 abbrev pub course : List PlannedAsk → List Answer → List Ask
 course plan answers = course_at plan answers (bad_place answers)

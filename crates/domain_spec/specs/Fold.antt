@@ -139,7 +139,7 @@ abbrev pub standing : Standing → List (Mark ℕ) → Standing
 standing s [] = s
 standing s (m ∷ marks) = standing (after s m) marks
 
--- a registration that was cut with_more no more
+-- the clients of these registrations, but for those that were cut
 abbrev pub registered : List Registration → List Client
 registered [] = []
 registered (r ∷ rs) =

@@ -44,9 +44,9 @@ BeginsAlone None o = Unit {0}
 BeginsAlone (Some k) o = o ≡ None
 
 -- a phase of the operation is due
-abbrev pub GoesOn : Outcome → Type 0
-GoesOn (outcome.On p) = Unit {0}
-GoesOn other = ⊥
+abbrev pub OperationGoesOn : Outcome → Type 0
+OperationGoesOn (outcome.On p) = Unit {0}
+OperationGoesOn other = ⊥
 
 -- an operation is open under its number, but where it rests
 abbrev pub IsOtherNumber : Outcome → ℕ → ℕ → Type 0
@@ -58,7 +58,7 @@ IsOtherNumber other number open_number = number ≢ open_number
 abbrev pub IsOwnJob : Option OpenOperation → ℕ → Job → Call → Type 0
 IsOwnJob None number job.Nested c = ⊥
 IsOwnJob None number wanted c = wanted ≡ job_of c
-IsOwnJob (Some o) number job.Nested c = (number ≡ o.number) × (c ≡ o.call) × GoesOn o.outcome
+IsOwnJob (Some o) number job.Nested c = (number ≡ o.number) × (c ≡ o.call) × OperationGoesOn o.outcome
 IsOwnJob (Some o) number wanted c = (wanted ≡ job_of c) × IsOtherNumber o.outcome number o.number × BeginsAlone (begins c) (Some o)
 
 -- a boot was numbered, where the cell has had so many

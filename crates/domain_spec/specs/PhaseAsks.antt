@@ -1,5 +1,6 @@
 -- What each phase of an operation asks, and what undoes it.
 use Rattle.std.specs.Prelude.{ℕ, List, [], ◌∷◌, ◌++◌, flat_map, Bool, not, ◌&&◌, ◌||◌, length, nat_le, Option, None, Some, if◌then◌else◌, option_map}
+use Rattle.virt_types.specs.Limits.{most_state_bytes}
 use Rattle.domain_spec.specs.Types.{Answer, Ask, Call, Command, Domain, ImageKind, Live, Op, Phase, Snap, AnswerValue}
 use Rattle.domain_spec.specs.Types.ask
 use Rattle.domain_spec.specs.Types.call
@@ -43,9 +44,9 @@ is_given_up op = op.abort || is_stalled op
 abbrev pub resumes : Live → Op → Bool
 resumes l op = op.was_running && is_held_by_job l.run
 
--- the bytes of a copy; bytes above 4,096, or none, are no state
+-- the bytes of a copy; more bytes than a state may have, or none, are no state
 abbrev pub copied_bytes : Option AnswerValue → List ℕ
-copied_bytes (Some (given.Bytes bytes)) = if nat_le (length bytes) 4096 then bytes else []
+copied_bytes (Some (given.Bytes bytes)) = if nat_le (length bytes) most_state_bytes then bytes else []
 copied_bytes other = []
 
 -- the copy is written under this name

@@ -16,7 +16,7 @@ use Rattle.domain_spec.specs.Carried.{IsBootAt}
 use Rattle.domain_spec.specs.Cell.{Cell, standing_of}
 use Rattle.domain_spec.specs.Exit.{exit_transitions}
 use Rattle.domain_spec.specs.JobTable.{MayBegin}
-use Rattle.domain_spec.specs.Open.{GoesOn, MayAdmit, job_held, operation_held}
+use Rattle.domain_spec.specs.Open.{MayAdmit, OperationGoesOn, job_held, operation_held}
 use Rattle.domain_spec.specs.Reading.{is_live, live_boot}
 
 -- an Admit is that of the step's own call, under its own job
@@ -33,7 +33,7 @@ pub record IsPhaseAdmit (s : Standing) (o : OpenOperation) (number : ℕ) (w : W
   pub caller : w ≡ o.who
   pub same_call : e ≡ o.call
   pub nested : wanted ≡ job.Nested
-  pub due : GoesOn o.outcome
+  pub due : OperationGoesOn o.outcome
   pub carried : boot ≡ live_boot s.state
 
 -- the due phase of the open operation is let in

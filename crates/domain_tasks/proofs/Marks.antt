@@ -1,10 +1,10 @@
--- Marks that a pass left, and where the last one stands.
+-- Marks that a pass left, and where the last one is.
 use Rattle.std.proofs.Common.{◌≡◌, ℕ, ◌<◌, ◌≤◌, ◌+◌, ◌-◌, ◌++◌, List, [], ◌∷◌, length, Some, slice_get, refl, sym, ap, ◌∙◌, subst, append_assoc, length-append, arith}
 use Rattle.virt_types.specs.declared.caller.Front.{Front}
 use Rattle.outcome_spec.specs.Marks.{HasLeft, StandsAt}
 use Rattle.outcome_spec.specs.Rows.{Known}
 
--- what stands behind a list
+-- what comes after a list
 
 get_behind : {A : Type 0} (xs ys : List A) (x : A) → slice_get (xs ++ x ∷ ys) (length xs) ≡ Some x
 get_behind [] ys x = refl

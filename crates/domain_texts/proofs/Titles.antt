@@ -1,4 +1,4 @@
--- Titles stand in one line.
+-- Titles are one line each.
 use Rattle.std.proofs.Common.{◌≡◌, Bool, true, false, List, [], ◌∷◌, ℕ, refl, arith}
 use Rattle.std.specs.List.{before_first, list_any}
 use Rattle.std.proofs.lemmas.Grind.{common_steps}

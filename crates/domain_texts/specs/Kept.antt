@@ -17,7 +17,7 @@ abbrev pub names_uuid : List ℕ → Option (List ℕ) → Bool
 names_uuid uuid None = true
 names_uuid uuid (Some own) = bytes_eq own uuid
 
--- a file tells the title of its definition, unless it is of version 1
+-- a file gives the title of its definition, unless it is of version 1
 abbrev pub tells_title : Version → List ℕ → DomainDef → Bool
 tells_title version.One title d = true
 tells_title version.Two title d = bytes_eq title (title_of d)

@@ -1,4 +1,4 @@
--- The title of a definition, as a store tells it: in one line.
+-- The title of a definition, as a store gives it: in one line.
 use Rattle.std.specs.Prelude.{ℕ, List, [], ◌==◌, unwrap_or}
 use Rattle.std.specs.List.{before_first}
 use Rattle.store_spec.specs.DefinitionFile.{line_feed}

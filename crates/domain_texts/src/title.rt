@@ -1,4 +1,4 @@
-// The title of a definition, as a store tells it.
+// The title of a definition, as a store gives it.
 ghost use Rattle.std.specs.Prelude.{◌≡◌, false};
 ghost use Rattle.store_spec.specs.DefinitionFile.{has_feed};
 ghost use Rattle.domain_texts.specs.Title.{first_line, title_of};
@@ -25,7 +25,7 @@ pub fn title_of(def: &DomainDef) -> &str
     }
 }
 
-/// A title stands in one line.
+/// A title is one line.
 pub fn titles_are_lines(def: &DomainDef)
     ensures { has_feed (title_of def.now) ≡ false }
 {

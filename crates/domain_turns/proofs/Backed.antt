@@ -17,7 +17,7 @@ use Rattle.domain_spec.specs.Exit.{event_transitions}
 use Rattle.domain_spec.specs.Fold.{after, standing, with_outcome}
 use Rattle.domain_spec.specs.Kept.{due_events, events_in}
 use Rattle.domain_spec.specs.Lawful.{IsPhased}
-use Rattle.domain_spec.specs.Open.{GoesOn}
+use Rattle.domain_spec.specs.Open.{OperationGoesOn}
 use Rattle.domain_spec.specs.Phase.{phase_of}
 use Rattle.domain_spec.specs.Reading.{is_live}
 use Rattle.domain_spec.specs.Registrations.{with_pending}
@@ -89,7 +89,7 @@ applies_keep (x ∷ hs) old new h = applies_keep hs h.0 new h.2 ∙ event_keeps 
 due_for : (s : Standing) (j : Option OpenJob) (o : OpenOperation) (n : ℕ) (who : Who) (p : Phase) (asks : List Ask) (answers : List Answer) (next : Outcome) (events : List Transition)
     → IsPhased s j (Some o) n who p asks answers next events → IsDue (Some o) n o.who
 due_for s None o n who p asks answers next events h = absurd h
-due_for s (Some j) o n who p asks answers next events h = (h.nested.numbered, refl, subst GoesOn (sym h.due) tt)
+due_for s (Some j) o n who p asks answers next events h = (h.nested.numbered, refl, subst OperationGoesOn (sym h.due) tt)
 
 due_by : (s : Standing) (q : Option OpenOperation) (n : ℕ) (a : Asked) → s.operation ≡ q → IsPhaseLawful s q n a → (who : Who) × IsDue q n who
 due_by s None n a is lawful = absurd lawful

@@ -20,7 +20,7 @@ use Rattle.domain_spec.specs.Cell.{Cell, HeldEvent, LentEars, Queue, operation_o
 use Rattle.domain_spec.specs.Fold.{after, after_take_up, standing}
 use Rattle.domain_spec.specs.JobTable.{MayBegin, MayTakeUp}
 use Rattle.domain_spec.specs.Kept.{LooksOn, WaitAfter, events_in, left_queue}
-use Rattle.domain_spec.specs.Open.{Excludes, GoesOn, is_rest, job_held, operation_held}
+use Rattle.domain_spec.specs.Open.{Excludes, OperationGoesOn, is_rest, job_held, operation_held}
 use Rattle.domain_spec.specs.Reading.{live_boot}
 use Rattle.domain_spec.specs.Registrations.{with_pending}
 use Rattle.domain_spec.specs.Sequential.{meets_ended}
@@ -134,12 +134,12 @@ own_if false rests o e f = cc
 pub own_operation : (o : OpenOperation) (n : ℕ) → o.number ≡ n → is_rest o.outcome ≡ false → operation_of (Some o) n ≡ Some o
 own_operation o n e awake = own_if (o.number == n) (is_rest o.outcome) o (same_number (o.number == n) o.number n e refl) awake
 
-awake_by : (o : Outcome) → GoesOn o → is_rest o ≡ false
+awake_by : (o : Outcome) → OperationGoesOn o → is_rest o ≡ false
 awake_by (outcome.On p) due = refl
 awake_by (outcome.Over r) due = absurd due
 awake_by (outcome.Rest r) due = absurd due
 
-due_by : (q : Option OpenOperation) (o : OpenOperation) (n : ℕ) (who : Who) → q ≡ Some o → o.number ≡ n → o.who ≡ who → GoesOn o.outcome → IsDue (operation_of q n) n who
+due_by : (q : Option OpenOperation) (o : OpenOperation) (n : ℕ) (who : Who) → q ≡ Some o → o.number ≡ n → o.who ≡ who → OperationGoesOn o.outcome → IsDue (operation_of q n) n who
 due_by q o n who is numbered caller due =
     subst (λ (x : Option OpenOperation). IsDue (operation_of x n) n who) (sym is)
     (subst (λ (x : Option OpenOperation). IsDue x n who) (sym (own_operation o n numbered (awake_by o.outcome due))) (sym numbered, sym caller, due))

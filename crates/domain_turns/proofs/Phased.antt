@@ -21,7 +21,7 @@ use Rattle.domain_spec.specs.Fold.{after, after_phase, at_base, lost_boot, stand
 use Rattle.domain_spec.specs.JobTable.{IsOwnPhase}
 use Rattle.domain_spec.specs.Kept.{due_events, events_in}
 use Rattle.domain_spec.specs.Laws.{IsCounted}
-use Rattle.domain_spec.specs.Open.{GoesOn, IsCarried, IsKnownBoot, IsOwnJob, MayAdmit, is_rest, job_held, operation_held}
+use Rattle.domain_spec.specs.Open.{IsCarried, IsKnownBoot, IsOwnJob, MayAdmit, OperationGoesOn, is_rest, job_held, operation_held}
 use Rattle.domain_spec.specs.Phase.{phase_of}
 use Rattle.domain_spec.specs.Reading.{boots_of, live_boot}
 use Rattle.domain_spec.specs.Registrations.{with_pending}
@@ -66,7 +66,7 @@ carried_now : (s : State) (d : Call) → IsKnownBoot (boots_of s) (live_boot s) 
 carried_now s call.Destroy counted = counted
 carried_now s other counted = refl
 
-awake_by : (o : Outcome) → GoesOn o → is_rest o ≡ false
+awake_by : (o : Outcome) → OperationGoesOn o → is_rest o ≡ false
 awake_by (outcome.On p) due = refl
 awake_by (outcome.Over r) due = absurd due
 awake_by (outcome.Rest r) due = absurd due

@@ -51,11 +51,11 @@ TakesUpSo n who c old new q p result =
     × Enters (TakesUp n who c (live_boot (force_of old).state)) n who old new q p result)
     ⊎ (Excludes (job_held (force_of old).job) (operation_held (force_of old).operation) c who × WaitsSo n who c old new q p result)
 
--- these marks stand now, and a phase of the number's operation is due
+-- these are the marks now, and a phase of the number's operation is due
 abbrev pub HasBegun : ℕ → Who → Turning → List (Mark ℕ) → List (Mark ℕ) → Type 0
 HasBegun n who new marks left = (left ≡ marks) × IsDue (share_of new.cell n).operation n who
 
--- what the turn of this step comes to, where these marks stand once the operation goes on
+-- what the turn of this step comes to, where these are the marks once the operation goes on
 abbrev pub Looks : CoreStep ℕ → List (Mark ℕ) → ℕ → Who → Call → Turning → Turning → OperationLook → Type 0
 Looks t marks n who c old new look.Begun = Takes old new t (HasBegun n who new marks)
 Looks t marks n who c old new (look.Done r) = Takes old new t (HasDone n r)

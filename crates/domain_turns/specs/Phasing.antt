@@ -5,7 +5,7 @@ use Rattle.domain_spec.specs.declared.core_step.CoreStep.TheVariants as step
 use Rattle.domain_spec.specs.declared.open.OpenJob.{OpenJob}
 use Rattle.domain_spec.specs.declared.open.OpenOperation.{OpenOperation}
 use Rattle.domain_spec.specs.Cell.{share_of, standing_of}
-use Rattle.domain_spec.specs.Open.{GoesOn}
+use Rattle.domain_spec.specs.Open.{OperationGoesOn}
 use Rattle.domain_ledger.specs.declared.ledger.PhaseEntry.TheVariants as entry
 use Rattle.domain_record.specs.Operating.{EntersPhase}
 use Rattle.domain_record.specs.Record.{Recorded, force_of}
@@ -18,7 +18,7 @@ use Rattle.domain_turns.specs.declared.phasing.PhaseLook.TheVariants as look
 -- a phase of this operation is due, which is of this number and caller
 abbrev pub IsDue : Option OpenOperation → ℕ → Who → Type 0
 IsDue None n who = ⊥
-IsDue (Some o) n who = (n ≡ o.number) × (who ≡ o.who) × GoesOn o.outcome
+IsDue (Some o) n who = (n ≡ o.number) × (who ≡ o.who) × OperationGoesOn o.outcome
 
 -- a normal job is open
 abbrev pub IsHeld : Option OpenJob → Type 0

@@ -7,7 +7,7 @@ use domain_history::{job_held, operation_held};
 use domain_record::Record;
 use job_rules::{JobRecord, Waiters};
 
-/// The normal job that is open and the operation that is under way. Who waits stands elsewhere.
+/// The normal job that is open and the operation that is under way. Who waits is kept elsewhere.
 pub fn jobs_held(kept: &Record) -> JobRecord
     ensures active { result.active ≡ job_held (force_of kept.now).job }
     ensures op { result.op ≡ operation_held (force_of kept.now).operation }

@@ -1,4 +1,4 @@
-// Where the last mark of a pass stands in a chapter.
+// Where the last mark of a pass is in a chapter.
 ghost use Rattle.std.specs.Prelude.{◌≡◌, length};
 ghost use Rattle.domain_turns.specs.Places.{is_of_pass, last_place};
 

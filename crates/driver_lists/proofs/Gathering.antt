@@ -25,7 +25,7 @@ one_row : (found : Option Domain) (row : Option DomainRow) → row ≡ option_ma
 one_row None row is = ap option_to_list is
 one_row (Some d) row is = ap option_to_list is
 
--- the row of one more domain, if it has one, comes behind the others
+-- the row of one more domain, if it has one, comes after the others
 pub read_more : (before mid after : List DomainPass) (names : List SlotName) (at : SlotName) (rows : List DomainRow) (row : Option DomainRow) → PassesGo before mid → PassesGo mid after
     → HasReadAll names (map known before) (map known mid) (Ok rows) → HasReadOne at (map known mid) (map known after) (Ok row) → HasReadAll (names ++ at ∷ []) (map known before) (map known after) (Ok (rows ++ option_to_list row))
 read_more before mid after names at rows row goes on (founds, are, is) (found, one, told) = (
@@ -40,7 +40,7 @@ read_next before mid after names i at rows now row within here goes on are one i
     let path : take i names ++ at ∷ [] ≡ take (i + 1) names = ap (λ (a : SlotName). take i names ++ a ∷ []) here ∙ sym (take_more names i at within) in
     subst (λ (x : List SlotName × List DomainRow). HasReadAll x.0 (map known before) (map known after) (Ok x.1)) (λ k. (path k, sym is k)) (read_more before mid after (take i names) at rows row goes on are one)
 
--- nothing comes behind them
+-- nothing comes after them
 pub read_no_more : (before mid after : List DomainPass) (names : List SlotName) (at : SlotName) (why : Stop) → HasReadOne at (map known mid) (map known after) (Err why) → HasReadAll names (map known before) (map known after) (Err why)
 read_no_more before mid after names at stop.Spent it = it
 read_no_more before mid after names at stop.NoMemory it = tt

@@ -1,4 +1,4 @@
--- The names that the list tells, as the entries of its slots.
+-- The names that the list gives, as the entries of its slots.
 use Rattle.std.proofs.Common.{◌≡◌, ⊎_elim, ◌<◌, ℕ, zero, suc, List, [], ◌∷◌, Option, None, Some, bytes_eq, ◌&&◌, if◌then◌else◌, Contains, length, Ordering, Less, refl, sym, ap, ◌∙◌, subst, arith}
 use Rattle.std.specs.Cmp.Lexicographic.{slice_cmp}
 use Rattle.std.specs.List.{All, AllByRecursion}
@@ -86,7 +86,7 @@ module _ (slots : Slots) where
     are_rows before after rs stand.1 ds are.1,
   )
 
-  -- each stands in one of the slots
+  -- each is in one of the slots
   pub slots_within : (rs : List SlotName) → AllStandIn slots rs → All (λ r. r.slot < length slots) rs
   slots_within [] stand = All-nil (λ r. r.slot < length slots)
   slots_within (r ∷ rs) stand = All-cons (λ r. r.slot < length slots) r rs (within slots r.slot stand.0.0 stand.0.1) (slots_within rs stand.1)

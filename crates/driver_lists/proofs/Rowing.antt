@@ -30,7 +30,7 @@ use Rattle.driver_lists.specs.declared.stopping.Stop.{Stop}
 use Rattle.driver_lists.specs.declared.stopping.Stop.TheVariants as stop
 use Rattle.driver_lists.proofs.Places.{all_at, one_of, same_map, stands_in, value_in}
 
--- the row that a cell tells is that of the domain that stands there
+-- the row that a cell gives is that of the domain that is there
 told_row : (at : SlotName) (s : State) → row_told at (read s query.Reference) ≡ option_map row_of (domain_at (new_entry at.name at.uuid) s)
 told_row at (state.Vacant boots) = refl
 told_row at (state.Held d) = by_case (bytes_eq d.name at.name && bytes_eq d.uuid at.uuid)

@@ -20,7 +20,7 @@ use std::alloc::Global;
 use std::sync::Wait;
 use virt_types::{CellName, ListOf, NoMemory, Reply, Value};
 
-/// All domains by rising name, with their states. The list tells the names and slots in one turn; each row is read in a turn
+/// All domains by rising name, with their states. The list gives the names and slots in one turn; each row is read in a turn
 /// of its cell after that. A domain that is not there any more has no row.
 pub fn list_all<
     R: Wait,

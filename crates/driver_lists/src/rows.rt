@@ -84,7 +84,7 @@ fn read_one<M: Monitor + Drop, E: Ears + Drop, Z: Killer + Drop, R: Wait>(
     (others.put(pass, state), row)
 }
 
-// Puts a row behind the others, if there is one.
+// Puts a row after the others, if there is one.
 fn add(rows: &mut Vec<DomainRow>, row: Option<DomainRow>) -> Result<(), NoMemory>
     ensures { OnOk result (rows.new.items ≡ rows.old.items ++ option_to_list row) }
 {

@@ -1,4 +1,4 @@
-// The request that tells titles.
+// The request that gives titles.
 ghost use Rattle.std.specs.Prelude.{◌≡◌};
 ghost use Rattle.driver_cells.specs.Known.{known_row};
 ghost use Rattle.driver_cells.specs.Ready.{IsReadyRow};

@@ -1,4 +1,4 @@
--- The domains of a driver, one in each slot of the list: those that were found stand in slots 0, 1, .., by rising name.
+-- The domains of a driver, one in each slot of the list: those that were found are in slots 0, 1, .., by rising name.
 use Rattle.std.specs.Prelude.{◌≡◌, ◌-◌, ◌++◌, false, List, ◌∷◌, [], length, map, replicate, None, Some}
 use Rattle.std.specs.List.{All, AllZip}
 use Rattle.atomic_table.specs.Seated.{TableId}
@@ -18,7 +18,7 @@ found_cell d = new_cell (Some d.definition) d.autostart
 abbrev pub vacant_cell : Celled
 vacant_cell = new_cell None false
 
--- what stands in the slots
+-- what is in the slots
 unfoldable pub cells_of : List FoundDomain → List Celled
 cells_of ds = map found_cell ds ++ replicate (most_domains - length ds) vacant_cell
 

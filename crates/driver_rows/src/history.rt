@@ -128,7 +128,7 @@ impl History {
 
     /// What is told of the history:
     /// - `state`: what the domain is after it;
-    /// - `owed kept`, `owed cut`: what the two registrations are owed that stand at the base;
+    /// - `owed kept`, `owed cut`: what the two registrations are owed that are in the base;
     /// - `owed since PLACE`: what the registration is owed that was made there;
     /// - `owed client CLIENT`: what this registration is owed, made before the first mark;
     /// - `seen COUNT BOOT`: whether a Destroy may carry this boot whose caller had seen so many marks;

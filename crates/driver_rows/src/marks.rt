@@ -212,7 +212,7 @@ fn mark(alloc: Global, line: &str) -> Result<Mark<u64>, NoMemory> {
     }
 }
 
-/// Puts the mark of this line behind the others.
+/// Puts the mark of this line after the others.
 pub(crate) fn put_mark(alloc: Global, marks: &mut Marks, line: &str) -> Result<(), NoMemory> {
     marks.push(mark(alloc, line)?)
 }

@@ -217,8 +217,8 @@ fn put_still(alloc: Global, text: &mut String, still: Option<&Ask>) -> Result<()
 }
 
 /// What a call asks, what it is answered and what is told, and the state then:
-/// `Stop | Ok (3,0) | paused`. An ask that is left stands after `still`; what is told of the boot's end
-/// before the call is done stands after the asks.
+/// `Stop | Ok (3,0) | paused`. An ask that is left comes after `still`; what is told of the boot's end
+/// before the call is done comes after the asks.
 pub(crate) fn call_row(alloc: Global, call: CallRow) -> Result<String, NoMemory> {
     let mut row = String::new(alloc);
     put_asks(alloc, &mut row, call.asks)?;
@@ -233,7 +233,7 @@ pub(crate) fn call_row(alloc: Global, call: CallRow) -> Result<String, NoMemory>
 
 /// Each phase of an operation, then its reply or the phase that is due, and the state then:
 /// `make: Make(1) | run: QueryStatus Cont (2,0) | Ok | running`. A number of answers that no phase
-/// took stands after `left`.
+/// took comes after `left`.
 pub(crate) fn operation_row(alloc: Global, progress: &Progress) -> Result<String, NoMemory> {
     let mut row = String::new(alloc);
     put_phases(alloc, &mut row, progress.phases.as_slice())?;

@@ -86,7 +86,7 @@ fn ended_row<C: Cell>(
 /// - `snapshots`: nothing happens; the row has the snapshots;
 /// - `children NAME`: nothing happens; the row has the snapshots that come from this one.
 ///
-/// The answers stand after `/`.
+/// The answers come after `/`.
 pub(crate) fn row<C: Cell>(alloc: Global, cell: &mut C, line: &str) -> Result<String, NoMemory> {
     let (step, said) = parts(line);
     let said = answers(alloc, said)?;

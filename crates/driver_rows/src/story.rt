@@ -124,7 +124,7 @@ fn begin_chapter(alloc: Global, played: &mut Played) -> Result<(), NoMemory> {
     Ok(())
 }
 
-// The marks of these lines, which stand between semicolons.
+// The marks of these lines, which are separated by semicolons.
 fn put_marks(alloc: Global, played: &mut Played, lines: &str) -> Result<(), NoMemory> {
     match &mut played.history {
         None => Ok(()),

@@ -23,7 +23,7 @@ pub(crate) fn small_number(word: &str) -> u32 {
     word.parse::<u32>().unwrap_or(0)
 }
 
-/// A part of a line; the parts stand between slashes, and the first has place 0.
+/// A part of a line; the parts are separated by slashes, and the first has place 0.
 pub(crate) fn part(line: &str, place: usize) -> &str {
     line.split('/').nth(place).unwrap_or("").trim()
 }

@@ -12,7 +12,7 @@ use Rattle.store_spec.specs.declared.change.Change.{Change}
 use Rattle.store_spec.specs.declared.kind.BookKind.{BookKind}
 use Rattle.store_spec.specs.Changes.{Definitions, after, changed, entry_of, is_of, kind_of}
 use Rattle.def_keeper.specs.declared.mark.DefKey.{DefKey}
-use Rattle.def_keeper.specs.declared.mark.StoreDeed.TheVariants as deed
+use Rattle.def_keeper.specs.declared.mark.StoreAction.TheVariants as action
 use Rattle.def_keeper.specs.declared.mark.StoreFault.{StoreFault}
 use Rattle.def_keeper.specs.declared.mark.StoreFault.TheVariants as store
 use Rattle.def_keeper.specs.declared.mark.StoreMark.{StoreMark}
@@ -102,11 +102,11 @@ module _ {F : Type 0} (A : Type 0) (told : Told) (moment : ℕ) (old mid new : K
   pub put_more : (a : A) → HasPut cs old mid → old.history.marks ≡ [] → length cs < 4096 → Left (Ok a)
       → ((k : BookKind) (u : List ℕ) → found new.map k u ≡ changed c (found mid.map) k u) → new.doubt ≡ None → HasPut (cs ++ c ∷ []) old new
   put_more a put none few left made doubt =
-      let last : List StoreMark = by 0 (deed.Changed c (Ok tt) moment) ∷ [] in
+      let last : List StoreMark = by 0 (action.Changed c (Ok tt) moment) ∷ [] in
       let marks : left.0 ≡ last = left.1.2 ∙ ap (λ (l : List StoreMark). l ++ last) (settled_none mid.doubt (found mid.map) left.1.0 put.doubt left.1.1) in
       record {
         marks = put.marks ++ last;
-        made = zip_push IsMarkOf cs put.marks c (by 0 (deed.Changed c (Ok tt) moment)) put.made (moment, refl);
+        made = zip_push IsMarkOf cs put.marks c (by 0 (action.Changed c (Ok tt) moment)) put.made (moment, refl);
         history = left.2
             ∙ (ap (λ (l : List StoreMark). with_marks l (open_chapter told mid.map mid.doubt mid.history)) marks
             ∙ (ap (λ (h : StoreHistory). with_marks last h) (sym (same_chapter told old mid cs put none few) ∙ put.history)

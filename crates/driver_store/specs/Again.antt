@@ -7,7 +7,7 @@ use Rattle.virt_types.specs.declared.memory.OrNoMemory.TheVariants as or
 use Rattle.store_spec.specs.declared.change.Change.{Change}
 use Rattle.store_spec.specs.declared.kind.BookKind.{BookKind}
 use Rattle.store_spec.specs.Changes.{Definitions, after, kind_of, uuid_of}
-use Rattle.def_keeper.specs.declared.mark.StoreDeed.TheVariants as deed
+use Rattle.def_keeper.specs.declared.mark.StoreAction.TheVariants as action
 use Rattle.def_keeper.specs.declared.mark.StoreMark.{StoreMark}
 use Rattle.def_keeper.specs.Calls.{IsTaken}
 use Rattle.def_keeper.specs.Chapters.{by, with_marks}
@@ -18,7 +18,7 @@ use Rattle.driver_store.specs.declared.fault.DriverFault.TheVariants as fault
 
 -- the mark of a change that was made, which the first pass left
 abbrev pub IsMarkOf : Change → StoreMark → Type 0
-IsMarkOf c m = (moment : ℕ) × (m ≡ by 0 (deed.Changed c (Ok tt) moment))
+IsMarkOf c m = (moment : ℕ) × (m ≡ by 0 (action.Changed c (Ok tt) moment))
 
 -- these changes were made, in their order: each left one mark, and nothing is in doubt
 pub record HasPut {F : Type 0} (changes : List Change) (old new : Keeping F) : Type 0 where

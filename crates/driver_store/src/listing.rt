@@ -40,7 +40,7 @@ fn all_listed(
     Ok(told)
 }
 
-/// The list of these domains, which stand in slots 0, 1, .., and its first pass.
+/// The list of these domains, which are in slots 0, 1, .., and its first pass.
 pub fn open_list(
     alloc: Global,
     domains: &[FoundDomain],

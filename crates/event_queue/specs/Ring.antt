@@ -22,7 +22,7 @@ count_kept r = r.taken + length r.pending
 abbrev pub is_full : Ring → Bool
 is_full r = nat_le 256 (length r.pending) || nat_le (2 ^ 62) (count_kept r)
 
--- one more pends, behind the others; where there is no room for it, the registration ends
+-- one more pends, after the others; where there is no room for it, the registration ends
 abbrev pub pushed_to : Ring → Transition → Ring
 pushed_to r t = if is_full r then record r { ended = Some (length r.pending) } else record r { pending = r.pending ++ t ∷ [] }
 

@@ -16,7 +16,7 @@ const MOST_PUSHED: u64 = 1 << 62;
 /// What became of a transition that came.
 #[derive(Clone, Copy, Debug, PartialEq, Eq)]
 pub enum Pushed {
-    /// It pends behind the others.
+    /// It pends after the others.
     Kept,
     /// It was not kept, and none is kept from now on.
     Lost {

@@ -54,7 +54,7 @@ pick_none : (b : Bool) (m : ℕ) → b ≡ false → cond b 1 0 + m ≡ m
 pick_none true m is = cc
 pick_none false m is = omega arith
 
--- how often a name stands at the front, and behind that
+-- how often a name is at the front, and after that
 counted : (n x : List ℕ) (xs : List (List ℕ)) → count_by (bytes_eq n) (x ∷ xs) ≡ cond (bytes_eq n x) 1 0 + count_by (bytes_eq n) xs
 counted n x xs = sum_by-cons (λ (y : List ℕ). cond (bytes_eq n y) 1 0) x xs
 

@@ -13,7 +13,7 @@ use virt_types::{Bytes, Failed, Fault, ListOf, NoMemory, Text, TextList};
 /// The most bytes of a file that is read. A longer one is a fault.
 pub const MOST_FILE_BYTES: usize = 1 << 20;
 
-/// A directory of the system. It tells nothing but how often it failed.
+/// A directory of the system. It reports nothing but how often it failed.
 #[derive(Drop)]
 pub struct DirFiles {
     rt: HostRuntime,

@@ -11,7 +11,7 @@ use std::alloc::Global;
 use store_spec::Operation;
 use virt_types::{Bytes, ListOf, NoMemory, TryCopy};
 
-// What stands in a torn file.
+// What is in a torn file.
 const TORN: &[u8] = b"\xfftorn";
 
 fn renames(operation: &Operation) -> bool

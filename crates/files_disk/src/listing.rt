@@ -1,4 +1,4 @@
-// The names of the files that stand after operations.
+// The names of the files that are there after operations.
 ghost use Rattle.std.specs.Prelude.{◌≡◌, ◌&&◌, ◌++◌, [], ◌∷◌, IfOk, List, OnOk, bytes_eq, is_some, not, option_copied};
 ghost use Rattle.std.specs.List.{list_any};
 ghost use Rattle.store_spec.specs.declared.operation.Operation.{Operation as TheOperation};

@@ -116,7 +116,7 @@ fn perform(
     }
 }
 
-// The same of an operation that may not have been made for want of memory; that is a fault then.
+// The same of an operation that may not have been made because memory ran out; that is a fault then.
 fn perform_or_fail(
     operations: &mut ListOf<Operation>,
     faults: &mut u64,

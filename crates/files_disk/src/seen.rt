@@ -1,4 +1,4 @@
-// How a file stands after operations.
+// The state of a file after operations.
 ghost use Rattle.std.specs.Prelude.{◌≡◌, option_map};
 ghost use Rattle.store_spec.specs.Directory.{Files as TheFiles, files_after, operated};
 ghost use Rattle.files_disk.specs.Seeing.{file_of, found};
@@ -22,13 +22,13 @@ pub enum Before<'a> {
     Written(&'a Bytes),
     /// It removed the file, or gave it another name.
     Gone,
-    /// The file stood under this name before.
+    /// The file was under this name before.
     Under(&'a [u8]),
-    /// It synced the file, which stood under this name.
+    /// It synced the file, which was under this name.
     Synced(&'a [u8]),
 }
 
-// What stands under this name after the operation.
+// What is under this name after the operation.
 fn step_back<'a>(operation: &'a Operation, name: &'a [u8]) -> Before<'a>
     ensures { (files : TheFiles) → operated operation.now files name.now ≡ found files result }
 {

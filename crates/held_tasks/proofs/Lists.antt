@@ -35,7 +35,7 @@ module _ {X Y : Type 0} (f : X → Y) where
   pub stands_in : (first : List X) (one : X) (rest : List X) (slot : ℕ) → length first ≡ slot → slice_get (map f (first ++ one ∷ rest)) slot ≡ Some (f one)
   stands_in first one rest slot at = subst (λ (n : ℕ). slice_get (map f (first ++ one ∷ rest)) n ≡ Some (f one)) at (stands_there first one rest)
 
-  -- what stands there in the other list
+  -- what is there in the other list
   pub value_in : (first : List X) (one : X) (rest : List X) (slot : ℕ) (ys : List Y) (d : Y) → length first ≡ slot → map f (first ++ one ∷ rest) ≡ ys → f one ≡ get_or ys slot d
   value_in [] one rest slot ys d at is = subst (λ (n : ℕ). f one ≡ get_or ys n d) at (ap (λ (l : List Y). get_or l 0 d) is)
   value_in (x ∷ first) one rest slot ys d at is =

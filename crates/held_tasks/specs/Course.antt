@@ -39,7 +39,7 @@ module _ {G : Type 0} where
   abbrev pub ListGoes : (before after : DriverRow G) → Type 0
   ListGoes before after = after ≡ record before { list = after.list }
 
-  -- the list gave no slot, which its mark at the outcome's place tells, unless there was no memory
+  -- the list gave no slot, as its mark at the outcome's place says, unless there was no memory
   pub record IsUnlisted (held : ListCall) (before after : DriverRow G) (o : Outcome) : Type 0 where
     pub why : OrNoMemory ListFault
     pub holds : HasHeld held (Err why) o.front before.list after.list

@@ -7,6 +7,7 @@ pub record Front : Type 0 where
   pub chapter : ℕ
   pub marks : ℕ
 
+-- how far a history has come
 abbrev pub front_of : {B M : Type 0} → History B M → Front
 front_of h = record { chapter = h.chapter; marks = length h.marks }
 

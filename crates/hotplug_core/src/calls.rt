@@ -33,7 +33,7 @@ pub fn next(
     }
 }
 
-/// What attaching or detaching a device needs from its first ask on. A want of memory comes here or
+/// What attaching or detaching a device needs from its first ask on. Running out of memory comes here or
 /// in an ask, and not in what is done with the answers.
 pub fn parts(alloc: Global, state: &State, call: &Call) -> Result<Parts, NoMemory>
     requires { core_of_call call.now ≡ core.Hotplug }

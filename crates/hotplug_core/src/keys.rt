@@ -28,7 +28,7 @@ fn interface_place(interfaces: &[Interface], wanted: &Interface) -> Option<usize
 }
 
 /// The place of the first device of a definition that has the key of this one: among its disks, or
-/// behind them among its interfaces.
+/// after them among its interfaces.
 pub fn place_like(def: &DomainDef, wanted: &DeviceDef) -> Option<usize>
     ensures { result ≡ position (has_same_key wanted.now) (devices_of def.now) }
 {
@@ -44,7 +44,7 @@ pub fn place_like(def: &DomainDef, wanted: &DeviceDef) -> Option<usize>
     }
 }
 
-// A copy of the device at a place among the disks, or behind them among the interfaces.
+// A copy of the device at a place among the disks, or after them among the interfaces.
 fn device_at(def: &DomainDef, place: usize) -> Result<Option<DeviceDef>, NoMemory>
     ensures device { IfOk result (λ device. device ≡ slice_get (devices_of def.now) place) }
     ensures memory { OnErr result (is_some (slice_get (devices_of def.now) place) ≡ true) }

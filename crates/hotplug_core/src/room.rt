@@ -53,7 +53,7 @@ impl<T: Drop> RoomFor<T> {
         })
     }
 
-    /// Moves a list over into this room, with one more value at a place, or behind the others where
+    /// Moves a list over into this room, with one more value at a place, or after the others where
     /// they are fewer.
     pub fn insert(self, list: &mut ListOf<T>, place: usize, new: T)
         requires { length list.old < self }

@@ -121,7 +121,7 @@ right bytes is f =
     by field.State r = not_false (is_right bytes field.State) r.1.1.1.1.1.1.0
     by field.End r = not_false (is_right bytes field.End) r.1.1.1.1.1.1.1.0
 
--- what the words tell, where no field is wrong
+-- what the words say, where no field is wrong
 pub record Tells (bytes : List ℕ) (kind_is running_is text_is saved_is : ℕ) : Type 0 where
   pub magic_word : word_at 0 bytes ≡ Some magic
   pub version_word : word_at 4 bytes ≡ Some 1

@@ -20,7 +20,7 @@ word_long : (n : ℕ) → length (word n) ≡ 4
 unfolding word
 word_long n = refl
 
--- bytes behind a front of this length
+-- bytes after a front of this length
 record Behind (bytes front rest : List ℕ) (place : ℕ) : Type 0 where
   is : bytes ≡ front ++ rest
   long : length front ≡ place

@@ -46,7 +46,7 @@ pub record IsThere (os others : List Operation) (name : List ℕ) (i : Image) : 
 abbrev pub ImagesStay : Type 0
 ImagesStay = (os others : List Operation) (name : List ℕ) (i : Image) → All (IsApart (image_name i.kind name)) others → IsThere os others name i
 
--- what is answered is this image, but for a fault of the store and want of memory
+-- what is answered is this image, but for a fault of the store or running out of memory
 abbrev pub IsBack : Image → Result Image (OrNoMemory ImageFault) → Type 0
 IsBack i (Ok j) = j ≡ i
 IsBack i (Err (or.Fault fault.Device)) = Unit {0}

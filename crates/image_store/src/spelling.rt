@@ -7,7 +7,7 @@ use std::alloc::Global;
 use store_spec::Image;
 use virt_types::{Bytes, ImageKind, Name, NoMemory, Text};
 
-/// The word that tells that a file is an image.
+/// The word that says that a file is an image.
 pub(crate) const MAGIC: u32 = 0x5644_4d49;
 
 // Puts a number as a word, the highest byte first; one that has none is put as the greatest.

@@ -39,7 +39,7 @@ fn front_in(turn: &mut ListTurn) -> Front
     }
 }
 
-/// Takes a turn at the list, and asks for the slot. With what the list answered comes the place of the mark that tells it.
+/// Takes a turn at the list, and asks for the slot. With what the list answered comes the place of the mark that says so.
 /// Where no ticket is left, the pass comes back.
 pub fn hold_slot<R: Wait>(
     rt: &R,

@@ -1,4 +1,4 @@
-//! A request asks the list of domains for the slot of its domain, learns where the mark of that stands, and gives the slot
+//! A request asks the list of domains for the slot of its domain, learns where the mark of that is, and gives the slot
 //! back.
 #![tactic(auto)]
 

@@ -233,7 +233,7 @@ pub fn with_devices(live: &Live, def: DomainDef, slots: SlotList) -> Live
     }
 }
 
-/// The guest with one more device, behind those of its kind.
+/// The guest with one more device, after those of its kind.
 pub fn with_device(live: &Live, slot: u32, new: &DeviceDef) -> Result<Live, NoMemory>
     ensures { IfOk result (λ next. next ≡ with_device live.now slot new.now) }
 {

@@ -64,7 +64,7 @@ pub fn front_of<T: TryCopy + Drop>(
     }
 }
 
-/// The values behind the first ones.
+/// The values after the first ones.
 pub fn behind<T: TryCopy + Drop>(
     alloc: Global,
     values: &[T],
@@ -90,7 +90,7 @@ pub fn value_at<T: TryCopy + Drop>(values: &[T], place: usize) -> Result<Option<
     }
 }
 
-/// The values with one more at a place, or behind them where they are fewer.
+/// The values with one more at a place, or after them where they are fewer.
 pub fn with_at<T: Drop>(values: ListOf<T>, place: usize, new: T) -> Result<ListOf<T>, NoMemory>
     ensures { IfOk result (λ all. all ≡ insert values place new) }
 {

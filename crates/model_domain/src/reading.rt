@@ -178,7 +178,7 @@ fn state_running(run: RunState) -> DomainState
     }
 }
 
-/// The state of a domain as the wire tells it.
+/// The state of a domain as the wire gives it.
 pub fn state_in(live: &Option<Live>) -> DomainState
     ensures { result ≡ state_in live.now }
 {

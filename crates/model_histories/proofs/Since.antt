@@ -1,4 +1,4 @@
--- Where a registration stands behind the first mark of a history.
+-- Where a registration is after the first mark of a history.
 use Rattle.std.proofs.Common.{◌≡◌, ℕ, ◌+◌, ◌-◌, ◌<◌, ◌≤◌, List, [], ◌∷◌, length, take, drop, sym, ap, arith, add-one, ◌∙◌}
 use Rattle.std.proofs.lemmas.List.{take_all}
 use Rattle.domain_spec.specs.declared.mark.Mark.{Mark}

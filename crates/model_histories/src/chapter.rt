@@ -1,4 +1,4 @@
-// What chapters begin with, and what stands there.
+// What chapters begin with, and what holds there.
 ghost use Rattle.std.specs.Prelude.{◌≡◌, ◌+◌, ◌++◌, IfOk, Some, length};
 ghost use Rattle.domain_spec.specs.Chapter as chapter;
 ghost use Rattle.domain_spec.specs.Fold as fold;
@@ -54,7 +54,7 @@ fn with_registered(
     }
 }
 
-/// What chapters begin with, and what stands there.
+/// What chapters begin with, and what holds there.
 pub fn at_base(alloc: Global, base: Base) -> Result<Standing, NoMemory>
     ensures { IfOk result (λ standing. standing ≡ fold.at_base base) }
 {

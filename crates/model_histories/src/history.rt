@@ -1,4 +1,4 @@
-// What stands after a history, and where it is first at fault.
+// What holds after a history, and where it is first at fault.
 ghost use Rattle.std.specs.Prelude.{◌≡◌, IfOk, OnOk};
 ghost use Rattle.domain_spec.specs.Fold as fold;
 ghost use Rattle.model_histories.specs.Judged.{Judged};
@@ -15,7 +15,7 @@ use virt_types::{NoMemory, State, TryCopy};
 pub enum Verdict {
     /// Each mark is lawful after those before it.
     Legal,
-    /// The first mark that is not lawful stands at this place, from 0.
+    /// The first mark that is not lawful is at this place, from 0.
     Fault(usize),
 }
 
@@ -31,7 +31,7 @@ fn advance_all(alloc: Global, s: &mut Standing, marks: &[Mark<u64>]) -> Result<(
     }
 }
 
-/// What stands after a history: its state, what is open, and who is registered. `NoMemory`: there was
+/// What holds after a history: its state, what is open, and who is registered. `NoMemory`: there was
 /// no memory for a copy, or a count passed 64 bits.
 pub fn standing_after(alloc: Global, base: Base, marks: &[Mark<u64>]) -> Result<Standing, NoMemory>
     ensures { IfOk result (λ it. it ≡ fold.standing (fold.at_base base) marks.now) }

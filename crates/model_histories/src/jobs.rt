@@ -1,7 +1,7 @@
 // What is open, and what may be let in beside it.
 ghost use Rattle.std.specs.Prelude.{◌≡◌, ◌↔◌, IsTrue};
 ghost use Rattle.domain_spec.specs.Lawful.{IsAdmitted, IsNested, IsOpen, IsRefused, NoneNested};
-ghost use Rattle.domain_spec.specs.Open.{AreDistinct, Excludes, GoesOn, IsCarried, IsCrowded, IsKnownBoot, IsOtherNumber, IsOwnJob, IsRecord, IsRefusedAs, MayAdmit, is_among, is_rest, is_same_who, job_held, kind_begun, operation_held};
+ghost use Rattle.domain_spec.specs.Open.{AreDistinct, Excludes, IsCarried, IsCrowded, IsKnownBoot, IsOtherNumber, IsOwnJob, IsRecord, IsRefusedAs, MayAdmit, OperationGoesOn, is_among, is_rest, is_same_who, job_held, kind_begun, operation_held};
 
 use domain_spec::{HeldJobs, HeldOperation, OpenJob, OpenOperation, Outcome, Standing};
 use model_domain::jobs::{
@@ -52,7 +52,7 @@ pub fn operation_held(operation: &Option<OpenOperation>) -> Option<HeldOperation
 }
 
 fn goes_on(outcome: &Outcome) -> bool
-    ensures { IsTrue result ↔ GoesOn outcome.now }
+    ensures { IsTrue result ↔ OperationGoesOn outcome.now }
 {
     match outcome {
         Outcome::On(_) => true,

@@ -1,4 +1,4 @@
-//! The definitions of legal histories as a plain, slow program: what stands after the marks of a
+//! The definitions of legal histories as a plain, slow program: what holds after the marks of a
 //! history, whether a mark may come next, where a history is first at fault, and what a listener is owed.
 #![tactic(auto)]
 

@@ -119,7 +119,7 @@ fn owed_after(
     }
 }
 
-/// What the registration is owed whose Watch stands at this place of a history, from 0; nothing where
+/// What the registration is owed whose Watch is at this place of a history, from 0; nothing where
 /// the mark there is no Watch.
 pub fn owed_since(
     alloc: Global,

@@ -1,4 +1,4 @@
-// What stands after one more mark.
+// What holds after one more mark.
 ghost use Rattle.std.specs.Prelude.{◌≡◌, OnOk, IfOk, None, Some, true, false};
 ghost use Rattle.domain_spec.specs.Begin as begins;
 ghost use Rattle.domain_spec.specs.Exit as exits;
@@ -27,7 +27,7 @@ fn carries(carried: Option<u64>, boot: u64) -> bool
     }
 }
 
-// Each of these changes one thing that stands, and lets go what stood in its place.
+// Each of these changes one thing that holds, and lets go what was in its place.
 
 fn set_state(s: &mut Standing, state: State)
     ensures { s.new ≡ record s.old { state = state; just_admitted = false } }
@@ -303,7 +303,7 @@ fn apply(alloc: Global, s: &mut Standing, mark: &Mark<u64>) -> Result<(), NoMemo
     }
 }
 
-/// Makes what stands what stands after one more mark. Where there is no memory, what stands is of no
+/// Turns what holds into what holds after one more mark. Where there is no memory, what is there is of no
 /// more use.
 pub fn advance(alloc: Global, s: &mut Standing, mark: &Mark<u64>) -> Result<(), NoMemory>
     ensures { OnOk result (s.new ≡ fold.after s.old mark.now) }

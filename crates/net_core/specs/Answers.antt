@@ -1,4 +1,4 @@
--- What the parts of the book answer, before a want of memory is a refusal too.
+-- What the parts of the book answer, before being out of memory is a refusal too.
 use Rattle.std.specs.Prelude.{◌≡◌, ℕ, List, Option, None, Some, Result, Ok, Err}
 use Rattle.virt_types.specs.declared.mac.Mac.{Mac}
 use Rattle.virt_types.specs.declared.refusal.Refusal.{Refusal}
@@ -32,7 +32,7 @@ tested (Ok done) = Done
 tested (Err (Fault refusal)) = Refused refusal
 tested (Err NoMemory) = Refused no_memory
 
--- a want of memory is a refusal too
+-- being out of memory is a refusal too
 abbrev pub plain_of : {A : Type 0} → Result A (OrNoMemory Refusal) → Result A Refusal
 plain_of (Ok value) = Ok value
 plain_of (Err (Fault refusal)) = Err refusal

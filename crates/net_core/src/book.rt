@@ -22,7 +22,7 @@ use std::alloc::Global;
 use std::marker::Model;
 use virt_types::{LeaseRowList, Mac, NetDef, NoMemory, OrNoMemory, Refusal, Text, Uuid};
 
-/// The book of networks. Contracts see its history: what stands in it is told by the chapter's base
+/// The book of networks. Contracts see its history: what is in it is shown by the chapter's base
 /// and its marks.
 #[derive(Drop)]
 pub struct NetBook {
@@ -53,7 +53,7 @@ impl NetBook {
     }
 
     /// Whether a network may be defined so. `NetworkExists` where its name or its identifier is held
-    /// with another, `OperationInvalid` where it is active, `ListFull` where 64 others stand in the
+    /// with another, `OperationInvalid` where it is active, `ListFull` where 64 others are in the
     /// book. After `Ok` the change goes through the store, and then comes `define` or `refuse`.
     pub fn may_define(&mut self, def: &NetDef) -> Result<(), Refusal>
         ghost number: { ℕ }

@@ -84,7 +84,7 @@ pub(crate) fn missing(alloc: Global, uuid: Uuid) -> OrNoMemory<Refusal>
     }
 }
 
-/// What a caller is told: a want of memory is a refusal, too.
+/// What a caller is told: being out of memory is a refusal, too.
 pub(crate) fn plain<T>(alloc: Global, given: Result<T, OrNoMemory<Refusal>>) -> Result<T, Refusal>
     ensures { result ≡ plain_of given }
 {

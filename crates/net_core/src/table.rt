@@ -18,7 +18,7 @@ use std::alloc::Global;
 use std::marker::Model;
 use virt_types::{LeaseRowList, ListOf, Mac, NetDef, NoMemory, OrNoMemory, Refusal, TryCopy, Uuid};
 
-/// At most as many networks stand in the book.
+/// At most as many networks are in the book.
 const MOST_NETWORKS: usize = 64;
 
 /// The networks, in the order in which they were first defined. It has room for as many as there

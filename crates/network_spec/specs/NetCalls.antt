@@ -1,4 +1,4 @@
--- What each call of the book of networks answers, and what stands in the book after it.
+-- What each call of the book of networks answers, and what is in the book after it.
 use Rattle.std.specs.Prelude.{ℕ, Bool, true, false, nat_lt, length, List, [], ◌∷◌, ◌++◌, bytes_eq, is_some, codes, decimal, Option, None, Some, if◌then◌else◌}
 use Rattle.uuid.specs.Text.{hyphenated_text, lower}
 use Rattle.virt_types.specs.declared.mac.Mac.{Mac}
@@ -50,11 +50,11 @@ abbrev pub if_active : List ℕ → Option Network → NetAnswer
 if_active uuid None = Refused (no_network uuid)
 if_active uuid (Some network) = if network.active then Done else Refused is_inactive
 
--- the name stands in the book: it has to be that of the same identifier
+-- the name is in the book: it has to be that of the same identifier
 abbrev pub redefined : List ℕ → Network → NetAnswer
 redefined uuid network = if bytes_eq (uuid_of network) uuid then if_inactive uuid (Some network) else Refused (network_exists (hyphenated_text lower (uuid_of network)))
 
--- neither the name nor the identifier stands in the book
+-- neither the name nor the identifier is in the book
 abbrev pub newly_defined : Networks → NetAnswer
 newly_defined networks = if nat_lt (length networks) most_networks then Done else Refused book_full
 

@@ -1,4 +1,4 @@
--- The history of the book of networks: what stood in it when the chapter began, and a mark for each call.
+-- The history of the book of networks: what was in it when the chapter began, and a mark for each call.
 use Rattle.std.specs.Prelude.{◌≡◌, ◌⊎◌, ℕ, ◌+◌, ◌<◌, ◌++◌, nat_lt, List, [], ◌∷◌, length, Result, Ok, Err, if◌then◌else◌}
 use Rattle.std.specs.List.{fold}
 use Rattle.history_spec.specs.declared.history.History.{History}

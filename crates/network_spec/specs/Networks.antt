@@ -8,7 +8,7 @@ use Rattle.network_spec.specs.declared.book.Network.{Network}
 abbrev pub Networks : Type 0
 Networks = List Network
 
--- at most as many networks stand in the book
+-- at most as many networks are in the book
 abbrev pub most_networks : ℕ
 most_networks = 64
 

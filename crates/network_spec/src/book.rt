@@ -1,4 +1,4 @@
-//! The book of networks: what stands in it, and what its calls are and answer.
+//! The book of networks: what is in it, and what its calls are and answer.
 use std::collections::LinkedList;
 use virt_types::{LeaseRow, Mac, NetDef, Refusal, Text, Uuid};
 

@@ -136,7 +136,7 @@ const FAULTS: [(&str, &str, DefKind); 9] = [
     ),
 ];
 
-// Of a network 10.0.0.1 with the mask 255.255.255.0: what stands in its `dhcp`.
+// Of a network 10.0.0.1 with the mask 255.255.255.0: what is in its `dhcp`.
 const LEASE_FAULTS: [(&str, &str, DefKind); 8] = [
     (
         "<range start='10.0.0.2'/>",

@@ -28,7 +28,7 @@ rows_of-append slots (x ∷ xs) ys = ap (λ (rest : List SlotName). row_of x (en
 pub rows_of-more : (slots : Slots) (xs : List ℕ) (i : ℕ) → i < length xs → rows_of slots (take (i + 1) xs) ≡ rows_of slots (take i xs) ++ row_of (get_or xs i 0) (entry_in slots (get_or xs i 0))
 rows_of-more slots xs i within = ap (rows_of slots) (take_more xs i 0 within) ∙ (rows_of-append slots (take i xs) (get_or xs i 0 ∷ []) ∙ ap (λ (l : List SlotName). rows_of slots (take i xs) ++ l) (append-nil (row_of (get_or xs i 0) (entry_in slots (get_or xs i 0)))))
 
--- each stands in its slot
+-- each is in its slot
 stand_append : (slots : Slots) (xs ys : List SlotName) → AllStandIn slots xs → AllStandIn slots ys → AllStandIn slots (xs ++ ys)
 stand_append slots [] ys a b = b
 stand_append slots (x ∷ xs) ys a b = (a.0, stand_append slots xs ys a.1 b)
@@ -59,7 +59,7 @@ module _ {Y : Type 0} where
       (λ (no_key : test x.0 ≡ false). contains_right (row_of x.1 (entry_in slots x.1)) rest row (contains_found slots test es slot e (sym (cond-false (test x.0) (Some x.1) (lookup test es) no_key) ∙ is) at))
       (cases_Bool (test x.0))
 
-  -- each key is the name of what stands in its slot
+  -- each key is the name of what is in its slot
   Stand : Slots → List (Vec ℕ Y × ℕ) → Type 0
   Stand slots [] = Unit {0}
   Stand slots (x ∷ es) = ((e : Entry) × (entry_in slots x.1 ≡ Some e) × (e.name ≡ x.0.items)) × Stand slots es
@@ -103,11 +103,11 @@ pub if_ok : {A E : Type 0} (P Q : A → Type 0) (r : Result A E) → IfOk r P �
 if_ok P Q (Ok a) p f = f a p
 if_ok P Q (Err e) p f = tt
 
--- one slot more, by what stands there
+-- one slot more, by what is there
 pub more_rows : (slots : Slots) (xs : List ℕ) (i x : ℕ) (so_far now : List SlotName) → i < length xs → x ≡ get_or xs i 0 → so_far ≡ rows_of slots (take i xs) → now ≡ so_far ++ row_of x (entry_in slots x) → now ≡ rows_of slots (take (i + 1) xs)
 more_rows slots xs i x so_far now within is before more = more ∙ ((λ j. before j ++ row_of (is j) (entry_in slots (is j))) ∙ sym (rows_of-more slots xs i within))
 
--- nothing was there, or a domain was put behind the others
+-- nothing was there, or a domain was put after the others
 pub none_there : (so_far now row : List SlotName) (o : Option SlotName) → now ≡ so_far → o ≡ None → option_to_list o ≡ row → now ≡ so_far ++ row
 none_there so_far now row o same gone is = same ∙ (sym (append-nil so_far) ∙ ap (λ (l : List SlotName). so_far ++ l) (sym (ap (λ (x : Option SlotName). option_to_list x) gone) ∙ is))
 

@@ -23,7 +23,7 @@ pub length-opened : (ds : List FoundDomain) → length ds ≤ 256 → length (op
 unfolding opened
 length-opened ds few = omega (arith, length-append (map put_in ds) (replicate (rest ds) nothing), length-map ds put_in, length-replicate (rest ds) nothing, few)
 
--- past the domains nothing stands
+-- past the domains there is nothing
 past-opened : (ds : List FoundDomain) (j : ℕ) → length ds ≤ j → entry_in (opened ds) j ≡ None
 unfolding opened
 past-opened ds j past =
@@ -34,7 +34,7 @@ past-opened ds j past =
     (λ (le : rest ds ≤ j - length ds). get_or_past (replicate (rest ds) nothing) (j - length ds) nothing (subst (λ (k : ℕ). k ≤ j - length ds) (sym (length-replicate (rest ds) nothing)) le))
     (cases_lt (j - length ds) (rest ds))
 
--- what stands in a slot is a domain that was found
+-- what is in a slot is a domain that was found
 opened-at : (ds : List FoundDomain) (j : ℕ) (e : Entry) (d : FoundDomain) → entry_in (opened ds) j ≡ Some e → (j < length ds) × (e ≡ opened_entry (get_or ds j d))
 unfolding opened
 opened-at ds j e d at = ⊎_elim

@@ -22,7 +22,7 @@ length-fewer number (n ∷ ns) some = ⊎_elim
     ap (λ (b : Bool). length (cond b ns (n ∷ one_fewer number ns)) + 1) (ne_eqb n number differs) ∙ omega (arith, fewer))
     (cases_eq n number)
 
--- what stands in a slot has no more holders than there are
+-- what is in a slot has no more holders than there are
 pub few_holders : (rows : Slots) (slot : ℕ) (e : Entry) → entry_in rows slot ≡ Some e → all_holders rows < 2 ^ 62 → length e.holders < 9223372036854775808
 unfolding all_holders
 few_holders rows slot e at few = omega (arith, few, get_or-le-sum_by holders_in rows slot None (within_at rows slot e at), ap holders_in at)
@@ -69,7 +69,7 @@ module _ (number : ℕ) (front : Front) (occupied : Bool) (rows new : Slots) (sl
     fewer = omega (arith, ap all_holders new_is, all-set rows slot (Some left) within, ap holders_in at, fewer-left number front occupied e left some is);
   }
 
--- what was taken out of a slot stood there
+-- what was taken out of a slot was there
 pub stood : (rows : Slots) (slot : ℕ) (there taken : Option Entry) (e : Entry) → slot < length rows → there ≡ get_or rows slot there → taken ≡ there → taken ≡ Some e → entry_in rows slot ≡ Some e
 stood rows slot there taken e within is was some = sym (get_or_read rows slot there within is None) ∙ (sym was ∙ some)
 

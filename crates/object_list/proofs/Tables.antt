@@ -53,7 +53,7 @@ module _ (rows : Slots) (by_name by_uuid : SlotIndex) (free : List ℕ) (holders
     most = omega (arith, counts, fits);
   }
 
-  -- what stands in a slot is held once more
+  -- what is in a slot is held once more
   pub table-held : (number slot : ℕ) (new : Slots) (e : Entry) → entry_in rows slot ≡ Some e → all_holders rows < 2 ^ 62 → new ≡ set rows slot (option_map (held_by number) (entry_in rows slot)) → IsTable new by_name by_uuid free (holders + 1)
   table-held number slot new e at room new_is =
       let held : Option Entry = Some (held_by number e) in
@@ -61,7 +61,7 @@ module _ (rows : Slots) (by_name by_uuid : SlotIndex) (free : List ℕ) (holders
       subst (λ (x : Slots). IsTable x by_name by_uuid free (holders + 1)) (sym (new_is ∙ ap (λ (o : Option Entry). set rows slot (option_map (held_by number) o)) at))
       (table-same slot e (held_by number e) (holders + 1) at refl refl counts (omega (arith, is.counted, room)))
 
-  -- nothing stands there
+  -- nothing is there
   pub table-not_held : (number slot : ℕ) (new : Slots) → entry_in rows slot ≡ None → new ≡ set rows slot (option_map (held_by number) (entry_in rows slot)) → IsTable new by_name by_uuid free holders
   table-not_held number slot new at new_is =
       subst (λ (x : Slots). IsTable x by_name by_uuid free holders) (sym (new_is ∙ (ap (λ (o : Option Entry). set rows slot (option_map (held_by number) o)) at ∙ (ap (set rows slot) (sym at) ∙ set-get_or rows slot None)))) is
@@ -79,7 +79,7 @@ module _ (rows : Slots) (by_name by_uuid : SlotIndex) (free : List ℕ) (holders
         most = omega (arith, counts, is.counted, room);
       })
 
-  -- what stood in a slot was taken out
+  -- what was in a slot was taken out
   pub table-out : (out : Entry) (slot : ℕ) (new : Slots) (names uuids : SlotIndex) (left : List ℕ) (count : ℕ) → GoesOut out slot rows new → Updates out.name None by_name names → Updates out.uuid None by_uuid uuids → ChangesBit slot 1 free left → count + 1 ≡ holders → IsTable new names uuids left count
   table-out out slot new names uuids left count goes by_names by_uuids bits fewer =
       let e : Entry = goes.entry in
@@ -94,14 +94,14 @@ module _ (rows : Slots) (by_name by_uuid : SlotIndex) (free : List ℕ) (holders
         most = omega (arith, counts, fewer, is.counted, is.most);
       }
 
-  -- what stood in a slot stands there still
+  -- what was in a slot is there still
   pub table-stays : (slot : ℕ) (new : Slots) (count : ℕ) → Remains slot rows new → count + 1 ≡ holders → IsTable new by_name by_uuid free count
   table-stays slot new count stays fewer =
       let counts : count ≡ all_holders new = omega (arith, fewer, is.counted, stays.fewer) in
       subst (λ (x : Slots). IsTable x by_name by_uuid free count) (sym stays.stays)
       (table-same slot stays.entry stays.left count stays.was stays.name_same stays.uuid_same (counts ∙ ap all_holders stays.stays) (omega (arith, fewer, is.counted, is.most)))
 
-  -- by whether something stands there
+  -- by whether something is there
   pub held-table : (number slot : ℕ) (new : Slots) → is_some (entry_in rows slot) ≡ true → all_holders rows < 2 ^ 62 → new ≡ set rows slot (option_map (held_by number) (entry_in rows slot)) → IsTable new by_name by_uuid free (holders + 1)
   held-table number slot new some room new_is = by (entry_in rows slot) refl some
     where

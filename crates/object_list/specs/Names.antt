@@ -16,7 +16,7 @@ abbrev pub IsRising : List SlotName → Type 0
 IsRising [] = Unit {0}
 IsRising (row ∷ rows) = AreAfter row.name rows × IsRising rows
 
--- the domain stands in its slot
+-- the domain is in its slot
 abbrev pub StandsIn : Slots → SlotName → Type 0
 StandsIn slots row = (entry : Entry) × (entry_in slots row.slot ≡ Some entry) × (row.name ≡ entry.name) × (row.uuid ≡ entry.uuid)
 

@@ -10,7 +10,7 @@ use Rattle.object_list.specs.declared.index.SlotIndex.{SlotIndex}
 use Rattle.object_list.specs.FreeSlots.{free_bit}
 use Rattle.object_list.specs.Index.{slot_at}
 
--- 1 where nothing stands
+-- 1 where there is nothing
 abbrev pub vacancy : Option Entry → ℕ
 vacancy None = 1
 vacancy (Some entry) = 0
@@ -34,7 +34,7 @@ pub record IsNew (slot : ℕ) (name uuid : List ℕ) (slots : Slots) : Type 0 wh
 abbrev pub Holds : ℕ → ℕ → Slots → Type 0
 Holds number slot slots = 0 < slice_index (holds_of number slots) slot
 
--- this entry, but for who holds it and what was told of it, stood in the slot, which is free now
+-- this entry, but for who holds it and what was told of it, was in the slot, which is free now
 pub record GoesOut (out : Entry) (slot : ℕ) (old new : Slots) : Type 0 where
   pub entry : Entry
   pub was : entry_in old slot ≡ Some entry
@@ -43,7 +43,7 @@ pub record GoesOut (out : Entry) (slot : ℕ) (old new : Slots) : Type 0 where
   pub free : new ≡ slice_set old slot None
   pub fewer : all_holders new + 1 ≡ all_holders old
 
--- what stood in the slot stands there still, but for who holds it and what was told of it
+-- what was in the slot is there still, but for who holds it and what was told of it
 pub record Remains (slot : ℕ) (old new : Slots) : Type 0 where
   pub entry : Entry
   pub left : Entry

@@ -279,7 +279,7 @@ fn slot_with(table: &Table, slot: u32, uuid: Uuid) -> Result<u32, OrNoMemory<Lis
     }
 }
 
-// Of the name and the identifier one is held by what stands in this slot, with another.
+// Of the name and the identifier one is held by what is in this slot, with another.
 fn exists(table: &Table, slot: u32) -> Result<u32, OrNoMemory<ListFault>>
     ensures answer { UnlessNoMemory result (claim_of_other (entry_in table.now slot)) }
     ensures no_memory { result ≡ Err or.NoMemory → MayLackMemory (claim_of_other (entry_in table.now slot)) table.now }
@@ -296,7 +296,7 @@ fn exists(table: &Table, slot: u32) -> Result<u32, OrNoMemory<ListFault>>
     }
 }
 
-// Holds what stands in a slot, or puts the domain there.
+// Holds what is in a slot, or puts the domain there.
 fn hold_or_put(table: &mut Table, slot: u32, name: &Name, uuid: Uuid) -> Result<(), NoMemory>
     ghost number: { ℕ }
     requires room { all_holders table.old < 2 ^ 62 }

@@ -186,7 +186,7 @@ fn name_in(rows: &[Option<Row>], slot: u32) -> Result<Option<SlotName>, NoMemory
     }))
 }
 
-// Holds what stands in a row once more. Whether something stands there.
+// Holds what is in a row once more. Whether something is there.
 fn hold_row(rows: &mut Vec<Option<Row>>, slot: usize) -> bool
     ghost number: { ℕ }
     requires { all_holders rows.old.items < 2 ^ 62 }
@@ -204,7 +204,7 @@ fn hold_row(rows: &mut Vec<Option<Row>>, slot: usize) -> bool
     true
 }
 
-// Releases what stands in a row, and takes it out where it is idle then.
+// Releases what is in a row, and takes it out where it is idle then.
 fn release_row(
     rows: &mut Vec<Option<Row>>,
     slot: usize,

@@ -95,7 +95,7 @@ fn go_on<R: Wait>(
     Some(pass)
 }
 
-// How many domains stand in the list.
+// How many domains are in the list.
 fn count<R: Wait>(rt: &R, cell: &TurnCell<ObjectList>, pass: ListPass) -> Option<(ListPass, usize)>
     requires { pass.cell ≡ cell.now }
     ensures { IfSome result (λ r. r.0.cell ≡ cell.now) }

@@ -4,8 +4,8 @@ use Rattle.std.specs.Prelude.{slice_get}
 use Rattle.history_spec.proofs.Beginnings.{NoMarkLowers}
 use Rattle.book_spec.specs.declared.list.ListCall.{ListCall}
 use Rattle.book_spec.specs.declared.list.ListFault.{ListFault}
-use Rattle.def_keeper.specs.declared.mark.StoreDeed.{StoreDeed}
-use Rattle.def_keeper.specs.declared.mark.StoreDeed.TheVariants as deed
+use Rattle.def_keeper.specs.declared.mark.StoreAction.{StoreAction}
+use Rattle.def_keeper.specs.declared.mark.StoreAction.TheVariants as action
 use Rattle.domain_requests.specs.declared.task.Task.{Task}
 use Rattle.domain_requests.specs.declared.task.Task.TheVariants as task
 use Rattle.domain_spec.specs.declared.mark.Mark.{Mark}
@@ -67,15 +67,15 @@ pub list_stands : (before after later : KnownRow) (front : Front) (h : ListCall)
 list_stands before after later front h r on stands =
     subst (λ n. StandsAt before.list later.list front (record { number = n; call = h; answer = r })) (sym on.number) (stands_stays level before.list after.list later.list front _ stands on)
 
-store_mark : (before after later : KnownRow) (d : StoreDeed) → IsLater level after.store later.store
-    → HasLeft before.store after.store (record { number = after.store.number; deed = d }) → HasLeft before.store later.store (record { number = later.store.number; deed = d })
+store_mark : (before after later : KnownRow) (d : StoreAction) → IsLater level after.store later.store
+    → HasLeft before.store after.store (record { number = after.store.number; action = d }) → HasLeft before.store later.store (record { number = later.store.number; action = d })
 store_mark before after later d on left =
-    subst (λ n. HasLeft before.store later.store (record { number = n; deed = d })) (sym on.number) (left_stays level before.store after.store later.store _ left on)
+    subst (λ n. HasLeft before.store later.store (record { number = n; action = d })) (sym on.number) (left_stays level before.store after.store later.store _ left on)
 
-pub store_stands : (before after later : KnownRow) (front : Front) (d : StoreDeed) → IsLater level after.store later.store
-    → StandsAt before.store after.store front (record { number = after.store.number; deed = d }) → StandsAt before.store later.store front (record { number = later.store.number; deed = d })
+pub store_stands : (before after later : KnownRow) (front : Front) (d : StoreAction) → IsLater level after.store later.store
+    → StandsAt before.store after.store front (record { number = after.store.number; action = d }) → StandsAt before.store later.store front (record { number = later.store.number; action = d })
 store_stands before after later front d on stands =
-    subst (λ n. StandsAt before.store later.store front (record { number = n; deed = d })) (sym on.number) (stands_stays level before.store after.store later.store front _ stands on)
+    subst (λ n. StandsAt before.store later.store front (record { number = n; action = d })) (sym on.number) (stands_stays level before.store after.store later.store front _ stands on)
 
 pub asks_stay : (before after later : KnownRow) (asked : Request) (h : ListCall) (t : Task) → IsLater level after.store later.store → Asks before after asked h t → Asks before later asked h t
 asks_stay before after later (request.OnDomain target asked) h t on asks = asks
@@ -85,7 +85,7 @@ asks_stay before after later (request.DomainDefineXml xml) h t on asks = asks
 asks_stay before after later (request.DomainCreateXml xml flags) h t on asks = asks
 asks_stay before after later (request.MigratePrepare xml running state) h t on asks = asks
 asks_stay before after later (request.DomainRestore from) h t on (g, d, restored, held, is) =
-    (g, d, (restored.0, store_mark before after later (deed.ImageRead from (Ok restored.0)) on restored.1, restored.2, restored.3), held, is)
+    (g, d, (restored.0, store_mark before after later (action.ImageRead from (Ok restored.0)) on restored.1, restored.2, restored.3), held, is)
 asks_stay before after later (request.ConnectOpen name flags) h t on asks = absurd asks
 asks_stay before after later request.ConnectClose h t on asks = absurd asks
 asks_stay before after later (request.ListDefinedDomains most) h t on asks = absurd asks
@@ -196,7 +196,7 @@ titles_stay before after later front said on it = record {
 not_restored_stays : (before after later : KnownRow) (from : List ℕ) (front : Front) (why : Refusal) → HasGone after later → IsNotRestored before after from front why → IsNotRestored before later from front why
 not_restored_stays before after later from front why on it = record {
   read = it.read;
-  stands = store_stands before after later front (deed.ImageRead from it.read) on.store it.stands;
+  stands = store_stands before after later front (action.ImageRead from it.read) on.store it.stands;
   is = it.is;
 }
 

@@ -17,7 +17,7 @@ get_front xs ys k x e =
     let lt = slice_get_within xs k x e in
     slice_get-get_or (xs ++ ys) k x (omega (arith, lt, length-append xs ys)) ∙ (ap Some (get_or-append xs ys x k lt) ∙ (sym (slice_get-get_or xs k x lt) ∙ e))
 
--- what stands in a list stands in what it is a front of
+-- what is in a list is in what it is a front of
 pub get_prefix : {A : Type 0} (xs ys : List A) (k : ℕ) (x : A) → slice_get xs k ≡ Some x → IsPrefix xs ys → slice_get ys k ≡ Some x
 get_prefix xs ys k x e front = ap (λ l. slice_get l k) (sym front.1) ∙ get_front xs front.0 k x e
 

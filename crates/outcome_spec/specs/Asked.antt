@@ -2,7 +2,7 @@
 use Rattle.std.specs.Prelude.{◌≡◌, ℕ, List, int_lt, pos, None, Ok, Result}
 use Rattle.book_spec.specs.declared.list.ListCall.{ListCall}
 use Rattle.book_spec.specs.declared.list.ListCall.TheVariants as hold
-use Rattle.def_keeper.specs.declared.mark.StoreDeed.TheVariants as deed
+use Rattle.def_keeper.specs.declared.mark.StoreAction.TheVariants as action
 use Rattle.domain_requests.specs.Requests.{IsTaskOf, parsed_as, passed_one}
 use Rattle.domain_requests.specs.declared.task.Parsed.{Parsed}
 use Rattle.domain_requests.specs.declared.task.Task.{Task}
@@ -33,7 +33,7 @@ claim_of d = hold.Claim d.name (identifier d)
 
 -- the image of this name, as this request read it
 abbrev pub HasReadImage : KnownRow → KnownRow → List ℕ → Result Image ImageFault → Type 0
-HasReadImage before after name r = HasLeft before.store after.store (record { number = after.store.number; deed = deed.ImageRead name r })
+HasReadImage before after name r = HasLeft before.store after.store (record { number = after.store.number; action = action.ImageRead name r })
 
 -- the guest that is restored
 abbrev pub IsRestored : KnownRow → KnownRow → List ℕ → SavedGuest → DomainDef → Type 0

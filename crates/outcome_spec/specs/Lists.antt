@@ -1,4 +1,4 @@
--- Cases: all domains, and those that are not active. The list tells the names and slots, and each row is read of its
+-- Cases: all domains, and those that are not active. The list gives the names and slots, and each row is read of its
 -- cell.
 use Rattle.std.specs.Prelude.{◌≡◌, ◌&&◌, ℕ, List, [], ◌∷◌, bytes_eq, is_none, take, Contains, Option, None, Some, if◌then◌else◌}
 use Rattle.std.specs.Cmp.Lexicographic.{slice_cmp}

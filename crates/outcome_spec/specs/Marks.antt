@@ -4,7 +4,7 @@ use Rattle.virt_types.specs.declared.caller.Front.{Front}
 use Rattle.outcome_spec.specs.Rows.{Known}
 
 module _ {B M : Type 0} where
-  -- a mark of this request: its chapter, and where it stands among the pass's own marks
+  -- a mark of this request: its chapter, and where it is among the pass's own marks
   pub record HasLeft (before after : Known B M) (m : M) : Type 0 where
     pub at : ℕ
     pub chapter : ℕ

@@ -1,6 +1,6 @@
 -- Case: the image that a restore names was not read, or is not that of a save, or its text has no reading.
 use Rattle.std.specs.Prelude.{◌≡◌, ℕ, List, Ok, Err, Result}
-use Rattle.def_keeper.specs.declared.mark.StoreDeed.TheVariants as deed
+use Rattle.def_keeper.specs.declared.mark.StoreAction.TheVariants as action
 use Rattle.store_asks.specs.Restoring.{saved_in, unread}
 use Rattle.store_spec.specs.declared.image.Image.{Image}
 use Rattle.store_spec.specs.declared.image.ImageFault.{ImageFault}
@@ -17,5 +17,5 @@ IsWhy (Err fault) why = why ≡ unread fault
 -- the refusal is that of the mark of this request's read
 pub record IsNotRestored (before after : KnownRow) (from : List ℕ) (front : Front) (why : Refusal) : Type 0 where
   pub read : Result Image ImageFault
-  pub stands : StandsAt before.store after.store front (record { number = after.store.number; deed = deed.ImageRead from read })
+  pub stands : StandsAt before.store after.store front (record { number = after.store.number; action = action.ImageRead from read })
   pub is : IsWhy read why

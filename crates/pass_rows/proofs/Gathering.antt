@@ -129,7 +129,7 @@ module _ {T B M S : Type 0} (K : Meaning T B M S) where
   marks_of ps all [] a b = tt
   marks_of ps all (m ∷ ms) a b = (belongs_of ps all (K.whose m) a b.0, marks_of ps all ms a b.1)
 
-  -- the first stands last in the list of passes
+  -- the first is last in the list of passes
   moved : (own : P) (others : List P) (o : Option ℕ) → BelongsToOne (own ∷ others) o → BelongsToOne (others ++ own ∷ []) o
   moved own others None b = none_of (others ++ own ∷ [])
   moved own [] (Some n) b = b

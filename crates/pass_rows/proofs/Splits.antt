@@ -130,7 +130,7 @@ module _ {TL BL ML SL TS BS MS SS TD BD MD SD G : Type 0} (L : Meaning TL BL ML 
       (All-weaker (IsCutOffRow L S D row) (IsIdleRow L S D) (λ new off. idle_cut_row row new idle off) h.new h.new_are)
       (idle_fewer (count - 1) row idle))
 
-  -- the same, where another maker of guests stands in the row by then
+  -- the same, where another maker of guests is in the row by then
   pub all_of_split : (list store : TableId) (domains : List TableId) (count : ℕ) (row first : PassRow BL ML SL BS MS SS BD MD SD G) (maker : G) (rows : List (PassRow BL ML SL BS MS SS BD MD SD G)) → first ≡ row → IsOf list store domains row → IsSplit L S D count (record first { guests = maker }) rows → All (IsOf list store domains) rows
   all_of_split list store domains count row first maker rows same own h =
       let own' : IsOf list store domains first = subst (IsOf list store domains) (sym same) own in

@@ -1,4 +1,4 @@
-// The passes of a row for things that stand in slots, one for each.
+// The passes of a row for things that are in slots, one for each.
 ghost use Rattle.std.specs.Prelude.{◌≡◌, ◌<◌, ◌++◌, ◌∷◌, length, IsTrue, ◌↔◌};
 ghost use Rattle.std.specs.List.{All};
 ghost use Rattle.pass_rows.specs.Resting.{IsIdle, IsSo};
@@ -7,7 +7,7 @@ use crate::resting::{PassState, RestingPass};
 use std::marker::Model;
 use turn_cell::{Kept, Pass};
 
-/// The passes for what stands in slots, in the order of the slots. Contracts see them as a list.
+/// The passes for what is in slots, in the order of the slots. Contracts see them as a list.
 #[derive(Drop)]
 pub struct Passes<T: Kept> {
     pub(crate) all: Vec<RestingPass<T>>,

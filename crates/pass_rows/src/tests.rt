@@ -1,4 +1,4 @@
-// Rows are taken and put back. Nobody changes what stands in their cells here.
+// Rows are taken and put back. Nobody changes what is in their cells here.
 ghost use Rattle.std.specs.Prelude.{◌≡◌, ◌^◌, IfSome, length, true};
 ghost use Rattle.pass_rows.specs.Resting.{IsIdle};
 ghost use Rattle.pass_rows.specs.Still.{meaning};

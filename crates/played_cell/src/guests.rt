@@ -85,7 +85,7 @@ fn tell_heard<M: Monitor + Drop, E: Ears + Drop, Z: Killer + Drop>(
     }
 }
 
-// The ears tell this event.
+// The ears report this event.
 #[tactic(auto, using(crate::proofs::Ears::lent_out, crate::proofs::Ears::lent_untold, crate::proofs::Ears::keeps_then))]
 fn tell<M: Monitor + Drop, E: Ears + Drop, Z: Killer + Drop>(
     cell: &mut DomainCell<M, E, Z>,
@@ -116,7 +116,7 @@ impl<M: Monitor + Drop, E: Ears + Drop, Z: Killer + Drop> Played<M, E, Z> {
     }
 }
 
-// The ears tell what they hear.
+// The ears report what they hear.
 #[tactic(auto, using(crate::proofs::Ears::lent_out, crate::proofs::Ears::lent_untold, crate::proofs::Ears::keeps_then))]
 fn hear<M: Monitor + Drop, E: Ears + Drop, Z: Killer + Drop>(
     cell: &mut DomainCell<M, E, Z>,

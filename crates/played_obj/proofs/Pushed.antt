@@ -1,4 +1,4 @@
--- What is so of all in a list is so with one more behind it.
+-- What is so of all in a list is so with one more after it.
 use Rattle.std.proofs.Common.{◌≡◌, List, [], ◌∷◌, ◌++◌, All, sym, subst}
 use Rattle.std.proofs.lemmas.List.Elements.{All-push}
 use Rattle.atomic_table.specs.Seated.{TableId}

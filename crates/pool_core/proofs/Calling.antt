@@ -1,4 +1,4 @@
--- What a call tells and leaves, once the table and the history went on together.
+-- What a call answers and leaves, once the table and the history went on together.
 use Rattle.std.proofs.Common.{◌≡◌, inl, inr, Bool, ℕ, ◌<◌, List, [], length, Result, Ok, Err, refl, sym, ap, ◌∙◌, subst, arith}
 use Rattle.virt_types.specs.declared.storage_def.PoolDef.{PoolDef}
 use Rattle.virt_types.specs.declared.refusal.Refusal.{Refusal}

@@ -21,7 +21,7 @@ use std::marker::Model;
 use std::snapshot::Snapshot;
 use virt_types::{Name, NameList, NoMemory, PoolDef, PoolRowList, Refusal, Uuid, VolDef};
 
-/// The book of pools. Contracts see its history: what stands in it is told by the chapter's base
+/// The book of pools. Contracts see its history: what is in it is shown by the chapter's base
 /// and its marks.
 #[derive(Drop)]
 pub struct PoolBook {
@@ -52,7 +52,7 @@ impl PoolBook {
     }
 
     /// Whether a pool may be defined so. `PoolExists` where its name or its identifier is held
-    /// with another, `OperationInvalid` where it is active, `ListFull` where 64 others stand in the
+    /// with another, `OperationInvalid` where it is active, `ListFull` where 64 others are in the
     /// book. After `Ok` the change goes through the store, and then comes `define` or `refuse`.
     pub fn may_define(&mut self, def: &PoolDef) -> Result<(), Refusal>
         ghost number: { ℕ }

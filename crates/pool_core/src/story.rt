@@ -6,7 +6,7 @@ ghost use Rattle.pool_spec.specs.PoolHistory.{PoolHistory};
 use std::marker::{Model, PhantomData};
 
 /// What happened to the book. Contracts alone see it, and it takes no bytes. Whoever makes one says
-/// what it tells.
+/// what it says.
 #[derive(Drop)]
 pub struct Story {
     of: PhantomData<u64>,

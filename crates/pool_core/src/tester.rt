@@ -51,7 +51,7 @@ pub(crate) fn volume(alloc: Global, called: &str, bytes: u64) -> Result<VolDef, 
     })
 }
 
-// What a test tells where the numbers of chapters are used up.
+// What a test answers where the numbers of chapters are used up.
 fn spent(alloc: Global) -> Refusal {
     Refusal {
         code: RefusalCode::NoMemory,

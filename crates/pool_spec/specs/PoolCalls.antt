@@ -1,4 +1,4 @@
--- What each call of the book of pools answers, and what stands in the book after it.
+-- What each call of the book of pools answers, and what is in the book after it.
 use Rattle.std.specs.Prelude.{ℕ, Bool, true, false, nat_lt, length, List, [], ◌∷◌, ◌++◌, bytes_eq, is_some, codes, decimal, Option, None, Some, if◌then◌else◌}
 use Rattle.uuid.specs.Text.{hyphenated_text, lower}
 use Rattle.virt_types.specs.declared.storage_def.PoolDef.{PoolDef}
@@ -60,11 +60,11 @@ abbrev pub if_active : List ℕ → Option Pool → PoolAnswer
 if_active uuid None = Refused (no_pool uuid)
 if_active uuid (Some pool) = if pool.active then Done else Refused is_inactive
 
--- the name stands in the book: it has to be that of the same identifier
+-- the name is in the book: it has to be that of the same identifier
 abbrev pub redefined : List ℕ → Pool → PoolAnswer
 redefined uuid pool = if bytes_eq (uuid_of pool) uuid then if_inactive uuid (Some pool) else Refused (pool_exists (hyphenated_text lower (uuid_of pool)))
 
--- neither the name nor the identifier stands in the book
+-- neither the name nor the identifier is in the book
 abbrev pub newly_defined : Pools → PoolAnswer
 newly_defined pools = if nat_lt (length pools) most_pools then Done else Refused (list_full most_pools)
 

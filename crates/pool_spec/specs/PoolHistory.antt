@@ -1,4 +1,4 @@
--- The history of the book of pools: what stood in it when the chapter began, and a mark for each call.
+-- The history of the book of pools: what was in it when the chapter began, and a mark for each call.
 use Rattle.std.specs.Prelude.{◌≡◌, ◌⊎◌, ℕ, ◌+◌, ◌<◌, ◌++◌, nat_lt, [], ◌∷◌, length, Result, Ok, Err, if◌then◌else◌}
 use Rattle.std.specs.List.{fold}
 use Rattle.history_spec.specs.declared.history.History.{History}

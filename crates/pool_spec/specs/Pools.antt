@@ -8,7 +8,7 @@ use Rattle.pool_spec.specs.declared.book.Pool.{Pool}
 abbrev pub Pools : Type 0
 Pools = List Pool
 
--- at most as many pools stand in the book
+-- at most as many pools are in the book
 abbrev pub most_pools : ℕ
 most_pools = 64
 

@@ -4,7 +4,7 @@ use Rattle.std.specs.List.{sum_by}
 use Rattle.virt_types.specs.declared.storage_def.VolDef.{VolDef}
 use Rattle.pool_spec.specs.declared.book.Pool.{Pool}
 
--- at most as many volumes stand in a pool
+-- at most as many volumes are in a pool
 abbrev pub most_volumes : ℕ
 most_volumes = 256
 

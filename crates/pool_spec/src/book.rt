@@ -1,4 +1,4 @@
-//! The book of storage pools: what stands in it, and what its calls are and answer.
+//! The book of storage pools: what is in it, and what its calls are and answer.
 use std::collections::LinkedList;
 use virt_types::{Name, PoolDef, Refusal, Uuid, VolDef};
 

@@ -1,4 +1,4 @@
--- What the table answers, before a want of memory is a refusal too.
+-- What the table answers, before being out of memory is a refusal too.
 use Rattle.std.specs.Prelude.{◌≡◌, Result, Ok, Err}
 use Rattle.virt_types.specs.declared.refusal.Refusal.{Refusal}
 use Rattle.virt_types.specs.declared.memory.OrNoMemory.{OrNoMemory}
@@ -15,7 +15,7 @@ Tells (Ok done) given = given ≡ Done
 Tells (Err (Fault refusal)) given = given ≡ Refused refusal
 Tells (Err NoMemory) given = Unit {0}
 
--- a want of memory is a refusal too
+-- being out of memory is a refusal too
 abbrev pub plain_of : {A : Type 0} → Result A (OrNoMemory Refusal) → Result A Refusal
 plain_of (Ok value) = Ok value
 plain_of (Err (Fault refusal)) = Err refusal

@@ -13,7 +13,7 @@ use std::marker::Model;
 use std::mem;
 use virt_types::{Name, NameList, NoMemory, OrNoMemory, PoolDef, PoolRow, TryCopy, Uuid, VolDef};
 
-/// At most as many volumes stand in a pool.
+/// At most as many volumes are in a pool.
 const MOST_VOLUMES: usize = 256;
 
 /// A pool with its volumes. `allocated` is how many bytes they take together, so that no call adds

@@ -158,7 +158,7 @@ pub(crate) fn volume_missing(alloc: Global, name: &Name) -> OrNoMemory<Refusal>
     why(alloc, RefusalCode::NoVolume, name.as_str())
 }
 
-/// What a caller is told: a want of memory is a refusal, too.
+/// What a caller is told: being out of memory is a refusal, too.
 pub fn plain<T>(alloc: Global, given: Result<T, OrNoMemory<Refusal>>) -> Result<T, Refusal>
     ensures { result ≡ plain_of given }
 {

@@ -22,7 +22,7 @@ use virt_types::{
     Uuid, VolDef,
 };
 
-/// At most as many pools stand in the book.
+/// At most as many pools are in the book.
 const MOST_POOLS: usize = 64;
 
 /// The pools, in the order in which they were first defined. It has room for as many as there

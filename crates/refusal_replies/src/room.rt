@@ -37,7 +37,7 @@ impl Model for ReplyRoom {
     ghost invariant = { λ r. (string_bytes r.text ≡ []) × ((string_len r.text ≡ 0) × (40 ≤ string_capacity r.text)) };
 }
 
-// Puts a text behind another, into room that is there.
+// Puts a text after another, into room that is there.
 fn put(text: &mut String, more: &str)
     requires { string_len text.old + length more.now ≤ string_capacity text.old }
     ensures bytes { string_bytes text.new ≡ string_bytes text.old ++ more.now }

@@ -39,7 +39,7 @@ fn in_place_of(alloc: Global, value: &Value) -> Result<Option<Value>, NoMemory>
     })
 }
 
-/// A value of a domain's cell as its caller is told it: a reference without what lists alone tell; a definition, a running
+/// A value of a domain's cell as its caller is told it: a reference without what lists alone give; a definition, a running
 /// domain, a snapshot and a guest that leaves by their texts; and any other as it is.
 pub fn print_value(alloc: Global, value: Value) -> Result<Value, NoMemory>
     ensures { IfOk result (λ v. v ≡ printed value) }

@@ -1,10 +1,10 @@
--- The last mark that a pass left, and where it stands.
+-- The last mark that a pass left, and where it is.
 use Rattle.std.proofs.Common.{◌≡◌, ℕ, ◌<◌, ◌≤◌, ◌+◌, ◌-◌, ◌++◌, List, [], ◌∷◌, length, Some, slice_get, refl, sym, ap, ◌∙◌, length-append, le_refl, arith}
 use Rattle.outcome_spec.specs.Histories.{front_of}
 use Rattle.outcome_spec.specs.Marks.{HasLeft, StandsAt}
 use Rattle.outcome_spec.specs.Rows.{Known}
 
--- what stands behind a list
+-- what comes after a list
 get_behind : {A : Type 0} (xs : List A) (x : A) → slice_get (xs ++ x ∷ []) (length xs) ≡ Some x
 get_behind [] x = refl
 get_behind (y ∷ xs) x = get_behind xs x

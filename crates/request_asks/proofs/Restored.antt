@@ -3,8 +3,8 @@ use Rattle.std.proofs.Common.{◌≡◌, ◌∙◌, ◌⊎◌, ◌++◌, ℕ, Li
 use Rattle.domain_requests.specs.Requests.{IsUnnamed}
 use Rattle.def_keeper.specs.Chapters.{by}
 use Rattle.def_keeper.specs.declared.mark.StoreBase.{StoreBase}
-use Rattle.def_keeper.specs.declared.mark.StoreDeed.{StoreDeed}
-use Rattle.def_keeper.specs.declared.mark.StoreDeed.TheVariants as deed
+use Rattle.def_keeper.specs.declared.mark.StoreAction.{StoreAction}
+use Rattle.def_keeper.specs.declared.mark.StoreAction.TheVariants as action
 use Rattle.def_keeper.specs.declared.mark.StoreMark.{StoreMark}
 use Rattle.files_disk.specs.Telling.{Told}
 use Rattle.history_spec.specs.Chapter.{tagged}
@@ -57,39 +57,39 @@ module _ {F : Type 0} (told : F → Told) (faults : F → ℕ) where
   mine_after from saved m before after h one = subst (λ (more : List StoreMark). after.mine ≡ before.mine ++ tagged after.seen.chapter more) one h.went.mine
 
   -- by its number
-  numbered : (from : List ℕ) (saved : Result SavedGuest (OrNoMemory Refusal)) (d : StoreDeed) (before after : StorePass) (h : HasReadSaved told faults from saved before after) → h.more ≡ by before.number d ∷ [] → h.more ≡ by after.number d ∷ []
+  numbered : (from : List ℕ) (saved : Result SavedGuest (OrNoMemory Refusal)) (d : StoreAction) (before after : StorePass) (h : HasReadSaved told faults from saved before after) → h.more ≡ by before.number d ∷ [] → h.more ≡ by after.number d ∷ []
   numbered from saved d before after h one = one ∙ ap (λ (n : ℕ). by n d ∷ []) (sym h.went.same.number)
 
-  left_read : (from : List ℕ) (saved : Result SavedGuest (OrNoMemory Refusal)) (d : StoreDeed) (before after : StorePass) (h : HasReadSaved told faults from saved before after) → h.more ≡ by before.number d ∷ [] → HasLeft (known before) (known after) (by after.number d)
+  left_read : (from : List ℕ) (saved : Result SavedGuest (OrNoMemory Refusal)) (d : StoreAction) (before after : StorePass) (h : HasReadSaved told faults from saved before after) → h.more ≡ by before.number d ∷ [] → HasLeft (known before) (known after) (by after.number d)
   left_read from saved d before after h one = left_one (known before) (known after) after.seen.chapter (by after.number d) (mine_after from saved (by after.number d) before after h (numbered from saved d before after h one))
 
   -- ---- a guest
   read_guest : (from : List ℕ) (g : SavedGuest) (before after : StorePass) (h : HasReadSaved told faults from (Ok g) before after) → ReadTells before.number from (Ok g) h.more → HasReadGuest before after from g
-  read_guest from g before after h (inl (Ok i, one, tells)) = (i, left_read from (Ok g) (deed.ImageRead from (Ok i)) before after h one, tells)
+  read_guest from g before after h (inl (Ok i, one, tells)) = (i, left_read from (Ok g) (action.ImageRead from (Ok i)) before after h one, tells)
   read_guest from g before after h (inl (Err f, one, tells)) = absurd cc
   read_guest from g before after h (inr (none, tells)) = absurd cc
 
   restores : (words from : List ℕ) (g : SavedGuest) (a : Asked) (before after : StorePass) → bad_place from ≡ None → HasReadGuest before after from g → IsToRestore words g a → IsFound before after words (request.DomainRestore from) a
   restores words from g a before after good (i, left, is_saved) it = subst (IsFound before after words (request.DomainRestore from)) (sym it.asks) (record {
-    asks = λ old new one other. (g, it.definition, (i, subst (λ (s : StoreKnown × StoreKnown). HasLeft s.0 s.1 (by s.1.number (deed.ImageRead from (Ok i)))) (λ j. (sym one j, sym other j)) left, is_saved, (words, it.filled)), it.claims, refl);
+    asks = λ old new one other. (g, it.definition, (i, subst (λ (s : StoreKnown × StoreKnown). HasLeft s.0 s.1 (by s.1.number (action.ImageRead from (Ok i)))) (λ j. (sym one j, sym other j)) left, is_saved, (words, it.filled)), it.claims, refl);
     heard = heard from good;
     plain = tt;
     made = (g, it.definition, ((i, left, is_saved), it.filled), refl);
   })
 
   -- ---- no guest
-  stands_read : (from : List ℕ) (saved : Result SavedGuest (OrNoMemory Refusal)) (front : Front) (d : StoreDeed) (before after : StorePass) (h : HasRead told faults from saved front before after) → h.read.more ≡ by before.number d ∷ [] → StandsAt (known before) (known after) front (by after.number d)
+  stands_read : (from : List ℕ) (saved : Result SavedGuest (OrNoMemory Refusal)) (front : Front) (d : StoreAction) (before after : StorePass) (h : HasRead told faults from saved front before after) → h.read.more ≡ by before.number d ∷ [] → StandsAt (known before) (known after) front (by after.number d)
   stands_read from saved front d before after h one =
       let is : h.read.more ≡ by after.number d ∷ [] = numbered from saved d before after h.read one in
       let ends : EndsIn after.seen (by after.number d ∷ []) = subst (λ (more : List StoreMark). EndsIn after.seen more) is h.ends in
       subst (λ (f : Front). StandsAt (known before) (known after) f (by after.number d)) (sym h.place)
       (stands_last (known before) (known after) ends.0 (by after.number d) (mine_after from saved (by after.number d) before after h.read is) ends.1)
 
-  not_restored : (from : List ℕ) (why : Refusal) (front : Front) (r : Result Image ImageFault) (before after : StorePass) → StandsAt (known before) (known after) front (by after.number (deed.ImageRead from r)) → IsWhy r why
+  not_restored : (from : List ℕ) (why : Refusal) (front : Front) (r : Result Image ImageFault) (before after : StorePass) → StandsAt (known before) (known after) front (by after.number (action.ImageRead from r)) → IsWhy r why
       → (old new : KnownRow) → old.store ≡ known before → new.store ≡ known after → IsNotRestored old new from front why
   not_restored from why front r before after stands is old new one other = record {
     read = r;
-    stands = subst (λ (s : StoreKnown × StoreKnown). StandsAt s.0 s.1 front (by s.1.number (deed.ImageRead from r))) (λ j. (sym one j, sym other j)) stands;
+    stands = subst (λ (s : StoreKnown × StoreKnown). StandsAt s.0 s.1 front (by s.1.number (action.ImageRead from r))) (λ j. (sym one j, sym other j)) stands;
     is = is;
   }
 
@@ -100,7 +100,7 @@ module _ {F : Type 0} (told : F → Told) (faults : F → ℕ) where
   refuses : (from : List ℕ) (why : Refusal) (front : Front) (before after : StorePass) → bad_place from ≡ None → (h : HasRead told faults from (Err (or.Fault why)) front before after) → ReadTells before.number from (Err (or.Fault why)) h.read.more
       → IsFound before after [] (request.DomainRestore from) (asked.NotRestored why front)
   refuses from why front before after good h (inl (r, one, tells)) = record {
-    asks = not_restored from why front r before after (stands_read from (Err (or.Fault why)) front (deed.ImageRead from r) before after h one) (why_not why r tells);
+    asks = not_restored from why front r before after (stands_read from (Err (or.Fault why)) front (action.ImageRead from r) before after h one) (why_not why r tells);
     heard = heard from good;
     plain = tt;
     made = refl;

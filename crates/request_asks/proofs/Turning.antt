@@ -13,7 +13,7 @@ use Rattle.virt_types.specs.declared.memory.OrNoMemory.{OrNoMemory}
 use Rattle.virt_types.specs.declared.memory.OrNoMemory.TheVariants as or
 use Rattle.virt_types.specs.declared.refusal.Refusal.{Refusal}
 use Rattle.def_keeper.specs.declared.mark.StoreBase.{StoreBase}
-use Rattle.def_keeper.specs.declared.mark.StoreDeed.TheVariants as deed
+use Rattle.def_keeper.specs.declared.mark.StoreAction.TheVariants as action
 use Rattle.def_keeper.specs.declared.mark.StoreMark.{StoreMark}
 use Rattle.def_keeper.specs.Chapters.{by, with_marks}
 use Rattle.def_keeper.specs.Imaging.{HasRead as HasMarked}
@@ -31,8 +31,8 @@ StoreTurn F = Turned (Keeping F) StoreBase StoreMark (Unit {0})
 
 -- the marks of a read
 abbrev marks_of : ℕ → List ℕ → Result Image (OrNoMemory ImageFault) → List StoreMark
-marks_of number name (Ok i) = by number (deed.ImageRead name (Ok i)) ∷ []
-marks_of number name (Err (or.Fault f)) = by number (deed.ImageRead name (Err f)) ∷ []
+marks_of number name (Ok i) = by number (action.ImageRead name (Ok i)) ∷ []
+marks_of number name (Err (or.Fault f)) = by number (action.ImageRead name (Err f)) ∷ []
 marks_of number name (Err or.NoMemory) = []
 
 marked : (number : ℕ) (name : List ℕ) (old new : StoreHistory) (r : Result Image (OrNoMemory ImageFault)) → HasMarked number name old new r → new ≡ with_marks (marks_of number name r) old

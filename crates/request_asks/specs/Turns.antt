@@ -34,7 +34,7 @@ IsOnly words is a = (words ≡ []) × (a ≡ is)
 abbrev pub IsRestoredGuest : List ℕ → SavedGuest → Asked → Type 0
 IsRestoredGuest words g a = IsToRestore words g a ⊎ IsOnly words asked.NoMemory a
 
--- what comes of a read whose mark stands at this place
+-- what comes of a read whose mark is at this place
 abbrev pub IsRestoredBy : List ℕ → Result SavedGuest (OrNoMemory Refusal) → Front → Asked → Type 0
 IsRestoredBy words (Ok g) front a = IsRestoredGuest words g a
 IsRestoredBy words (Err (or.Fault why)) front a = IsOnly words (asked.NotRestored why front) a

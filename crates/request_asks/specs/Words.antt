@@ -1,7 +1,7 @@
 -- Of which words a task is made: those that were drawn for what a definition, or a device, lacked.
 use Rattle.std.specs.Prelude.{◌≡◌, ℕ, List, [], int_lt, pos, Ok}
 use Rattle.def_keeper.specs.Chapters.{by}
-use Rattle.def_keeper.specs.declared.mark.StoreDeed.TheVariants as deed
+use Rattle.def_keeper.specs.declared.mark.StoreAction.TheVariants as action
 use Rattle.domain_requests.specs.Requests.{IsTaskOf, parsed_as}
 use Rattle.domain_requests.specs.declared.task.Parsed.{Parsed}
 use Rattle.domain_requests.specs.declared.task.Task.{Task}
@@ -26,7 +26,7 @@ IsDefinitionBy words xml d = (read : DomainDef) × (definition_in xml ≡ Ok rea
 -- the guest of an image that the pass read meanwhile
 abbrev pub HasReadGuest : StorePass → StorePass → List ℕ → SavedGuest → Type 0
 HasReadGuest before after from g =
-    (i : Image) × HasLeft (known before) (known after) (by after.number (deed.ImageRead from (Ok i))) × (saved_in i ≡ Ok g)
+    (i : Image) × HasLeft (known before) (known after) (by after.number (action.ImageRead from (Ok i))) × (saved_in i ≡ Ok g)
 
 -- its definition, with what it lacked made of these words
 abbrev pub IsGuestBy : StorePass → StorePass → List ℕ → List ℕ → SavedGuest → DomainDef → Type 0

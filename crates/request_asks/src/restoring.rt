@@ -30,7 +30,7 @@ fn front_in<F: Files, K: Opening>(turn: &mut KeeperTurn<F, K>) -> Front
     }
 }
 
-/// Reads an image in a turn of its own, and says where the mark of that stands. Where no ticket is left, the pass comes
+/// Reads an image in a turn of its own, and says where the mark of that is. Where no ticket is left, the pass comes
 /// back.
 fn read_guest<W: Wait, F: Files + Drop, K: Opening>(
     rt: &W,
@@ -76,7 +76,7 @@ fn restore_guest<R: Random>(alloc: Global, guest: SavedGuest, random: &mut R) ->
     }
 }
 
-/// What comes of a read whose mark stands at this place.
+/// What comes of a read whose mark is at this place.
 fn restored<R: Random>(alloc: Global, saved: SavedRead, front: Front, random: &mut R) -> Asked
     ensures { IsMadeOfDrawn (λ words. IsRestoredBy words saved front result) (R.drawn random.old) (R.drawn random.new) }
 {

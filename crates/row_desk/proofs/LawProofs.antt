@@ -43,12 +43,12 @@ module _ {X : Type 0} where
   was_there : (p : X → Bool) (xs : List X) (x : X) → Contains (filter p xs) x → Contains xs x
   was_there p xs x has = All-contains (Contains xs) (filter p xs) x (All-filter p (Contains xs) xs (All-contains_itself xs)) has
 
-  -- what stands in the second of two lists
+  -- what is in the second of two lists
   stands_behind : (xs ys : List X) (x : X) (k : ℕ) → k < length ys → get_or ys k x ≡ x → slice_get (xs ++ ys) (length xs + k) ≡ Some x
   stands_behind xs ys x k lt is = slice_get-get_or (xs ++ ys) (length xs + k) x (omega (arith, lt, length-append xs ys)) ∙ ap Some (get_or-append-add xs ys k x ∙ is)
 
 -- ---- marks
--- a mark that tells, among these
+-- a mark that gives the answer, among these
 abbrev pub HasOne : ℕ → StoreHistory → List (ℕ × StoreMark) → Ask × Answer → Type 0
 HasOne number seen ms p = (m : ℕ × StoreMark) × Contains ms m × IsStored number seen p m
 
@@ -78,4 +78,4 @@ marks_there disk report first now asked served has stored =
     let here : Contains (stored_in report) asked = passes (λ (p : Ask × Answer). is_stored p.0) report asked has stored in
     let one : HasOne first.number now.seen (answers_in served.more) asked =
     All-contains (HasOne first.number now.seen (answers_in served.more)) (stored_in report) asked (have_marks first.number now.seen (stored_in report) (answers_in served.more) served.stored) here in
-    among first now asked served.more one.0 served.goes.went.mine (was_there (λ (m : ℕ × StoreMark). not (is_tried m.1.deed)) served.more one.0 one.1) one.2
+    among first now asked served.more one.0 served.goes.went.mine (was_there (λ (m : ℕ × StoreMark). not (is_tried m.1.action)) served.more one.0 one.1) one.2

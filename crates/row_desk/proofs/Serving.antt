@@ -63,7 +63,7 @@ module _ {F : Type 0} (disk : F → Told) where
   stored_so xs ys = filter-append (λ (p : Ask × Answer). is_stored p.0) xs ys
 
   answers_so : (xs ys : List (ℕ × StoreMark)) → answers_in (xs ++ ys) ≡ answers_in xs ++ answers_in ys
-  answers_so xs ys = filter-append (λ (m : ℕ × StoreMark). not (is_tried m.1.deed)) xs ys
+  answers_so xs ys = filter-append (λ (m : ℕ × StoreMark). not (is_tried m.1.action)) xs ys
 
   serves_nothing : (p : StorePass) → HasServed disk [] p p
   serves_nothing p = record { turns = 0; more = []; goes = goes_nowhere p; stored = tt }

@@ -1,4 +1,4 @@
--- What the marks of the store tell goes on as its pass does.
+-- What the marks of the store say goes on as its pass does.
 use Rattle.std.proofs.Common.{◌≡◌, ◌≢◌, ◌∙◌, ◌++◌, ◌⊎◌, ℕ, Bool, true, false, List, [], ◌∷◌, Option, None, Some, Result, Ok, Err, ap, append-nil, append_assoc, arith, inl, inr, refl, subst, sym}
 use Rattle.std.specs.Prelude.{◌<◌, ◌≤◌, ◌-◌, filter, length, not, slice_get, if◌then◌else◌}
 use Rattle.std.proofs.Math.ListN.{get_or-append, length-append}
@@ -13,13 +13,13 @@ use Rattle.domain_spec.specs.Types.{Answer, Ask}
 use Rattle.domain_spec.specs.Types.ask
 use Rattle.domain_spec.specs.Types.answer
 use Rattle.def_keeper.specs.declared.mark.StoreBase.{StoreBase}
-use Rattle.def_keeper.specs.declared.mark.StoreDeed.{StoreDeed}
-use Rattle.def_keeper.specs.declared.mark.StoreDeed.TheVariants as deed
+use Rattle.def_keeper.specs.declared.mark.StoreAction.{StoreAction}
+use Rattle.def_keeper.specs.declared.mark.StoreAction.TheVariants as action
 use Rattle.def_keeper.specs.declared.mark.StoreMark.{StoreMark}
 use Rattle.def_keeper.specs.Chapters.{by}
 use Rattle.def_keeper.specs.Marks.{StoreHistory}
 use Rattle.store_asks.specs.Keeping.{front_of}
-use Rattle.store_asks.specs.Told.{IsDeedOf}
+use Rattle.store_asks.specs.Told.{IsActionOf}
 use Rattle.store_asks.specs.Turning.{AreTried, EndsIn, IsTried, LastTells, MarksTell}
 use Rattle.domain_obj.specs.OfCells.{told}
 use Rattle.row_desk.specs.Asking.{IsForStore}
@@ -43,51 +43,51 @@ get_last xs x =
     slice_get-get_or (xs ++ x ∷ []) (length xs) x (omega (arith, length-append xs (x ∷ []))) ∙ ap Some (get_or-append_seam xs x [] x) in
     subst (λ (k : ℕ). slice_get (xs ++ x ∷ []) k ≡ Some x) (sym (one_longer xs x)) at
 
--- ---- which marks tell
-tried_is : (d : StoreDeed) → IsTried d → is_tried d ≡ true
-tried_is (deed.Tried c) it = refl
-tried_is (deed.Changed c r moment) it = absurd it
-tried_is (deed.ImageWritten name i r) it = absurd it
-tried_is (deed.ImageRead name r) it = absurd it
+-- ---- which marks give an answer
+tried_is : (d : StoreAction) → IsTried d → is_tried d ≡ true
+tried_is (action.Tried c) it = refl
+tried_is (action.Changed c r moment) it = absurd it
+tried_is (action.ImageWritten name i r) it = absurd it
+tried_is (action.ImageRead name r) it = absurd it
 
-filter_out : (c : ℕ) (m : StoreMark) (ms : List StoreMark) → is_tried m.deed ≡ true → answers_in (tagged c (m ∷ ms)) ≡ answers_in (tagged c ms)
+filter_out : (c : ℕ) (m : StoreMark) (ms : List StoreMark) → is_tried m.action ≡ true → answers_in (tagged c (m ∷ ms)) ≡ answers_in (tagged c ms)
 filter_out c m ms e =
     let x : ℕ × StoreMark = (c, m) in
     subst (λ (b : Bool). (if not b then x ∷ answers_in (tagged c ms) else answers_in (tagged c ms)) ≡ answers_in (tagged c ms)) (sym e) refl
 
--- what was only tried tells no answer
+-- what was only tried gives no answer
 pub tried_tell : (c : ℕ) (ms : List StoreMark) → AreTried ms → answers_in (tagged c ms) ≡ []
 tried_tell c [] tried = refl
-tried_tell c (m ∷ ms) tried = filter_out c m ms (tried_is m.deed tried.0) ∙ tried_tell c ms tried.1
+tried_tell c (m ∷ ms) tried = filter_out c m ms (tried_is m.action tried.0) ∙ tried_tell c ms tried.1
 
-told_by : (q : Ask) (front : Front) (a : Answer) (d : StoreDeed) → IsDeedOf q front a d → is_tried d ≡ false
-told_by (ask.Put x on) front a (deed.Changed c r moment) it = refl
-told_by (ask.Put x on) front a (deed.Tried c) it = absurd it
-told_by (ask.Put x on) front a (deed.ImageWritten name i r) it = absurd it
-told_by (ask.Put x on) front a (deed.ImageRead name r) it = absurd it
-told_by (ask.Drop uuid) front a (deed.Changed c r moment) it = refl
-told_by (ask.Drop uuid) front a (deed.Tried c) it = absurd it
-told_by (ask.Drop uuid) front a (deed.ImageWritten name i r) it = absurd it
-told_by (ask.Drop uuid) front a (deed.ImageRead name r) it = absurd it
-told_by (ask.WriteImage n k x running bytes) front a (deed.ImageWritten name i r) it = refl
-told_by (ask.WriteImage n k x running bytes) front a (deed.Changed c r moment) it = absurd it
-told_by (ask.WriteImage n k x running bytes) front a (deed.Tried c) it = absurd it
-told_by (ask.WriteImage n k x running bytes) front a (deed.ImageRead name r) it = absurd it
+told_by : (q : Ask) (front : Front) (a : Answer) (d : StoreAction) → IsActionOf q front a d → is_tried d ≡ false
+told_by (ask.Put x on) front a (action.Changed c r moment) it = refl
+told_by (ask.Put x on) front a (action.Tried c) it = absurd it
+told_by (ask.Put x on) front a (action.ImageWritten name i r) it = absurd it
+told_by (ask.Put x on) front a (action.ImageRead name r) it = absurd it
+told_by (ask.Drop uuid) front a (action.Changed c r moment) it = refl
+told_by (ask.Drop uuid) front a (action.Tried c) it = absurd it
+told_by (ask.Drop uuid) front a (action.ImageWritten name i r) it = absurd it
+told_by (ask.Drop uuid) front a (action.ImageRead name r) it = absurd it
+told_by (ask.WriteImage n k x running bytes) front a (action.ImageWritten name i r) it = refl
+told_by (ask.WriteImage n k x running bytes) front a (action.Changed c r moment) it = absurd it
+told_by (ask.WriteImage n k x running bytes) front a (action.Tried c) it = absurd it
+told_by (ask.WriteImage n k x running bytes) front a (action.ImageRead name r) it = absurd it
 told_by (ask.Lease network mac) front a d it = absurd it
 told_by (ask.Command c) front a d it = absurd it
 told_by (ask.Make x boot) front a d it = absurd it
 
-filter_in : (c : ℕ) (m : StoreMark) → is_tried m.deed ≡ false → answers_in (tagged c (m ∷ [])) ≡ (c, m) ∷ []
+filter_in : (c : ℕ) (m : StoreMark) → is_tried m.action ≡ false → answers_in (tagged c (m ∷ [])) ≡ (c, m) ∷ []
 filter_in c m e =
     let x : ℕ × StoreMark = (c, m) in
     subst (λ (b : Bool). (if not b then x ∷ [] else []) ≡ x ∷ []) (sym e) refl
 
 answers_more : (c : ℕ) (xs ys : List StoreMark) → answers_in (tagged c (xs ++ ys)) ≡ answers_in (tagged c xs) ++ answers_in (tagged c ys)
 answers_more c xs ys =
-    ap answers_in (map-append (λ (m : StoreMark). (c, m)) xs ys) ∙ filter-append (λ (m : ℕ × StoreMark). not (is_tried m.1.deed)) (tagged c xs) (tagged c ys)
+    ap answers_in (map-append (λ (m : StoreMark). (c, m)) xs ys) ∙ filter-append (λ (m : ℕ × StoreMark). not (is_tried m.1.action)) (tagged c xs) (tagged c ys)
 
--- the last mark is the one that tells
-last_tells : (c : ℕ) (first : List StoreMark) (m : StoreMark) → AreTried first → is_tried m.deed ≡ false → answers_in (tagged c (first ++ m ∷ [])) ≡ (c, m) ∷ []
+-- the last mark is the one that gives the answer
+last_tells : (c : ℕ) (first : List StoreMark) (m : StoreMark) → AreTried first → is_tried m.action ≡ false → answers_in (tagged c (first ++ m ∷ [])) ≡ (c, m) ∷ []
 last_tells c first m tried e =
     answers_more c first (m ∷ []) ∙ (ap (λ (l : List (ℕ × StoreMark)). l ++ answers_in (tagged c (m ∷ []))) (tried_tell c first tried) ∙ filter_in c m e)
 
@@ -108,7 +108,7 @@ last_stored number seen q a more (earlier, ends) (first, d, last, tells, tried) 
     let is : seen.marks ≡ (earlier ++ first) ++ by number d ∷ [] = ends_so earlier more first seen.marks (by number d) ends last in
     let one : IsStored number seen (q, a) (seen.chapter, by number d) = record {
       front = front_of seen;
-      deed = d;
+      action = d;
       is = refl;
       answers = tells;
       so_far = omega arith;
@@ -167,16 +167,16 @@ stored_more number seen (p ∷ ps) qs (m ∷ ms) ks a b = (a.0, stored_more numb
 place_later : (number : ℕ) (s t : StoreHistory) (p : Ask × Answer) (m : ℕ × StoreMark) → Begins (λ (b : StoreBase) (l : List StoreMark). 0) s t → IsStored number s p m → IsStored number t p m
 place_later number s t p m (inl same) it = record {
   front = it.front;
-  deed = it.deed;
+  action = it.action;
   is = it.is;
   answers = it.answers;
   so_far = subst (λ (c : ℕ). it.front.chapter ≤ c) same.chapter it.so_far;
   some = it.some;
-  place = λ e. get_prefix s.marks t.marks (it.front.marks - 1) (by number it.deed) (it.place (e ∙ sym same.chapter)) same.marks;
+  place = λ e. get_prefix s.marks t.marks (it.front.marks - 1) (by number it.action) (it.place (e ∙ sym same.chapter)) same.marks;
 }
 place_later number s t p m (inr later) it = record {
   front = it.front;
-  deed = it.deed;
+  action = it.action;
   is = it.is;
   answers = it.answers;
   so_far = omega (arith, it.so_far, later.chapter);

@@ -7,7 +7,7 @@ use Rattle.row_desk.specs.Served.{HasServed}
 use Rattle.row_desk.specs.Stored.{IsStored, is_stored}
 use Rattle.def_keeper.specs.declared.mark.StoreMark.{StoreMark}
 
--- a mark of the pass, made since it was this one, tells the answer
+-- a mark of the pass, made since it was this one, gives the answer
 pub record HasMark (first now : StorePass) (asked : Ask × Answer) : Type 0 where
   pub at : ℕ
   pub mark : ℕ × StoreMark

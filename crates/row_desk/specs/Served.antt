@@ -17,7 +17,7 @@ pub record Goes {F : Type 0} (told : F → Told) (turns : ℕ) (more : List (ℕ
   pub went : Went (meaning told) turns more (record before { spent = after.spent }) after
   pub spent : before.spent ≡ true → after.spent ≡ true
 
--- what the store was asked since the desk was handed its pass is, in order, what the marks tell that the pass left since
+-- what the store was asked since the desk was handed its pass is, in order, what the marks say that the pass left since
 pub record HasServed {F : Type 0} (told : F → Told) (report : List (Ask × Answer)) (first now : StorePass) : Type 0 where
   pub turns : ℕ
   pub more : List (ℕ × StoreMark)

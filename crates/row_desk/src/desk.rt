@@ -21,7 +21,7 @@ use turn_cell::TurnCell;
 use virt_types::{Answer, Ask};
 
 /// Who answers what a call of a row asks. It has the row's maker of guests and its pass of the store, and gives them back.
-/// At each moment what it was asked of the store since it was made is what the marks of the pass tell.
+/// At each moment what it was asked of the store since it was made is what the marks of the pass say.
 pub struct RowDesk<'a, R: Wait, G: Maker, F: Files + Drop, K: Opening, P: Handed> {
     guests: G,
     store: StoreDoor<'a, R, F, K>,
@@ -104,7 +104,7 @@ impl<'a, R: Wait, G: Maker, F: Files + Drop, K: Opening, P: Handed> RowDesk<'a, 
         (answer, made)
     }
 
-    /// Gives back the maker and the pass. What the store was asked is what the marks of the pass tell, and a guest that could
+    /// Gives back the maker and the pass. What the store was asked is what the marks of the pass say, and a guest that could
     /// not be made was counted.
     pub fn into_parts(self) -> (G, KeeperPass<F, K>)
         ensures guests { result.0 ≡ self.entry.guests }

@@ -26,7 +26,7 @@ abbrev pub unread : {S : Type 0} → Inflow S → List ℕ
 unread flow = stream flow.ready flow.rest
 
 module _ {S : Type 0} (left : S → Option (List ℕ)) (faults : S → ℕ) where
-  -- these packets, and no more, were looked at: they stand before what is unread now in the bytes that were
+  -- these packets, and no more, were looked at: they are before what is unread now in the bytes that were
   -- unread and those that were taken meanwhile
   pub record Passes (old new : Inflow S) (packets : List Packet) : Type 0 where
     pub bytes : List ℕ

@@ -38,7 +38,7 @@ with_some P (Some l) op h = h
 pub with_op : (P : Op → Type 0) (live : Option Live) (o : Option Op) (op : Op) → o ≡ Some op → P op → WithBoth live o (λ l o. P o)
 with_op P live o op e h = subst (λ (v : Option Op). WithBoth live v (λ l o. P o)) (sym e) (with_some P live op h)
 
--- where nothing is told, nothing is told behind what was told before
+-- where nothing is told, nothing is told after what was told before
 pub quiet :
     (step : PhaseStep) (now : State) (told : List Transition) (end : PhaseEnd) → IsLeft step now [] [] end → IsLeft step now told told end
 quiet step now told end h =

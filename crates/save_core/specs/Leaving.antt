@@ -15,7 +15,7 @@ abbrev pub OnGuest : State → (Domain → Live → Op → Type 0) → Type 0
 OnGuest (state.Vacant boots) holds = Unit {0}
 OnGuest (state.Held d) holds = WithBoth d.live d.op (λ l op. holds d l op)
 
--- a phase has left its step: the state, the transitions behind those that were told before, and
+-- a phase has left its step: the state, the transitions after those that were told before, and
 -- what it leads to, once for the caller and once for the mark
 pub record IsLeft (step : PhaseStep) (now : State) (before after : List Transition) (end : PhaseEnd) : Type 0 where
   pub state : now ≡ step.state

@@ -83,7 +83,7 @@ fn new_snapshot(
     })
 }
 
-// The reply that tells a name, twice.
+// The reply that gives a name, twice.
 fn named(name: &Name) -> Result<CallEnd, NoMemory>
     ensures { IfOk result (λ end. Says end (reply.Ok (value.Name name.now))) }
 {

@@ -120,7 +120,7 @@ is_root : (ts : List Tree) → is_called (codes "domainsnapshot") (spelled (code
 unfolding is_called
 is_root ts = refl
 
--- the elements of what a caller says, with nothing behind them
+-- the elements of what a caller says, with nothing after them
 nothing_more : (s : SnapInfo) → info_tree s ≡ spelled (codes "domainsnapshot") [] [] (wordeds (codes "name") s.name ++ (wordeds (codes "description") s.description ++ []))
 unfolding info_tree
 nothing_more s = ap (λ ts. spelled (codes "domainsnapshot") [] [] (wordeds (codes "name") s.name ++ ts)) (sym (append-nil (wordeds (codes "description") s.description)))

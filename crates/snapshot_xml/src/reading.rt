@@ -59,7 +59,7 @@ fn read_by_table(alloc: Global, tree: &Tree) -> Result<SnapInfo, OrNoMemory<DefF
 }
 
 /// What a tree says of a snapshot: the texts of the first `name` and the first `description` in
-/// `domainsnapshot`, where there are any. All else that stands in it is passed over, `state` and
+/// `domainsnapshot`, where there are any. All else in it is passed over, `state` and
 /// `parent` too.
 ///
 /// The fault is another root element, or a name that is none. It is `TooLong`, with the root's path,

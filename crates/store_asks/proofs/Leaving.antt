@@ -26,7 +26,7 @@ use Rattle.virt_types.specs.declared.memory.OrNoMemory.{OrNoMemory}
 use Rattle.virt_types.specs.declared.memory.OrNoMemory.TheVariants as or
 use Rattle.def_keeper.specs.declared.mark.DefKey.{DefKey}
 use Rattle.def_keeper.specs.declared.mark.StoreBase.{StoreBase}
-use Rattle.def_keeper.specs.declared.mark.StoreDeed.TheVariants as deed
+use Rattle.def_keeper.specs.declared.mark.StoreAction.TheVariants as action
 use Rattle.def_keeper.specs.declared.mark.StoreFault.{StoreFault}
 use Rattle.def_keeper.specs.declared.mark.StoreFault.TheVariants as store
 use Rattle.def_keeper.specs.declared.mark.StoreMark.{StoreMark}
@@ -105,23 +105,23 @@ settles_tried : (number : ℕ) (doubt : Option DefKey) (map : Definitions) (firs
 settles_tried number None map first is = subst AreTried (sym is) tt
 settles_tried number (Some key) map first is = subst AreTried (sym is.4) (tt, tt)
 
--- ---- what the last mark tells
--- the last mark of a change tells its answer, and no other does; without memory none does
+-- ---- what the last mark says
+-- the last mark of a change gives its answer, and no other does; without memory none does
 abbrev pub ChangeLast : ℕ → Change → Front → Answer → List StoreMark → Type 0
 ChangeLast number c front answer.NoMemory more = AreTried more
 ChangeLast number c front a more =
-    (first : List StoreMark) × (r : Result (Unit {0}) StoreFault) × (moment : ℕ) × (more ≡ first ++ by number (deed.Changed c r moment) ∷ []) × (a ≡ told_change front r)
+    (first : List StoreMark) × (r : Result (Unit {0}) StoreFault) × (moment : ℕ) × (more ≡ first ++ by number (action.Changed c r moment) ∷ []) × (a ≡ told_change front r)
     × AreTried first
 
 fails_last : (number : ℕ) (c : Change) (moment : ℕ) (front : Front) (first more : List StoreMark) → AreTried first → Fails number c moment first more → ChangeLast number c front answer.Device more
 fails_last number c moment front first more tried (inl is) = (first, Err store.Device, moment, is, refl, tried)
 fails_last number c moment front first more tried (inr is) = (
-  first ++ by number (deed.Tried c) ∷ [],
+  first ++ by number (action.Tried c) ∷ [],
   Err store.Device,
   moment,
-  is ∙ sym (append_assoc first (by number (deed.Tried c) ∷ []) _),
+  is ∙ sym (append_assoc first (by number (action.Tried c) ∷ []) _),
   refl,
-  tried_more first (by number (deed.Tried c) ∷ []) tried (tt, tt),
+  tried_more first (by number (action.Tried c) ∷ []) tried (tt, tt),
 )
 
 leaves_last : (number : ℕ) (c : Change) (doubt : Option DefKey) (map : Definitions) (moment : ℕ) (place : Front) (r : Result Front (OrNoMemory StoreFault)) (more : List StoreMark)
@@ -135,24 +135,24 @@ leaves_last number c doubt map moment place (Err or.NoMemory) more at (inl is) =
 leaves_last number c doubt map moment place (Err or.NoMemory) more at (inr settles) = settles_tried number doubt map more settles
 
 put_last : (number : ℕ) (d : DomainDef) (autostart : Bool) (front : Front) (a : Answer) (more : List StoreMark) → ChangeLast number (put_of d autostart) front a more → MarksTell number (ask.Put d autostart) front a more
-put_last number d autostart front (answer.Ok v) more (first, r, moment, is, says, tried) = (first, deed.Changed (put_of d autostart) r moment, is, (refl, says), tried)
-put_last number d autostart front (answer.Refused class) more (first, r, moment, is, says, tried) = (first, deed.Changed (put_of d autostart) r moment, is, (refl, says), tried)
-put_last number d autostart front (answer.Ended why) more (first, r, moment, is, says, tried) = (first, deed.Changed (put_of d autostart) r moment, is, (refl, says), tried)
-put_last number d autostart front answer.Lost more (first, r, moment, is, says, tried) = (first, deed.Changed (put_of d autostart) r moment, is, (refl, says), tried)
-put_last number d autostart front answer.Device more (first, r, moment, is, says, tried) = (first, deed.Changed (put_of d autostart) r moment, is, (refl, says), tried)
+put_last number d autostart front (answer.Ok v) more (first, r, moment, is, says, tried) = (first, action.Changed (put_of d autostart) r moment, is, (refl, says), tried)
+put_last number d autostart front (answer.Refused class) more (first, r, moment, is, says, tried) = (first, action.Changed (put_of d autostart) r moment, is, (refl, says), tried)
+put_last number d autostart front (answer.Ended why) more (first, r, moment, is, says, tried) = (first, action.Changed (put_of d autostart) r moment, is, (refl, says), tried)
+put_last number d autostart front answer.Lost more (first, r, moment, is, says, tried) = (first, action.Changed (put_of d autostart) r moment, is, (refl, says), tried)
+put_last number d autostart front answer.Device more (first, r, moment, is, says, tried) = (first, action.Changed (put_of d autostart) r moment, is, (refl, says), tried)
 put_last number d autostart front answer.NoMemory more last = last
 
 drop_last : (number : ℕ) (uuid : List ℕ) (front : Front) (a : Answer) (more : List StoreMark) → ChangeLast number (drop_of uuid) front a more → MarksTell number (ask.Drop uuid) front a more
-drop_last number uuid front (answer.Ok v) more (first, r, moment, is, says, tried) = (first, deed.Changed (drop_of uuid) r moment, is, (refl, says), tried)
-drop_last number uuid front (answer.Refused class) more (first, r, moment, is, says, tried) = (first, deed.Changed (drop_of uuid) r moment, is, (refl, says), tried)
-drop_last number uuid front (answer.Ended why) more (first, r, moment, is, says, tried) = (first, deed.Changed (drop_of uuid) r moment, is, (refl, says), tried)
-drop_last number uuid front answer.Lost more (first, r, moment, is, says, tried) = (first, deed.Changed (drop_of uuid) r moment, is, (refl, says), tried)
-drop_last number uuid front answer.Device more (first, r, moment, is, says, tried) = (first, deed.Changed (drop_of uuid) r moment, is, (refl, says), tried)
+drop_last number uuid front (answer.Ok v) more (first, r, moment, is, says, tried) = (first, action.Changed (drop_of uuid) r moment, is, (refl, says), tried)
+drop_last number uuid front (answer.Refused class) more (first, r, moment, is, says, tried) = (first, action.Changed (drop_of uuid) r moment, is, (refl, says), tried)
+drop_last number uuid front (answer.Ended why) more (first, r, moment, is, says, tried) = (first, action.Changed (drop_of uuid) r moment, is, (refl, says), tried)
+drop_last number uuid front answer.Lost more (first, r, moment, is, says, tried) = (first, action.Changed (drop_of uuid) r moment, is, (refl, says), tried)
+drop_last number uuid front answer.Device more (first, r, moment, is, says, tried) = (first, action.Changed (drop_of uuid) r moment, is, (refl, says), tried)
 drop_last number uuid front answer.NoMemory more last = last
 
 -- ---- an ask
 module _ {F : Type 0} (told : F → Told) (faults : F → ℕ) where
-  -- the marks of a turn in which the store was asked, and what they tell
+  -- the marks of a turn in which the store was asked, and what they say
   pub record Left (number : ℕ) (question : Ask) (old new : Keeping F) (result : Option Answer) : Type 0 where
     pub more : List StoreMark
     pub changes : Changes (meaning told) number more old new
@@ -196,16 +196,16 @@ module _ {F : Type 0} (told : F → Told) (faults : F → ℕ) where
   left_image : (number : ℕ) (name : List ℕ) (k : ImageKind) (d : DomainDef) (running : Bool) (bytes : List ℕ) (old new : Keeping F) (r : Result (Unit {0}) Fault)
       → IsWritten told faults number name (image_of k d running bytes) old new r → Left number (ask.WriteImage name k d running bytes) old new (Some (image_answer r))
   left_image number name k d running bytes old new (Ok done) written = record {
-    more = by number (deed.ImageWritten name (image_of k d running bytes) (Ok tt)) ∷ [];
+    more = by number (action.ImageWritten name (image_of k d running bytes) (Ok tt)) ∷ [];
     changes = same_chapter told number _ old new (refl, tt) written.marks;
     ends = ends_more _ old.history new.history written.marks;
-    tells = ([], deed.ImageWritten name (image_of k d running bytes) (Ok tt), refl, (refl, refl, refl), tt);
+    tells = ([], action.ImageWritten name (image_of k d running bytes) (Ok tt), refl, (refl, refl, refl), tt);
   }
   left_image number name k d running bytes old new (Err fault.Failed) written = record {
-    more = by number (deed.ImageWritten name (image_of k d running bytes) (Err failed)) ∷ [];
+    more = by number (action.ImageWritten name (image_of k d running bytes) (Err failed)) ∷ [];
     changes = same_chapter told number _ old new (refl, tt) written.marks;
     ends = ends_more _ old.history new.history written.marks;
-    tells = ([], deed.ImageWritten name (image_of k d running bytes) (Err failed), refl, (refl, refl, refl), tt);
+    tells = ([], action.ImageWritten name (image_of k d running bytes) (Err failed), refl, (refl, refl, refl), tt);
   }
   left_image number name k d running bytes old new (Err fault.NoMemory) written = record {
     more = [];
@@ -263,7 +263,7 @@ module _ {F : Type 0} (told : F → Told) (faults : F → ℕ) where
       }
 
   -- ---- a read
-  -- the marks of a turn in which an image was read, and what they tell
+  -- the marks of a turn in which an image was read, and what they say
   pub record LeftRead (number : ℕ) (name : List ℕ) (old new : Keeping F) (result : Result SavedGuest (OrNoMemory Refusal)) : Type 0 where
     pub more : List StoreMark
     pub changes : Changes (meaning told) number more old new
@@ -272,12 +272,12 @@ module _ {F : Type 0} (told : F → Told) (faults : F → ℕ) where
   read_so : (number : ℕ) (name : List ℕ) (old new : Keeping F) (result : Result SavedGuest (OrNoMemory Refusal)) (r : Result Image (OrNoMemory ImageFault))
       → IsRead told faults number name old new r → IsToldOf r result → LeftRead number name old new result
   read_so number name old new result (Ok i) read tells = record {
-    more = by number (deed.ImageRead name (Ok i)) ∷ [];
+    more = by number (action.ImageRead name (Ok i)) ∷ [];
     changes = same_chapter told number _ old new (refl, tt) read.marks;
     tells = inl (Ok i, refl, tells);
   }
   read_so number name old new result (Err (or.Fault f)) read tells = record {
-    more = by number (deed.ImageRead name (Err f)) ∷ [];
+    more = by number (action.ImageRead name (Err f)) ∷ [];
     changes = same_chapter told number _ old new (refl, tt) read.marks;
     tells = inl (Err f, refl, tells);
   }

@@ -57,7 +57,7 @@ IsToldOf (Ok i) told = UnlessNoMemory told (saved_in i)
 IsToldOf (Err (or.Fault f)) told = UnlessNoMemory told (Err (unread f))
 IsToldOf (Err or.NoMemory) told = told ≡ Err or.NoMemory
 
--- an answer that is no want of memory
+-- an answer other than out of memory
 abbrev pub as_read : Result Image ImageFault → Result Image (OrNoMemory ImageFault)
 as_read (Ok i) = Ok i
 as_read (Err f) = Err (or.Fault f)

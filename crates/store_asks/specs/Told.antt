@@ -1,4 +1,4 @@
--- What the keeper's history tells of an ask: the answer is that of its last mark.
+-- What the keeper's history says of an ask: the answer is that of its last mark.
 use Rattle.std.specs.Prelude.{◌≡◌, ◌++◌, ℕ, List, [], ◌∷◌, Result, Ok, Err}
 use Rattle.virt_types.specs.declared.answer.Answer.{Answer}
 use Rattle.virt_types.specs.declared.answer.Answer.TheVariants as answer
@@ -8,8 +8,8 @@ use Rattle.virt_types.specs.declared.ask.Ask.TheVariants as ask
 use Rattle.virt_types.specs.declared.caller.Front.{Front}
 use Rattle.virt_types.specs.declared.memory.Failed.{Failed}
 use Rattle.store_spec.specs.declared.change.Change.{Change}
-use Rattle.def_keeper.specs.declared.mark.StoreDeed.{StoreDeed}
-use Rattle.def_keeper.specs.declared.mark.StoreDeed.TheVariants as deed
+use Rattle.def_keeper.specs.declared.mark.StoreAction.{StoreAction}
+use Rattle.def_keeper.specs.declared.mark.StoreAction.TheVariants as action
 use Rattle.def_keeper.specs.declared.mark.StoreFault.{StoreFault}
 use Rattle.def_keeper.specs.declared.mark.StoreFault.TheVariants as store
 use Rattle.def_keeper.specs.declared.mark.StoreMark.{StoreMark}
@@ -24,12 +24,12 @@ told_change front (Ok done) = answer.Ok (given.Front front)
 told_change front (Err store.Device) = answer.Device
 told_change front (Err (store.NameKept one two)) = answer.Refused name_kept
 
--- the history ends with the mark of this number that tells what became of this change, and this is its answer
+-- the history ends with the mark of this number that says what became of this change, and this is its answer
 pub record Ended (number : ℕ) (c : Change) (a : Answer) (h : StoreHistory) : Type 0 where
   pub before : List StoreMark
   pub answered : Result (Unit {0}) StoreFault
   pub moment : ℕ
-  pub is : h.marks ≡ before ++ by number (deed.Changed c answered moment) ∷ []
+  pub is : h.marks ≡ before ++ by number (action.Changed c answered moment) ∷ []
   pub says : a ≡ told_change (front_of h) answered
 
 -- a change has this answer in the last mark; without memory there may be none
@@ -42,17 +42,17 @@ abbrev pub told_image : Result (Unit {0}) Failed → Answer
 told_image (Ok done) = answer.Ok given.Nothing
 told_image (Err failed) = answer.Device
 
--- a deed is what the keeper did with this ask, and this is its answer, at this place of its history
-abbrev pub IsDeedOf : Ask → Front → Answer → StoreDeed → Type 0
-IsDeedOf (ask.Put d autostart) front a (deed.Changed c r moment) = (c ≡ put_of d autostart) × (a ≡ told_change front r)
-IsDeedOf (ask.Drop uuid) front a (deed.Changed c r moment) = (c ≡ drop_of uuid) × (a ≡ told_change front r)
-IsDeedOf (ask.WriteImage name k d running bytes) front a (deed.ImageWritten n i r) =
+-- this is what the keeper did with this ask, and this is its answer, at this place of its history
+abbrev pub IsActionOf : Ask → Front → Answer → StoreAction → Type 0
+IsActionOf (ask.Put d autostart) front a (action.Changed c r moment) = (c ≡ put_of d autostart) × (a ≡ told_change front r)
+IsActionOf (ask.Drop uuid) front a (action.Changed c r moment) = (c ≡ drop_of uuid) × (a ≡ told_change front r)
+IsActionOf (ask.WriteImage name k d running bytes) front a (action.ImageWritten n i r) =
     (n ≡ name) × (i ≡ image_of k d running bytes) × (a ≡ told_image r)
-IsDeedOf other front a d = ⊥
+IsActionOf other front a d = ⊥
 
 -- the history ends with the mark of this number in which the ask has this answer
 abbrev pub EndsWith : ℕ → Ask → Answer → StoreHistory → Type 0
-EndsWith number question a h = (before : List StoreMark) × (d : StoreDeed) × (h.marks ≡ before ++ by number d ∷ []) × IsDeedOf question (front_of h) a d
+EndsWith number question a h = (before : List StoreMark) × (d : StoreAction) × (h.marks ≡ before ++ by number d ∷ []) × IsActionOf question (front_of h) a d
 
 -- an answer of the store is in its last mark; without memory there may be none, and there is none of a lease
 abbrev pub Tells : ℕ → Ask → Answer → StoreHistory → Type 0

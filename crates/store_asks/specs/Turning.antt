@@ -15,8 +15,8 @@ use Rattle.files_disk.specs.Telling.{Told}
 use Rattle.turn_cell.specs.Passes.{Passed}
 use Rattle.turn_cell.specs.Turning.{Went}
 use Rattle.def_keeper.specs.declared.mark.StoreBase.{StoreBase}
-use Rattle.def_keeper.specs.declared.mark.StoreDeed.{StoreDeed}
-use Rattle.def_keeper.specs.declared.mark.StoreDeed.TheVariants as deed
+use Rattle.def_keeper.specs.declared.mark.StoreAction.{StoreAction}
+use Rattle.def_keeper.specs.declared.mark.StoreAction.TheVariants as action
 use Rattle.def_keeper.specs.declared.mark.StoreMark.{StoreMark}
 use Rattle.def_keeper.specs.Chapters.{by}
 use Rattle.def_keeper.specs.Keeper.{Keeping}
@@ -26,26 +26,26 @@ use Rattle.store_asks.specs.declared.restoring.SavedGuest.{SavedGuest}
 use Rattle.store_asks.specs.Answers.{HasAnswered}
 use Rattle.store_asks.specs.Keeping.{front_of}
 use Rattle.store_asks.specs.Restoring.{IsToldOf, Reads, as_read}
-use Rattle.store_asks.specs.Told.{IsDeedOf}
+use Rattle.store_asks.specs.Told.{IsActionOf}
 
 -- a pass of the store's cell
 abbrev pub StorePass : Type 0
 StorePass = Passed StoreBase StoreMark (Unit {0})
 
 -- what was only tried is no answer to anybody
-abbrev pub IsTried : StoreDeed → Type 0
-IsTried (deed.Tried c) = Unit {0}
+abbrev pub IsTried : StoreAction → Type 0
+IsTried (action.Tried c) = Unit {0}
 IsTried other = ⊥
 
 -- so of each of these marks
 abbrev pub AreTried : List StoreMark → Type 0
 AreTried [] = Unit {0}
-AreTried (m ∷ ms) = IsTried m.deed × AreTried ms
+AreTried (m ∷ ms) = IsTried m.action × AreTried ms
 
--- of these marks the last one tells this answer to the ask, and it alone is an answer
+-- of these marks the last one gives this answer to the ask, and it alone is an answer
 abbrev pub LastTells : ℕ → Ask → Front → Answer → List StoreMark → Type 0
 LastTells number question front a more =
-    (first : List StoreMark) × (d : StoreDeed) × (more ≡ first ++ by number d ∷ []) × IsDeedOf question front a d × AreTried first
+    (first : List StoreMark) × (d : StoreAction) × (more ≡ first ++ by number d ∷ []) × IsActionOf question front a d × AreTried first
 
 -- where there was no memory none is an answer, and of a lease there is none
 abbrev pub MarksTell : ℕ → Ask → Front → Answer → List StoreMark → Type 0
@@ -53,10 +53,10 @@ MarksTell number question front answer.NoMemory more = AreTried more
 MarksTell number (ask.Lease network mac) front a more = more ≡ []
 MarksTell number question front a more = LastTells number question front a more
 
--- the one mark tells what was read, and what a restore is told of that; without memory there is none
+-- the one mark says what was read, and what a restore is told of that; without memory there is none
 abbrev pub ReadTells : ℕ → List ℕ → Result SavedGuest (OrNoMemory Refusal) → List StoreMark → Type 0
 ReadTells number name result more =
-    ((r : Result Image ImageFault) × (more ≡ by number (deed.ImageRead name r) ∷ []) × IsToldOf (as_read r) result)
+    ((r : Result Image ImageFault) × (more ≡ by number (action.ImageRead name r) ∷ []) × IsToldOf (as_read r) result)
     ⊎ ((more ≡ []) × (result ≡ Err or.NoMemory))
 
 -- a history ends with these marks

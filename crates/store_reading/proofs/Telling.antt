@@ -101,7 +101,7 @@ pub line_name : (bytes : List ℕ) (x y z w : ℕ × Bor (List ℕ)) → HasNumb
 line_name bytes x y z w read read' read'' read4 never boot state job phase name b s j p is =
     never name (same_word (codes "phase=") z.1.now w phase (codes "name=" ++ (name ++ line_feed ∷ [])) read4 p (third bytes x y z boot state job phase name read read' read'' b s j is))
 
--- a file's line and what it tells
+-- a file's line and what it reports
 line_told : (s : Status) → status_bytes s ≡ status_line s.boot (state_number s.state) (job_number s.op) (phase_number s.phase) s.name
 line_told s =
     let e : words_of s.boot (state_number s.state) (job_number s.op) (phase_number s.phase) s.name ++ line_feed ∷ [] ≡ status_line s.boot (state_number s.state) (job_number s.op) (phase_number s.phase) s.name = simp append_assoc in

@@ -12,7 +12,7 @@ use Rattle.store_reading.specs.declared.status.StatusLine.{StatusLine}
 abbrev pub space : ℕ
 space = 32
 
--- the number that digits tell, as numbers are written
+-- the number that digits spell, as numbers are written
 abbrev pub IsNumberOf : List ℕ → Option ℕ → Type 0
 IsNumberOf digits None = (n : ℕ) → n < 2 ^ 64 → digits ≡ decimal n → ⊥
 IsNumberOf digits (Some n) = (n < 2 ^ 64) × (digits ≡ decimal n)
@@ -41,12 +41,12 @@ IsLineOf bytes None = (boot state job phase : ℕ) (name : List ℕ) → boot < 
     → bytes ≡ status_line boot state job phase name → ⊥
 IsLineOf bytes (Some l) = AreNumbers l × (bytes ≡ status_line l.boot l.state l.job l.phase l.name.now)
 
--- the name behind its label, up to the line feed at the end
+-- the name after its label, up to the line feed at the end
 abbrev pub Names : List ℕ → Option (Bor (List ℕ)) → Type 0
 Names bytes None = (name : List ℕ) → bytes ≡ codes "name=" ++ (name ++ line_feed ∷ []) → ⊥
 Names bytes (Some name) = bytes ≡ codes "name=" ++ (name.now ++ line_feed ∷ [])
 
--- the boot that a line with these numbers tells of
+-- the boot that a line with these numbers reports
 pub record IsBootOf (l : StatusLine) (s : Status) : Type 0 where
   pub boot_is : s.boot ≡ l.boot
   pub state_is : state_number s.state ≡ l.state
@@ -61,7 +61,7 @@ abbrev pub IsToldBy : List ℕ → StatusLine → Option Status → Type 0
 IsToldBy uuid l None = (s : Status) → IsBootOf l s → ⊥
 IsToldBy uuid l (Some s) = (s.uuid ≡ uuid) × IsBootOf l s
 
--- what a status file tells, exactly where it tells something
+-- what a status file reports, exactly where it reports something
 abbrev pub TellsStatus : List ℕ → List ℕ → Option Status → Type 0
 TellsStatus name bytes None = (s : Status) → IsStatusFile name bytes s → ⊥
 TellsStatus name bytes (Some s) = IsStatusFile name bytes s

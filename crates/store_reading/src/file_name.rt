@@ -112,7 +112,7 @@ fn before_status(name: &[u8]) -> Option<&[u8]>
     strip_end(b".sta".as_slice(), name)
 }
 
-/// Whether the name says that its file tells of a live boot.
+/// Whether the name says that its file reports a live boot.
 pub fn is_status_name(name: &[u8]) -> bool
     ensures { Decides result (IsStatusName name.now) }
 {

@@ -25,7 +25,7 @@ pub(crate) struct StatusLine<'a> {
     pub name: &'a [u8],
 }
 
-// The number that these digits tell.
+// The number that these digits spell.
 fn number_of(digits: &[u8]) -> Option<u64>
     ensures { IsNumberOf digits.now result }
 {
@@ -44,7 +44,7 @@ fn number_of(digits: &[u8]) -> Option<u64>
     }
 }
 
-// A number after a label, and what comes after the space behind it.
+// A number after a label, and what comes after the space that follows it.
 fn numbered<'a>(label: &[u8], bytes: &'a [u8]) -> Option<(u64, &'a [u8])>
     ensures { HasNumber label.now bytes.now result }
 {
@@ -60,7 +60,7 @@ fn numbered<'a>(label: &[u8], bytes: &'a [u8]) -> Option<(u64, &'a [u8])>
     }
 }
 
-// The number behind each label, which is what comes first in the bytes.
+// The number after each label, which is what comes first in the bytes.
 fn boot_of(bytes: &[u8]) -> Option<(u64, &[u8])>
     ensures { HasNumber (codes "run 1 boot=") bytes.now result }
 {
@@ -85,7 +85,7 @@ fn phase_of(bytes: &[u8]) -> Option<(u64, &[u8])>
     numbered(b"phase=".as_slice(), bytes)
 }
 
-// The name behind its label, up to the line feed at the end.
+// The name after its label, up to the line feed at the end.
 fn named(bytes: &[u8]) -> Option<&[u8]>
     ensures { Names bytes.now result }
 {
@@ -179,7 +179,7 @@ fn is_boot(number: u64) -> bool
     number >= 1 && number <= 1 << 62
 }
 
-// What a line with these numbers tells.
+// What a line with these numbers reports.
 fn status_of(alloc: Global, uuid: Uuid, line: &StatusLine<'_>) -> Result<Option<Status>, NoMemory>
     ensures { IfOk result (IsToldBy uuid line.now) }
 {
@@ -212,7 +212,7 @@ fn status_of(alloc: Global, uuid: Uuid, line: &StatusLine<'_>) -> Result<Option<
     }
 }
 
-/// What a status file of this name and these bytes tells; none where it tells nothing.
+/// What a status file of this name and these bytes reports; none where it reports nothing.
 pub fn read_status(alloc: Global, name: &[u8], bytes: &[u8]) -> Result<Option<Status>, NoMemory>
     ensures { IfOk result (TellsStatus name.now bytes.now) }
 {

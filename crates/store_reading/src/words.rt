@@ -8,7 +8,7 @@ use std::alloc::Global;
 use std::str;
 use virt_types::{Name, NoMemory, OrNoMemory, Text};
 
-/// Whether the digits tell this number, as numbers are written.
+/// Whether the digits spell this number, as numbers are written.
 pub(crate) fn tells(digits: &[u8], number: u64) -> bool
     ensures { Decides result (digits.now ≡ decimal number) }
 {

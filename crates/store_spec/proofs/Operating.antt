@@ -1,4 +1,4 @@
--- What stands under a name once something was put there, and after one operation more.
+-- What is under a name once something was put there, and after one operation more.
 use Rattle.std.proofs.Common.{◌≡◌, ◌⊎◌, inl, inr, ◌++◌, Bool, true, false, cond, Decides, List, [], ◌∷◌, ℕ, None, refl, bytes_eq}
 use Rattle.std.proofs.lemmas.Slice.Eq.{bytes_eq-Decides}
 use Rattle.store_spec.specs.declared.operation.Operation.{Operation}

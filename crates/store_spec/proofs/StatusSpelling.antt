@@ -61,7 +61,7 @@ same_number m n word rest other m_fits n_fits same =
     let words = ends_word (decimal m) (decimal n) (word ++ rest) (word ++ other) (digits_space (decimal m) (decimal_is_IsNumeral m m_fits).0.1) (digits_space (decimal n) (decimal_is_IsNumeral n n_fits).0.1) same in
     (decimal_injective m n m_fits n_fits words.0, append_cancel_left word rest other words.1)
 
--- the numbers tell what they are of
+-- the numbers say what they are of
 abbrev state_of : ℕ → Option DomainState
 state_of n = find (λ x. eqb (state_number x) n) (state.Running ∷ state.Paused ∷ state.ShutOff ∷ state.Crashed ∷ [])
 

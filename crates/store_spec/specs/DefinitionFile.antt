@@ -25,7 +25,7 @@ line text = text ++ line_feed ∷ []
 abbrev pub yes_or_no : Bool → List ℕ
 yes_or_no b = if b then codes "yes" else codes "no"
 
--- a first line: what tells the version, the flag and the name
+-- a first line: what gives the version, the flag and the name
 abbrev pub first_line : List ℕ → Bool → List ℕ → List ℕ
 first_line front autostart name = line (front ++ yes_or_no autostart ++ codes " name=" ++ name)
 
@@ -43,7 +43,7 @@ heading version.Two e = three_lines e.autostart e.name e.title (decimal (length 
 unfoldable pub definition_bytes : Version → Entry → List ℕ
 definition_bytes v e = heading v e ++ e.text
 
--- the title of a file of version 1 is empty, and that of a later one stands in one line
+-- the title of a file of version 1 is empty, and that of a later one is one line
 abbrev pub HasItsTitle : Version → List ℕ → Type 0
 HasItsTitle version.One title = title ≡ []
 HasItsTitle version.Two title = has_feed title ≡ false

@@ -16,7 +16,7 @@ pub record File : Type 0 where
 abbrev pub Files : Type 0
 Files = List ℕ → Option File
 
--- this stands under one name, and the rest is as it was
+-- this is under one name, and the rest is as it was
 abbrev pub put : {A : Type 0} → List ℕ → A → (List ℕ → A) → List ℕ → A
 put name this rest n = if bytes_eq n name then this else rest n
 

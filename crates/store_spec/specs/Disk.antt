@@ -11,7 +11,7 @@ abbrev pub Leaves : Option File → Option (List ℕ) → Type 0
 Leaves None left = left ≡ None
 Leaves (Some f) left = f.synced ≡ true → left ≡ Some f.bytes
 
--- the operation changes what stands under names
+-- the operation changes what is under names
 abbrev pub is_renaming : Operation → Bool
 is_renaming (op.Rename from to) = true
 is_renaming (op.Remove name) = true

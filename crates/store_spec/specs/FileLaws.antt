@@ -21,13 +21,13 @@ SpellsItsRow =
     definition_bytes version.Two (record { name = codes "n1"; autostart = false; title = []; text = line (codes "<a/>") })
     ≡ line (codes "def 2 autostart=no name=n1") ++ line (codes "title=") ++ line (codes "length=5") ++ line (codes "<a/>")
 
--- lines that tell another length than the text has, or tell it in other digits, begin no file
+-- lines that give another length than the text has, or give it in other digits, begin no file
 abbrev pub OtherLengthsAreRefused : Type 0
 OtherLengthsAreRefused = (autostart : Bool) (name title digits text : List ℕ)
     → IsName name → has_feed title ≡ false → has_feed digits ≡ false → (digits ≡ decimal (length text) → ⊥)
     → (v : Version) (e : Entry) → IsDefinitionFile v e (three_lines autostart name title digits ++ text) → ⊥
 
--- a status file tells of one boot
+-- a status file reports one boot
 abbrev pub HoldsOneStatus : Type 0
 HoldsOneStatus = (name bytes : List ℕ) (s t : Status) → IsStatusFile name bytes s → IsStatusFile name bytes t → s ≡ t
 

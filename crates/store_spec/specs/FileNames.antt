@@ -22,7 +22,7 @@ definition_name k uuid = file_name (kind_word k) uuid (codes ".def")
 abbrev pub definition_draft : BookKind → List ℕ → List ℕ
 definition_draft k uuid = file_name (kind_word k) uuid (codes ".tmp")
 
--- the file that tells of a live boot
+-- the file that reports a live boot
 abbrev pub status_name : List ℕ → List ℕ
 status_name uuid = file_name (codes "run") uuid (codes ".sta")
 
@@ -34,7 +34,7 @@ status_draft uuid = file_name (codes "run") uuid (codes ".tmp")
 abbrev pub IsDefinitionName : List ℕ → Type 0
 IsDefinitionName name = (stem : List ℕ) × (name ≡ stem ++ codes ".def")
 
--- the name says that its file tells of a live boot
+-- the name says that its file reports a live boot
 abbrev pub IsStatusName : List ℕ → Type 0
 IsStatusName name = (stem : List ℕ) × (name ≡ codes "run-" ++ stem ++ codes ".sta")
 

@@ -10,7 +10,7 @@ use Rattle.store_spec.specs.declared.image.Image.{Image}
 use Rattle.store_spec.specs.declared.image.ImageField.{ImageField}
 use Rattle.store_spec.specs.declared.image.ImageField.TheVariants as field
 
--- the word that tells that a file is an image: the letters VDMI
+-- the word that says that a file is an image: the letters VDMI
 abbrev pub magic : ℕ
 magic = 0x56444d49
 

@@ -1,4 +1,4 @@
--- The file that tells of a live boot: the line `run 1 boot=B state=S op=K phase=P name=NAME`.
+-- The file that reports a live boot: the line `run 1 boot=B state=S op=K phase=P name=NAME`.
 use Rattle.std.specs.Prelude.{◌≡◌, ◌≤◌, ◌^◌, ◌++◌, List, ℕ, codes}
 use Rattle.std.specs.Fmt.{decimal}
 use Rattle.virt_types.specs.declared.status.Status.{Status}
@@ -14,7 +14,7 @@ status_bytes s = line
     ++ codes " op=" ++ decimal (job_number s.op) ++ codes " phase=" ++ decimal (phase_number s.phase)
     ++ codes " name=" ++ s.name)
 
--- a file of this name and these bytes tells of this boot
+-- a file of this name and these bytes reports this boot
 pub record IsStatusFile (name bytes : List ℕ) (s : Status) : Type 0 where
   pub named : name ≡ status_name s.uuid
   pub spelling : bytes ≡ status_bytes s

@@ -25,7 +25,7 @@ abbrev pub IsPutGood : Option Entry → Type 0
 IsPutGood None = Unit {0}
 IsPutGood (Some e) = IsEntryOf version.Two e
 
--- a change that files can tell
+-- a change that files can express
 pub record IsChange (c : Change) : Type 0 where
   pub uuid : IsUuid (uuid_of c)
   pub entry : IsPutGood (entry_of c)

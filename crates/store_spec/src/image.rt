@@ -29,7 +29,7 @@ impl TryCopy for Image {
 /// A field of an image's file, in the order in which they are tested.
 #[derive(Clone, Copy, Debug, PartialEq, Eq)]
 pub enum ImageField {
-    /// The word that tells that this is an image.
+    /// The word that says that this is an image.
     Magic,
     /// The version of the file.
     Version,

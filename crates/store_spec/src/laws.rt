@@ -27,12 +27,12 @@ pub fn spells_its_row()
     ensures { SpellsItsRow }
 {}
 
-/// A file tells the length of its text in the one way.
+/// A file gives the length of its text in one way only.
 pub fn other_lengths_are_refused()
     ensures { OtherLengthsAreRefused }
 {}
 
-/// A status file tells of one boot.
+/// A status file reports one boot.
 pub fn holds_one_status()
     ensures { HoldsOneStatus }
 {}

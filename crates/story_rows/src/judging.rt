@@ -20,7 +20,7 @@ fn verdict(
     judge(alloc, began, all.as_slice())
 }
 
-/// Puts behind the row what the plain judge says of a history.
+/// Puts at the end of the row what the plain judge says of a history.
 pub fn put_verdict(alloc: Global, row: &mut Row, began: ChapterBase, marks: ListOf<Mark<Stamp>>) {
     match verdict(alloc, began, marks) {
         Ok(Verdict::Legal) => row.put("legal"),

@@ -20,14 +20,14 @@ impl Row {
         }
     }
 
-    /// Puts more behind it.
+    /// Puts more after it.
     pub fn put(&mut self, more: &str) {
         if self.text.push_str(more).is_err() {
             self.is_lost = true;
         }
     }
 
-    /// Puts a number behind it.
+    /// Puts a number after it.
     pub fn put_number(&mut self, number: u64) {
         match format!(in self.alloc; "{number}") {
             Ok(digits) => self.put(digits.as_str()),

@@ -1,4 +1,4 @@
--- Who waits after a look, and what that tells of its number.
+-- Who waits after a look, and what that shows of its number.
 use Rattle.std.proofs.Common.{◌≡◌, inl, inr, ℕ}
 use Rattle.domain_spec.specs.Types.{Call, Who}
 use Rattle.domain_spec.specs.Cell.{Queue}

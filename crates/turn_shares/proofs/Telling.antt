@@ -1,4 +1,4 @@
--- What a number's share tells of the steps that it can take.
+-- What a number's share shows of the steps that it can take.
 use Rattle.std.proofs.Common.{◌≡◌, ℕ, zero, suc, ◌==◌, List, [], ◌∷◌, filter, map, slice_get, Bool, true, false, not, ◌&&◌, Option, None, Some, if◌then◌else◌, refl, sym, ap, ◌∙◌, subst}
 use Rattle.domain_spec.specs.Types.{Answer, Who}
 use Rattle.domain_spec.specs.declared.open.OpenJob.{OpenJob}

@@ -1,4 +1,4 @@
--- What a number's share tells of the steps that it can take.
+-- What a number's share shows of the steps that it can take.
 use Rattle.std.specs.Prelude.{◌≡◌, ℕ, slice_get, None, Some}
 use Rattle.domain_spec.specs.declared.open.OpenOperation.{OpenOperation}
 use Rattle.domain_spec.specs.declared.standing.Registration.{Registration}

@@ -20,7 +20,7 @@ pub fn turns_go_on()
     ensures { TurnsGoOn }
 {}
 
-/// A number's share tells which steps it can take.
+/// A number's share shows which steps it can take.
 pub fn shares_tell()
     ensures { SharesTell }
 {}

@@ -43,7 +43,7 @@ abbrev pub SlicesOption : Result (Option Word × Left) WordFault → Result (Opt
 SlicesOption read (Ok x) = read ≡ Ok (option_map (λ w. w.now) x.0, seen x.1)
 SlicesOption read (Err f) = read ≡ Err f
 
--- the first word and what is behind it, or there is none
+-- the first word and what is after it, or there is none
 abbrev pub IsNext : Left → Option (Bor Word × Rest) → Type 0
 IsNext l None = l.words ≡ []
 IsNext l (Some x) = (l.words ≡ x.0.now ∷ (seen x.1).words) × (seen x.1 ≡ behind (seen x.1).words l)

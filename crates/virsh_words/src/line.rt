@@ -1,5 +1,5 @@
 // The parts of a command line, from its front. Each step takes what is left and gives what is left
-// behind it.
+// after it.
 ghost use Rattle.std.specs.Prelude.{◌≡◌, ◌==◌, ◌≤◌, ◌<◌, ◌^◌, length, map, IfOk};
 ghost use Rattle.std.specs.String.{string_bytes};
 ghost use Rattle.command_spec.specs.Reading as spec;
@@ -44,7 +44,7 @@ pub(crate) fn all_of(words: &[String]) -> Rest<'_>
     }
 }
 
-/// The first word that is left, and what is left behind it.
+/// The first word that is left, and what is left after it.
 fn next(rest: Rest<'_>) -> Option<(&str, Rest<'_>)>
     ensures { IsNext (seen rest.entry) result }
 {

@@ -2,6 +2,7 @@
 -- the messages, and the codes from 201 on, are this project's own.
 use Rattle.std.specs.Prelude.{ℕ, List, codes, take}
 use Rattle.std.specs.Str.Lossy.{utf8_valid_len}
+use Rattle.virt_types.specs.Limits.{most_kept_bytes}
 use Rattle.virt_types.specs.declared.refusal.RefusalCode.{RefusalCode}
 use Rattle.virt_types.specs.declared.refusal.RefusalCode.TheVariants as code
 
@@ -71,4 +72,4 @@ refusal_message code.VolumeExists = codes "volume exists"
 
 -- what a refusal keeps of a text: the longest front of whole characters within 1,024 bytes
 unfoldable pub kept_cut : List ℕ → List ℕ
-kept_cut text = take (utf8_valid_len (take 1024 text)) text
+kept_cut text = take (utf8_valid_len (take most_kept_bytes text)) text

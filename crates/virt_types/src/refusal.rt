@@ -2,6 +2,7 @@
 ghost use Rattle.std.specs.Prelude.{◌≡◌, ◌==◌, ◌≢◌, ◌≤◌, IfOk, IfNone, IfSome, IsCharBoundary, find, take};
 ghost use Rattle.std.specs.Str.Lossy.{utf8_valid_len};
 ghost use Rattle.virt_types.specs.declared.refusal.RefusalCode.{RefusalCode as Code};
+ghost use Rattle.virt_types.specs.Limits.{most_kept_bytes};
 ghost use Rattle.virt_types.specs.Refusal.{kept_cut, refusal_message, refusal_number};
 
 use crate::copy::TryCopy;
@@ -210,9 +211,9 @@ impl TryCopy for Refusal {
 /// How many bytes of a text a refusal keeps: those of its longest front of whole characters within
 /// 1,024 bytes.
 pub fn kept_length(text: &str) -> usize
-    ensures place { result ≡ utf8_valid_len (take 1024 text.now) }
+    ensures place { result ≡ utf8_valid_len (take most_kept_bytes text.now) }
     ensures boundary { IsCharBoundary text.now result }
-    ensures short { result ≤ 1024 }
+    ensures short { result ≤ most_kept_bytes }
 {
     let bytes = text.as_bytes();
     let front = &bytes[..MOST_KEPT_BYTES.min(bytes.len())];

@@ -128,7 +128,7 @@ impl SnapList {
         self.count = self.tree.count();
     }
 
-    /// Puts a snapshot, which has its node already, behind those whose names are not greater. It takes
+    /// Puts a snapshot, which has its node already, after those whose names are not greater. It takes
     /// no memory.
     #[tactic(auto, using(crate::proofs::RisingSnaps::length_with))]
     pub fn put(&mut self, new: NewSnap)

@@ -121,7 +121,7 @@ pub(crate) fn failing_at(alloc: Global, number: u64) -> Result<Vec<FailingCall>,
     Ok(failing)
 }
 
-// A directory of both versions, with a status file and one that tells nothing.
+// A directory of both versions, with a status file and one that reports nothing.
 pub(crate) fn both_versions(alloc: Global) -> Result<MemFiles, NoMemory> {
     let mut files = MemFiles::new(alloc);
     put(alloc, &mut files, TWO, VERSION_2)?;
@@ -160,7 +160,7 @@ fn versions(found: &Found) -> (Option<Version>, Option<Version>) {
     )
 }
 
-// The boot that the first status file tells of, and how many files tell nothing.
+// The boot that the first status file reports, and how many files report nothing.
 fn boots(found: &Found) -> (Option<u64>, usize) {
     let mut boot = None;
     let mut untold = 0usize;

@@ -14,7 +14,7 @@ use virt_types::{Name, NoMemory, OrNoMemory, Text, Uuid};
 
 type TestKeeper = Keeper<MemFiles, Brand>;
 
-// Which definitions stand there, as the bits of a number: those that may, after so many operations.
+// Which definitions are there, as the bits of a number: those that may, after so many operations.
 const THREE_DEFINES: [&[u32]; 13] = [
     &[0],
     &[0],

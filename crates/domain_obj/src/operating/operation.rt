@@ -20,15 +20,15 @@ use virt_types::{Call, Front, RefusalCode, Reply, Who};
 /// What became of a call that begins an operation or takes one up.
 #[derive(Drop)]
 pub enum Operated {
-    /// Its operation ended, and its caller is told this; its End stands here.
+    /// Its operation ended, and its caller is told this; its End is here.
     Ended(Reply, Front),
-    /// Its operation rests, and its caller is told this; its last Phase stands here.
+    /// Its operation rests, and its caller is told this; its last Phase is here.
     Rests(Reply, Front),
-    /// It was let in and refused; its Done stands here.
+    /// It was let in and refused; its Done is here.
     Refused(Reply, Front),
-    /// Thirty of its looks or more found its job excluded, and it is refused; its Refused stands here.
+    /// Thirty of its looks or more found its job excluded, and it is refused; its Refused is here.
     TimedOut(Reply, Front),
-    /// Its job is excluded, and so many others wait that it is refused; its Refused stands here.
+    /// Its job is excluded, and so many others wait that it is refused; its Refused is here.
     WaitersFull(Reply, Front),
     /// There was no memory for it, and nothing is left of it.
     NoMemory,

@@ -17,7 +17,7 @@ use virt_types::{Ask, Front, Reply, Who};
 /// What became of one phase.
 #[derive(Drop)]
 pub enum OnePhase {
-    /// It is done, and leads on so; its Phase stands here.
+    /// It is done, and leads on so; its Phase is here.
     Phased(Next, Front),
     /// No ticket was left.
     Spent,
@@ -26,9 +26,9 @@ pub enum OnePhase {
 /// What became of an operation of which a phase was due.
 #[derive(Drop)]
 pub enum Over {
-    /// It ended, and its caller is told this; its End stands here.
+    /// It ended, and its caller is told this; its End is here.
     Ended(Reply, Front),
-    /// It rests, and its caller is told this; its last Phase stands here.
+    /// It rests, and its caller is told this; its last Phase is here.
     Rests(Reply, Front),
     /// No ticket was left.
     Spent,

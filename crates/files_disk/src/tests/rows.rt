@@ -8,7 +8,7 @@ use virt_types::{NoMemory, Text};
 
 const NAMES: [(&str, &str); 3] = [("1.tmp", "1.def"), ("2.tmp", "2.def"), ("3.tmp", "3.def")];
 
-// Which definitions stand there, as the bits of a number: those that may, after so many operations.
+// Which definitions are there, as the bits of a number: those that may, after so many operations.
 const THREE_PUTS: [&[u32]; 13] = [
     &[0],
     &[0],
@@ -81,7 +81,7 @@ fn take_all(alloc: Global, files: &mut MemFiles, steps: &[Step]) -> Result<u32, 
     Ok(failed)
 }
 
-// Which of the definitions stand there; none where one is torn.
+// Which of the definitions are there; none where one is torn.
 fn standing(alloc: Global, files: &mut MemFiles) -> Result<Option<u32>, NoMemory> {
     let mut found = 0u32;
     for (number, names) in NAMES.iter().enumerate() {

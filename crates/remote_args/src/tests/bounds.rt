@@ -12,7 +12,7 @@ fn changed(alloc: Global, words: &[u32], index: usize, word: u32) -> Result<Vec<
 }
 
 // What is wrong with a text or with bytes of length 4 where the length word is another: what follows
-// is looked at from the word behind on, or where the padding begins, or there is too much of it.
+// is looked at from the next word on, or where the padding begins, or there is too much of it.
 fn of_lengths(index: usize, none: ArgFault) -> [(u32, ArgFault); 4] {
     let at = (index as u64).saturating_mul(4);
     let long = |length: u64| ArgFault::Xdr(XdrFault::TooLong { at, length });

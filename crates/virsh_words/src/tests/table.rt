@@ -164,7 +164,7 @@ const COMMANDS: [&str; 59] = [
     "start -x",
 ];
 
-// Options stand anywhere after the command; an empty word is a name where one is wanted.
+// Options may come anywhere after the command; an empty word is a name where one is wanted.
 const OTHERS: [(&str, &str); 7] = [
     ("autostart --disable a", "autostart a --disable"),
     ("save --verbose a i", "save a i --verbose"),

@@ -97,7 +97,7 @@ impl SnapTree {
         }
     }
 
-    // Takes out the snapshots whose flag is not set, and answers the flags of the trees behind this one.
+    // Takes out the snapshots whose flag is not set, and answers the flags of the trees after this one.
     pub(crate) fn keep<'a>(&mut self, flags: &'a [bool]) -> &'a [bool]
         ensures tree { self.new ≡ kept_by self.old flags.now }
         ensures rest { result.now ≡ drop (length self.old) flags.now }

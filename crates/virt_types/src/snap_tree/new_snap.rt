@@ -56,7 +56,7 @@ impl NewSnap {
 }
 
 impl SnapTree {
-    // Puts a snapshot behind those whose names are not greater. It takes no memory.
+    // Puts a snapshot after those whose names are not greater. It takes no memory.
     pub(crate) fn put(&mut self, new: NewSnap)
         ensures { self.new ≡ with_snapshot self.old new }
     {

@@ -1,5 +1,5 @@
 use Rattle.std.proofs.Common.{[], ◌∷◌, Err, refl, subst, sym}
-use Rattle.def_keeper.specs.declared.mark.StoreDeed.TheVariants as deed
+use Rattle.def_keeper.specs.declared.mark.StoreAction.TheVariants as action
 use Rattle.def_keeper.specs.declared.mark.StoreFault.TheVariants as store
 use Rattle.def_keeper.specs.Chapters.{by, moment_of}
 use Rattle.def_map.specs.Map.{found}
@@ -20,4 +20,4 @@ pub returns-in-Err-Failed-clause-kept : goal.returns-in-Err-Failed-clause-kept
 returns-in-Err-Failed-clause-kept g c = λ kept.
     let now = g.F.Files.told c.settle.new.files in
     subst (λ h. IsKeptAt now h (found c.args.map.now) c.settle.new.doubt) (sym c.fail.ensures)
-    (at_answered g.number now c.settle.new.chronicle (found c.args.map.now) c.settle.new.doubt (by g.number (deed.Changed c.args.change (Err store.Device) (moment_of now)) ∷ []) refl (c.in-Err-Failed.ensures.kept kept))
+    (at_answered g.number now c.settle.new.chronicle (found c.args.map.now) c.settle.new.doubt (by g.number (action.Changed c.args.change (Err store.Device) (moment_of now)) ∷ []) refl (c.in-Err-Failed.ensures.kept kept))

@@ -1,7 +1,7 @@
 use Rattle.std.proofs.Common.{[], ◌∷◌}
-use Rattle.def_keeper.specs.declared.mark.StoreDeed.TheVariants as deed
+use Rattle.def_keeper.specs.declared.mark.StoreAction.TheVariants as action
 use Rattle.def_keeper.specs.Chapters.{by}
 use Rattle.def_keeper.proofs.keep.settle.Given as goal
 
 abbrev pub ghost-mark_change : goal.ghost-mark_change
-ghost-mark_change g a = by g.number (deed.Tried a._change.now) ∷ []
+ghost-mark_change g a = by g.number (action.Tried a._change.now) ∷ []

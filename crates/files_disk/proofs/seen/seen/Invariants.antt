@@ -1,4 +1,4 @@
--- What is looked for stands, under another name and maybe not synced, in a front of the operations.
+-- What is looked for is in a front of the operations, under another name and maybe not synced.
 use Rattle.std.proofs.Common.{◌≡◌, ◌≤◌, length, take}
 use Rattle.store_spec.specs.Directory.{files_after}
 use Rattle.files_disk.specs.Seeing.{marked}

@@ -1,4 +1,4 @@
--- The asks for the two sides stand behind the one for the address.
+-- The asks for the two sides come after the one for the address.
 use Rattle.std.proofs.Common.{◌≡◌, ◌≤◌, ◌-◌, true, is_some, length, slice_get, sym, ap, ◌∙◌, arith, subst, Option, Some, OnErr}
 use Rattle.std.proofs.lemmas.Result.{IfOk-weaker}
 use Rattle.domain_spec.specs.Call.{attach_plan, device_lease}

@@ -1,4 +1,4 @@
--- What is next stands at the place of the next ask.
+-- What is next is at the place of the next ask.
 use Rattle.std.proofs.Common.{ap, refl, ◌∙◌}
 use Rattle.core_rules.specs.Next.{next_if}
 use Rattle.hotplug_core.proofs.Planned.{asks_there, in_any_case, next_there}

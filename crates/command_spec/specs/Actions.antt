@@ -17,7 +17,7 @@ use Rattle.command_spec.specs.declared.form.PoolVerb.TheVariants as pool
 
 -- what was done with what, by its name
 abbrev pub done : List ℕ → List ℕ → List ℕ → List ℕ
-done kind name deed = line (kind then name then deed)
+done kind name action = line (kind then name then action)
 
 -- a domain; of autostart, whether the option `--disable` is given
 abbrev pub marked : Option Flag → List ℕ
@@ -25,20 +25,20 @@ marked None = codes "marked"
 marked (Some flag) = codes "unmarked"
 
 -- nothing is printed by the other commands for a domain
-abbrev pub domain_deed : DomainVerb → Option Flag → Option (List ℕ)
-domain_deed domain.Start option = Some (codes "started")
-domain_deed domain.Shutdown option = Some (codes "being shut down")
-domain_deed domain.Reboot option = Some (codes "being rebooted")
-domain_deed domain.Suspend option = Some (codes "suspended")
-domain_deed domain.Resume option = Some (codes "resumed")
-domain_deed domain.Destroy option = Some (codes "destroyed")
-domain_deed domain.Undefine option = Some (codes "undefined")
-domain_deed domain.Autostart option = Some (marked option)
-domain_deed _ option = None
+abbrev pub domain_action : DomainVerb → Option Flag → Option (List ℕ)
+domain_action domain.Start option = Some (codes "started")
+domain_action domain.Shutdown option = Some (codes "being shut down")
+domain_action domain.Reboot option = Some (codes "being rebooted")
+domain_action domain.Suspend option = Some (codes "suspended")
+domain_action domain.Resume option = Some (codes "resumed")
+domain_action domain.Destroy option = Some (codes "destroyed")
+domain_action domain.Undefine option = Some (codes "undefined")
+domain_action domain.Autostart option = Some (marked option)
+domain_action _ option = None
 
-abbrev pub image_deed : ImageVerb → List ℕ
-image_deed image.Save = codes "saved"
-image_deed image.Dump = codes "dumped"
+abbrev pub image_action : ImageVerb → List ℕ
+image_action image.Save = codes "saved"
+image_action image.Dump = codes "dumped"
 
 -- a definition, by the name that the daemon gives it
 abbrev pub file_text : FileVerb → List ℕ → List ℕ
@@ -47,19 +47,19 @@ file_text file.Create name = done (codes "Domain") name (codes "created")
 file_text file.NetDefine name = done (codes "Network") name (codes "defined")
 file_text file.PoolDefine name = done (codes "Pool") name (codes "defined")
 
-abbrev pub network_deed : NetworkVerb → Option (List ℕ)
-network_deed network.Start = Some (codes "started")
-network_deed network.Destroy = Some (codes "destroyed")
-network_deed network.Undefine = Some (codes "undefined")
-network_deed network.Autostart = Some (codes "marked")
-network_deed _ = None
+abbrev pub network_action : NetworkVerb → Option (List ℕ)
+network_action network.Start = Some (codes "started")
+network_action network.Destroy = Some (codes "destroyed")
+network_action network.Undefine = Some (codes "undefined")
+network_action network.Autostart = Some (codes "marked")
+network_action _ = None
 
-abbrev pub pool_deed : PoolVerb → Option (List ℕ)
-pool_deed pool.Start = Some (codes "started")
-pool_deed pool.Destroy = Some (codes "destroyed")
-pool_deed pool.Undefine = Some (codes "undefined")
-pool_deed pool.Autostart = Some (codes "marked")
-pool_deed _ = None
+abbrev pub pool_action : PoolVerb → Option (List ℕ)
+pool_action pool.Start = Some (codes "started")
+pool_action pool.Destroy = Some (codes "destroyed")
+pool_action pool.Undefine = Some (codes "undefined")
+pool_action pool.Autostart = Some (codes "marked")
+pool_action _ = None
 
 -- a device; a snapshot is given its name by the daemon
 abbrev pub domain_file_text : DomainFileVerb → List ℕ → List ℕ
@@ -74,4 +74,4 @@ abbrev pub snapshot_deleted_text : List ℕ → List ℕ
 snapshot_deleted_text snapshot = done (codes "Domain snapshot") snapshot (codes "deleted")
 
 abbrev pub volume_text : List ℕ → List ℕ → List ℕ
-volume_text volume deed = done (codes "Vol") volume deed
+volume_text volume action = done (codes "Vol") volume action
