@@ -8,7 +8,7 @@ use Rattle.std.proofs.lemmas.Option.{slice_get-map, slice_get_within}
 use Rattle.std.proofs.lemmas.Bool.Decides.{nat_tests}
 use Rattle.domain_spec.specs.Types.{Answer, Ask}
 use Rattle.domain_spec.specs.declared.planned.PlannedAsk.{PlannedAsk}
-use Rattle.domain_spec.specs.Asks.{asks_left, bad_place, course_at, first_bad, is_ok_answer, is_undone, undo_at}
+use Rattle.domain_spec.specs.Asks.{asks_left, course_at, first_bad, first_bad_at, is_ok_answer, is_undone, undo_at}
 use Rattle.core_rules.specs.declared.course.Place.TheVariants as place
 use Rattle.core_rules.specs.declared.next.Next.TheVariants as next
 use Rattle.core_rules.specs.Next.{next_if, next_of}
@@ -26,7 +26,7 @@ below_by true n k most e s = grind (arith, nat_tests)
 below_by false n k most e s = grind (arith, nat_tests)
 
 -- the place of the first answer that is not Ok is one of the answers'
-pub bad_place_below : (answers : List Answer) (k : ℕ) → bad_place answers ≡ Some k → k < length answers
+pub bad_place_below : (answers : List Answer) (k : ℕ) → first_bad_at answers ≡ Some k → k < length answers
 bad_place_below answers k e =
     below_by (nat_lt (position_or_len (λ a. not (is_ok_answer a)) answers) (length answers)) _ k (length answers) refl e
 
@@ -70,7 +70,7 @@ behind plan n k None (Some bad) e lt = no_undo plan n k (is_undone bad) e lt
 behind plan n k (Some planned) (Some bad) e lt = undone plan n k planned (is_undone bad) e lt
 
 by_place :
-    (plan : List PlannedAsk) (answers : List Answer) (o : Option ℕ) → bad_place answers ≡ o
+    (plan : List PlannedAsk) (answers : List Answer) (o : Option ℕ) → first_bad_at answers ≡ o
     → next_of (drop (length answers) (course_at plan answers o)) ≡ next_at plan (place_by answers o)
 by_place plan answers None e =
     next_dropped (length answers) (map (λ p. p.ask) plan) ∙ ap next_if (slice_get-map (λ p. p.ask) plan (length answers))
@@ -79,4 +79,4 @@ by_place plan answers (Some k) e =
 
 pub next_is_at : (plan : List PlannedAsk) (answers : List Answer) → next_of (asks_left plan answers) ≡ next_at plan (place_after answers)
 unfolding place_after
-next_is_at plan answers = by_place plan answers (bad_place answers) refl
+next_is_at plan answers = by_place plan answers (first_bad_at answers) refl

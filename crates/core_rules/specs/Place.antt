@@ -2,7 +2,7 @@
 use Rattle.std.specs.Prelude.{ℕ, ◌+◌, ◌-◌, ◌==◌, List, length, slice_get, option_map, Option, None, Some, if◌then◌else◌}
 use Rattle.domain_spec.specs.Types.{Answer, Ask}
 use Rattle.domain_spec.specs.declared.planned.PlannedAsk.{PlannedAsk}
-use Rattle.domain_spec.specs.Asks.{bad_place, first_bad, is_undone}
+use Rattle.domain_spec.specs.Asks.{first_bad, first_bad_at, is_undone}
 use Rattle.core_rules.specs.declared.course.Place.{Place}
 use Rattle.core_rules.specs.declared.course.Place.TheVariants as place
 use Rattle.core_rules.specs.declared.next.Next.{Next}
@@ -22,7 +22,7 @@ place_by answers (Some of) = place_behind (length answers) of (first_bad answers
 
 -- the place of the ask that is next after these answers, in every plan
 unfoldable pub place_after : List Answer → Place
-place_after answers = place_by answers (bad_place answers)
+place_after answers = place_by answers (first_bad_at answers)
 
 -- the planned ask at this place
 abbrev pub planned_at : List PlannedAsk → ℕ → Option Ask

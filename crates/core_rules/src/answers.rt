@@ -1,6 +1,6 @@
 // What answers say of the asks that they answer.
 ghost use Rattle.std.specs.Prelude.{◌≡◌, option_map};
-ghost use Rattle.domain_spec.specs.Asks.{bad_place, first_bad, first_value, is_ok_answer, is_undone, last_value, value_of};
+ghost use Rattle.domain_spec.specs.Asks.{first_bad, first_bad_at, first_value, is_ok_answer, is_undone, last_value, value_of};
 ghost use Rattle.domain_spec.specs.Refusals.{failure_of};
 ghost use Rattle.core_rules.specs.Reasons.{refusal_for};
 
@@ -25,8 +25,8 @@ pub fn is_undone(answer: &Answer) -> bool
 }
 
 /// The place of the first answer that is not Ok.
-pub fn bad_place(answers: &[Answer]) -> Option<usize>
-    ensures { result ≡ bad_place answers.now }
+pub fn first_bad_at(answers: &[Answer]) -> Option<usize>
+    ensures { result ≡ first_bad_at answers.now }
 {
     answers.iter().position(|answer| !is_ok_answer(answer))
 }

@@ -4,7 +4,7 @@ ghost use Rattle.domain_spec.specs.Asks.{asks_left, first_bad, plain};
 ghost use Rattle.core_rules.specs.Next.{at_most, next_of};
 ghost use Rattle.core_rules.specs.Place.{next_at, place_after, place_behind};
 
-use crate::answers::{bad_place, first_bad, is_undone};
+use crate::answers::{first_bad, first_bad_at, is_undone};
 use crate::next::Next;
 use domain_spec::PlannedAsk;
 use virt_types::{Answer, Ask};
@@ -31,7 +31,7 @@ pub enum Place {
 pub fn place_after(answers: &[Answer]) -> Place
     ensures { result ≡ place_after answers.now }
 {
-    match bad_place(answers) {
+    match first_bad_at(answers) {
         None => Place::Plan(answers.len()),
         Some(of) => place_behind(answers, of),
     }

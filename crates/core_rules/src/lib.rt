@@ -23,7 +23,7 @@ mod slots;
 mod state_room;
 
 pub use answers::{
-    bad_place, failure_of, first_bad, first_value, is_ok_answer, is_undone, last_value,
+    failure_of, first_bad, first_bad_at, first_value, is_ok_answer, is_undone, last_value,
 };
 pub use call_reading::{is_on_stored, meets_ended, operation_begun};
 pub use checks::{

@@ -8,7 +8,7 @@ use Rattle.std.proofs.lemmas.List.{length-append}
 use Rattle.domain_spec.specs.Types.{Answer, Ask}
 use Rattle.domain_spec.specs.Types.answer
 use Rattle.domain_spec.specs.declared.planned.PlannedAsk.{PlannedAsk}
-use Rattle.domain_spec.specs.Asks.{asks_left, asks_made, bad_place, course, course_at, first_bad, is_ok_answer, is_undone, undo_at}
+use Rattle.domain_spec.specs.Asks.{asks_left, asks_made, course, course_at, first_bad, first_bad_at, is_ok_answer, is_undone, undo_at}
 use Rattle.core_rules.specs.declared.next.Next.TheVariants as next
 use Rattle.core_rules.specs.Next.{is_ask, next_of}
 use Rattle.domain_asks.specs.Along.{Asked, answered, made_along, most_asks}
@@ -34,10 +34,10 @@ place_if a n m e =
     ap (λ (t : Bool). let first = (if not (not t) then 1 + n else 0) in if nat_lt first (suc m) then Some first else None) e ∙ further_by n m (nat_lt n m) refl
 
 -- after an answer Ok the first that is not Ok is one place further
-pub bad_behind : (a : Answer) (answers : List Answer) → is_ok_answer a ≡ true → bad_place (a ∷ answers) ≡ further (bad_place answers)
+pub bad_behind : (a : Answer) (answers : List Answer) → is_ok_answer a ≡ true → first_bad_at (a ∷ answers) ≡ further (first_bad_at answers)
 bad_behind a answers e = place_if a (position_or_len (λ x. not (is_ok_answer x)) answers) (length answers) e
 
-pub bad_first : (a : Answer) (answers : List Answer) → is_ok_answer a ≡ false → bad_place (a ∷ answers) ≡ Some 0
+pub bad_first : (a : Answer) (answers : List Answer) → is_ok_answer a ≡ false → first_bad_at (a ∷ answers) ≡ Some 0
 bad_first a answers e =
     let n : ℕ = position_or_len (λ x. not (is_ok_answer x)) answers in
     let lt : nat_lt 0 (suc (length answers)) ≡ true = grind (arith, nat_tests) in
@@ -71,15 +71,15 @@ first_is a answers e = ap (λ (t : Bool). if not t then Some a else first_bad an
 -- the course of a plan along the answers
 course_behind : (p : PlannedAsk) (plan : List PlannedAsk) (a : Answer) (answers : List Answer) → is_ok_answer a ≡ true → course (p ∷ plan) (a ∷ answers) ≡ p.ask ∷ course plan answers
 course_behind p plan a answers e =
-    course_by_is (p ∷ plan) (a ∷ answers) (bad_place (a ∷ answers))
+    course_by_is (p ∷ plan) (a ∷ answers) (first_bad_at (a ∷ answers))
     ∙ ap (λ (o : Option ℕ). course_by (p ∷ plan) o (first_bad (a ∷ answers))) (bad_behind a answers e)
-    ∙ ap (λ (bad : Option Answer). course_by (p ∷ plan) (further (bad_place answers)) bad) (first_behind a answers e)
-    ∙ behind p plan (bad_place answers) (first_bad answers)
-    ∙ ap (λ (asks : List Ask). p.ask ∷ asks) (sym (course_by_is plan answers (bad_place answers)))
+    ∙ ap (λ (bad : Option Answer). course_by (p ∷ plan) (further (first_bad_at answers)) bad) (first_behind a answers e)
+    ∙ behind p plan (first_bad_at answers) (first_bad answers)
+    ∙ ap (λ (asks : List Ask). p.ask ∷ asks) (sym (course_by_is plan answers (first_bad_at answers)))
 
 course_bad : (p : PlannedAsk) (plan : List PlannedAsk) (a : Answer) (answers : List Answer) → is_ok_answer a ≡ false → course (p ∷ plan) (a ∷ answers) ≡ p.ask ∷ (if is_undone a then p.undo else [])
 course_bad p plan a answers e =
-    course_by_is (p ∷ plan) (a ∷ answers) (bad_place (a ∷ answers))
+    course_by_is (p ∷ plan) (a ∷ answers) (first_bad_at (a ∷ answers))
     ∙ ap (λ (o : Option ℕ). course_by (p ∷ plan) o (first_bad (a ∷ answers))) (bad_first a answers e)
     ∙ ap (λ (bad : Option Answer). course_by (p ∷ plan) (Some 0) bad) (first_is a answers e)
 
@@ -88,7 +88,7 @@ no_course answers None = refl
 no_course answers (Some k) = rw (take-nil (k + 1)) refl
 
 nothing_left : (answers : List Answer) → next_of (asks_left [] answers) ≡ next.Finish
-nothing_left answers = ap next_of (ap (λ (asks : List Ask). drop (length answers) asks) (no_course answers (bad_place answers)) ∙ drop-nil (length answers))
+nothing_left answers = ap next_of (ap (λ (asks : List Ask). drop (length answers) asks) (no_course answers (first_bad_at answers)) ∙ drop-nil (length answers))
 
 taken_if : (b : Bool) (n : ℕ) (asks : List Ask) → take n (if b then asks else []) ≡ (if b then take n asks else [])
 taken_if true n asks = refl
@@ -108,7 +108,7 @@ made_first false p plan a answers e = rw (course_bad p plan a answers e) refl
 -- the asks that are made along the answers are those of the definition
 pub made_so : (plan : List PlannedAsk) (answers : List Answer) → made_along plan answers ≡ asks_made plan answers
 made_so plan [] = refl
-made_so [] (a ∷ answers) = sym (ap (λ (asks : List Ask). take (suc (length answers)) asks) (no_course (a ∷ answers) (bad_place (a ∷ answers))))
+made_so [] (a ∷ answers) = sym (ap (λ (asks : List Ask). take (suc (length answers)) asks) (no_course (a ∷ answers) (first_bad_at (a ∷ answers))))
 made_so (p ∷ plan) (a ∷ answers) =
     ap (λ (asks : List Ask). p.ask ∷ asks) (ap (λ (t : Bool). if t then made_along plan answers else if is_undone a then take (length answers) p.undo else []) refl ∙ made_by (is_ok_answer a) p plan a answers refl (made_so plan answers))
     ∙ sym (made_first (is_ok_answer a) p plan a answers refl)
@@ -130,7 +130,7 @@ short_by false p plan a answers e h = rw (course_bad p plan a answers e) (short_
 
 course_short : (plan : List PlannedAsk) (answers : List Answer) → length (course plan answers) ≤ most_asks plan
 course_short plan [] = all_short plan
-course_short [] (a ∷ answers) = rw (no_course (a ∷ answers) (bad_place (a ∷ answers))) (omega arith)
+course_short [] (a ∷ answers) = rw (no_course (a ∷ answers) (first_bad_at (a ∷ answers))) (omega arith)
 course_short (p ∷ plan) (a ∷ answers) = short_by (is_ok_answer a) p plan a answers refl (course_short plan answers)
 
 has_more : (n : ℕ) (asks : List Ask) → is_ask (next_of (drop n asks)) ≡ true → n < length asks

@@ -5,7 +5,7 @@ use Rattle.domain_spec.specs.Types.{Answer, Ask, Call, Command, Domain, DomainDe
 use Rattle.domain_spec.specs.Types.call
 use Rattle.domain_spec.specs.Types.state
 use Rattle.domain_spec.specs.declared.planned.PlannedAsk.{PlannedAsk}
-use Rattle.domain_spec.specs.Asks.{asks_left, asks_made, bad_place, course_at, plain}
+use Rattle.domain_spec.specs.Asks.{asks_left, asks_made, course_at, first_bad_at, plain}
 use Rattle.domain_spec.specs.Call.{command_of, guest_plan, held_plan, live_plan, plan_of, put_plan, tell_if}
 use Rattle.domain_spec.specs.Reading.{is_paused, is_running}
 use Rattle.domain_spec.specs.Sequential.{asked, makes_asks, still_asked}
@@ -20,10 +20,10 @@ no_course answers None = refl
 no_course answers (Some k) = rw (take-nil (k + 1)) refl
 
 nothing_left : (answers : List Answer) → asks_left [] answers ≡ []
-nothing_left answers = ap (λ (asks : List Ask). drop (length answers) asks) (no_course answers (bad_place answers)) ∙ drop-nil (length answers)
+nothing_left answers = ap (λ (asks : List Ask). drop (length answers) asks) (no_course answers (first_bad_at answers)) ∙ drop-nil (length answers)
 
 nothing_made : (answers : List Answer) → asks_made [] answers ≡ []
-nothing_made answers = ap (λ (asks : List Ask). take (length answers) asks) (no_course answers (bad_place answers)) ∙ take-nil (length answers)
+nothing_made answers = ap (λ (asks : List Ask). take (length answers) asks) (no_course answers (first_bad_at answers)) ∙ take-nil (length answers)
 
 left_if : (b : Bool) (plan : List PlannedAsk) (answers : List Answer) → asks_left (if b then plan else []) answers ≡ (if b then asks_left plan answers else [])
 left_if true plan answers = refl

@@ -7,7 +7,7 @@ use Rattle.std.proofs.lemmas.List.{length-append}
 use Rattle.domain_spec.specs.Types.{Answer, Ask, Call, State}
 use Rattle.domain_spec.specs.Types.answer
 use Rattle.domain_spec.specs.declared.planned.PlannedAsk.{PlannedAsk}
-use Rattle.domain_spec.specs.Asks.{asks_left, bad_place, first_bad, is_ok_answer, is_undone, plain}
+use Rattle.domain_spec.specs.Asks.{asks_left, first_bad, first_bad_at, is_ok_answer, is_undone, plain}
 use Rattle.domain_spec.specs.Sequential.{still_asked}
 use Rattle.core_rules.specs.Cores.{core_of_call}
 use Rattle.core_rules.specs.declared.cores.Core.TheVariants as core
@@ -69,17 +69,17 @@ at_first true n len =
     undo_is _ _ _ _ e f
 at_first false n len = refl
 
-place_step : (b : Bool) (n : ℕ) (a : Answer) (answers : List Answer) → is_ok_answer a ≡ b → place_from (n + 1) answers ≡ further_on (n + 1) (place_by answers (bad_place answers))
-    → (if b then place_from (n + 1) answers else if is_undone a then place.Undo n (length answers) else place.Through) ≡ further_on n (place_by (a ∷ answers) (bad_place (a ∷ answers)))
+place_step : (b : Bool) (n : ℕ) (a : Answer) (answers : List Answer) → is_ok_answer a ≡ b → place_from (n + 1) answers ≡ further_on (n + 1) (place_by answers (first_bad_at answers))
+    → (if b then place_from (n + 1) answers else if is_undone a then place.Undo n (length answers) else place.Through) ≡ further_on n (place_by (a ∷ answers) (first_bad_at (a ∷ answers)))
 place_step true n a answers is so =
-    so ∙ shifted n a answers (bad_place answers) (first_behind a answers is)
+    so ∙ shifted n a answers (first_bad_at answers) (first_behind a answers is)
     ∙ sym (ap (λ (o : Option ℕ). further_on n (place_by (a ∷ answers) o)) (bad_behind a answers is))
 place_step false n a answers is so =
     at_first (is_undone a) n (length answers)
     ∙ sym (ap (λ (o : Option ℕ). further_on n (place_by (a ∷ answers) o)) (bad_first a answers is)
     ∙ ap (λ (bad : Option Answer). further_on n (place_behind (suc (length answers)) 0 bad)) (first_is a answers is))
 
-place_found : (n : ℕ) (answers : List Answer) → place_from n answers ≡ further_on n (place_by answers (bad_place answers))
+place_found : (n : ℕ) (answers : List Answer) → place_from n answers ≡ further_on n (place_by answers (first_bad_at answers))
 place_found n [] = let e : n ≡ n + 0 = omega arith in plan_is _ _ e
 place_found n (a ∷ answers) = place_step (is_ok_answer a) n a answers refl (place_found (n + 1) answers)
 
@@ -90,7 +90,7 @@ none_on place.Through = refl
 
 found : (answers : List Answer) → place_after answers ≡ place_from 0 answers
 unfolding place_after
-found answers = sym (place_found 0 answers ∙ none_on (place_by answers (bad_place answers)))
+found answers = sym (place_found 0 answers ∙ none_on (place_by answers (first_bad_at answers)))
 
 -- one more answer
 

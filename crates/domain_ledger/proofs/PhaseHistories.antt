@@ -13,7 +13,7 @@ use Rattle.domain_spec.specs.declared.open.OpenOperation.{OpenOperation}
 use Rattle.domain_spec.specs.declared.standing.Standing.{Standing}
 use Rattle.domain_spec.specs.declared.step.Outcome.{Outcome}
 use Rattle.domain_spec.specs.declared.step.Outcome.TheVariants as outcome
-use Rattle.domain_spec.specs.Asks.{bad_place, course_at}
+use Rattle.domain_spec.specs.Asks.{course_at, first_bad_at}
 use Rattle.domain_spec.specs.Call.{takes_up}
 use Rattle.domain_spec.specs.Fold.{after, after_phase, job_at_exit, lost_boot, standing}
 use Rattle.domain_spec.specs.Lawful.{IsNested, IsPhased}
@@ -209,10 +209,10 @@ no_course answers None = refl
 no_course answers (Some k) = rw (take-nil (k + 1)) refl
 
 none_next : next_in unasked ≡ next.Finish
-none_next = ap (λ (asks : List Ask). next_of (drop 1 asks)) (no_course (answer.NoMemory ∷ []) (bad_place (answer.NoMemory ∷ [])))
+none_next = ap (λ (asks : List Ask). next_of (drop 1 asks)) (no_course (answer.NoMemory ∷ []) (first_bad_at (answer.NoMemory ∷ [])))
 
 none_made : made unasked ≡ []
-none_made = ap (λ (asks : List Ask). take 1 asks) (no_course (answer.NoMemory ∷ []) (bad_place (answer.NoMemory ∷ [])))
+none_made = ap (λ (asks : List Ask). take 1 asks) (no_course (answer.NoMemory ∷ []) (first_bad_at (answer.NoMemory ∷ [])))
 
 not_ask : (n : Next) → n ≡ next.Finish → is_ask n ≡ true → ⊥
 not_ask n e f = cc

@@ -11,7 +11,7 @@ use Rattle.domain_spec.specs.declared.open.OpenJob.{OpenJob}
 use Rattle.domain_spec.specs.declared.open.OpenOperation.{OpenOperation}
 use Rattle.domain_spec.specs.declared.planned.PlannedAsk.{PlannedAsk}
 use Rattle.domain_spec.specs.declared.standing.Standing.{Standing}
-use Rattle.domain_spec.specs.Asks.{asks_made, bad_place, course_at}
+use Rattle.domain_spec.specs.Asks.{asks_made, course_at, first_bad_at}
 use Rattle.domain_spec.specs.Call.{guest_plan, held_plan, takes_up}
 use Rattle.domain_spec.specs.Exit.{exit_state}
 use Rattle.domain_spec.specs.HistoryLaws.{AskedStays, PhaseAskedStays}
@@ -30,7 +30,7 @@ no_course answers (Some k) = rw (take-nil (k + 1)) refl
 
 -- a call that asks nothing
 nothing_asked : (answers : List Answer) → asks_made [] answers ≡ []
-nothing_asked answers = ap (take (length answers)) (no_course answers (bad_place answers)) ∙ take-nil (length answers)
+nothing_asked answers = ap (take (length answers)) (no_course answers (first_bad_at answers)) ∙ take-nil (length answers)
 
 no_plan : (live : Option Live) → guest_plan live call.Abort ≡ []
 no_plan None = refl

@@ -10,7 +10,7 @@ use Rattle.domain_spec.specs.declared.step.Outcome.{Outcome}
 use Rattle.domain_spec.specs.Begin.{begin_state, taken_up_state}
 use Rattle.domain_spec.specs.Exit.{event_state, exit_state}
 use Rattle.domain_spec.specs.Fold.{after, after_phase, after_take_up, at_base}
-use Rattle.domain_spec.specs.Laws.{EachEndsOnce, IsCounted, IsRising, RiseAbove, ended_boots}
+use Rattle.domain_spec.specs.Laws.{EachEndsOnce, IsCounted, NumbersRise, RiseAbove, ended_boots}
 use Rattle.domain_spec.specs.Legal.{IsLegal}
 use Rattle.domain_spec.specs.Open.{IsKnownBoot}
 use Rattle.domain_spec.specs.Phase.{phase_of, without_operation}
@@ -129,7 +129,7 @@ mark_counted s (mark.Exit boot why events) h = stays_counted s.state (exit_state
 mark_counted s (mark.Event boot e events) h = stays_counted s.state (event_state s.state e) h (live_boot-event s.state e) (boots_of-event s.state e)
 mark_counted s other h = h
 
-rising : (s : Standing) (marks : List (Mark ℕ)) → IsCounted s → IsLegal s marks → IsRising (ended_boots marks)
+rising : (s : Standing) (marks : List (Mark ℕ)) → IsCounted s → IsLegal s marks → NumbersRise (ended_boots marks)
 rising s [] counted legal = tt
 rising s (mark.Exit boot why events ∷ marks) counted legal =
     rise boot (after s (mark.Exit boot why events)) marks (exit_later s.state boot why counted legal.0.in_order.0) legal.1

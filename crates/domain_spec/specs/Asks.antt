@@ -39,8 +39,8 @@ abbrev pub first_bad : List Answer → Option Answer
 first_bad answers = find (λ a. not (is_ok_answer a)) answers
 
 -- the place of the first answer that is not Ok
-abbrev pub bad_place : List Answer → Option ℕ
-bad_place answers = position (λ a. not (is_ok_answer a)) answers
+abbrev pub first_bad_at : List Answer → Option ℕ
+first_bad_at answers = position (λ a. not (is_ok_answer a)) answers
 
 -- what undoes this ask after this answer
 abbrev pub undo_at : Option PlannedAsk → Option Answer → List Ask
@@ -55,7 +55,7 @@ course_at plan answers (Some k) = map (λ p. p.ask) (take (k + 1) plan) ++ undo_
 -- all asks, as far as these answers show: those of the plan, cut after the one whose answer is not
 -- Ok, and then the undo of that one
 abbrev pub course : List PlannedAsk → List Answer → List Ask
-course plan answers = course_at plan answers (bad_place answers)
+course plan answers = course_at plan answers (first_bad_at answers)
 
 -- the asks that are made where these answers come: one an answer
 abbrev pub asks_made : List PlannedAsk → List Answer → List Ask

@@ -91,7 +91,7 @@ IsDone s None number who c boot asks answers r events = ⊥
 IsDone s (Some j) number who c boot asks answers r events = IsOpen j number who c boot × IsDoneAs s j.before c boot asks answers r events
 
 -- a call is refused since its job is excluded
-pub record IsRefused (s : Standing) (who : Who) (c : Call) (why : RefusalCode) (held : HeldJobs) : Type 0 where
+pub record IsLawfulRefusal (s : Standing) (who : Who) (c : Call) (why : RefusalCode) (held : HeldJobs) : Type 0 where
   pub held_then : IsRecord s held
   pub excluded : Excludes held.active held.op c who
   pub code : IsRefusedAs why held who

@@ -76,13 +76,13 @@ RiseAbove low [] = Unit {0}
 RiseAbove low (n ∷ ns) = (low < n) × RiseAbove n ns
 
 -- each number is above the one before it
-abbrev pub IsRising : List ℕ → Type 0
-IsRising [] = Unit {0}
-IsRising (n ∷ ns) = RiseAbove n ns
+abbrev pub NumbersRise : List ℕ → Type 0
+NumbersRise [] = Unit {0}
+NumbersRise (n ∷ ns) = RiseAbove n ns
 
 -- boots end in the order of their numbers, so none ends twice
 abbrev pub EachEndsOnce : Type 0
-EachEndsOnce = (b : Base) (marks : List (Mark ℕ)) → IsCounted (at_base b) → IsLegal (at_base b) marks → IsRising (ended_boots marks)
+EachEndsOnce = (b : Base) (marks : List (Mark ℕ)) → IsCounted (at_base b) → IsLegal (at_base b) marks → NumbersRise (ended_boots marks)
 
 -- this boot, where it is not live
 abbrev pub unless_live : Bool → ℕ → List ℕ

@@ -8,7 +8,7 @@ use Rattle.domain_spec.specs.declared.standing.Client.{Client}
 use Rattle.domain_spec.specs.declared.standing.Standing.{Standing}
 use Rattle.domain_spec.specs.Exit.{event_transitions, exit_transitions}
 use Rattle.domain_spec.specs.Fold.{after, is_client, standing}
-use Rattle.domain_spec.specs.Lawful.{IsAdmitted, IsDone, IsEnded, IsPhased, IsRefused, IsStarted, IsTakenUp}
+use Rattle.domain_spec.specs.Lawful.{IsAdmitted, IsDone, IsEnded, IsLawfulRefusal, IsPhased, IsStarted, IsTakenUp}
 use Rattle.domain_spec.specs.Reading.{is_live}
 
 -- the registration of this client
@@ -43,7 +43,7 @@ IsOfClient clients other = ⊥
 abbrev pub IsInOrder : Standing → Mark ℕ → Type 0
 IsInOrder s (mark.Admit number who wanted c boot) = IsAdmitted s number who wanted c boot
 IsInOrder s (mark.Done number who c boot asks answers r events) = IsDone s s.job number who c boot asks answers r events
-IsInOrder s (mark.Refused number who c why held) = IsRefused s who c why held
+IsInOrder s (mark.Refused number who c why held) = IsLawfulRefusal s who c why held
 IsInOrder s (mark.Start number who c boot) = IsStarted s s.job number who c boot
 IsInOrder s (mark.TakeUp number who c) = IsTakenUp s s.job number who c
 IsInOrder s (mark.Phase number who p asks answers next events) = IsPhased s s.job s.operation number who p asks answers next events

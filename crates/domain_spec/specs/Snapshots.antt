@@ -1,19 +1,12 @@
 -- The snapshots of a domain: a list by rising name, in which each names its parent (libvirt's
 -- snapshot XML format, `name` and `parent`).
-use Rattle.std.specs.Prelude.{ℕ, ◌+◌, List, [], ◌∷◌, ◌++◌, codes, decimal, unwrap_or, Bool, true, false, not, ◌||◌, map, filter, find, insert, bytes_eq, Option, None, Some, is_some, if◌then◌else◌}
+use Rattle.std.specs.Prelude.{ℕ, ◌+◌, List, [], ◌∷◌, ◌++◌, codes, decimal, unwrap_or, Bool, true, false, not, ◌||◌, map, filter, insert, bytes_eq, Option, None, Some, is_some, if◌then◌else◌}
 use Rattle.std.specs.List.{position_or_len}
 use Rattle.std.specs.Ordering.{nat_cmp, is_lt}
 use Rattle.std.specs.Cmp.Lexicographic.{slice_cmp}
 use Rattle.domain_spec.specs.Types.{Domain, RunState, Snap, SnapInfo}
 use Rattle.domain_spec.specs.Reading.{is_running}
-
--- the snapshot has this name
-abbrev pub is_named : List ℕ → Snap → Bool
-is_named name snap = bytes_eq snap.name name
-
--- the snapshot of this name
-abbrev pub snapshot_named : List Snap → List ℕ → Option Snap
-snapshot_named snaps name = find (is_named name) snaps
+pub use Rattle.virt_types.specs.Snapshots.{is_named, is_parent, snapshot_named}
 
 -- the place of a name: before the first snapshot with a greater one
 abbrev pub place_of : List Snap → List ℕ → ℕ
@@ -40,11 +33,6 @@ snapshot_ran snap = ran_in snap.run
 abbrev pub parent_of : Option Snap → Option (List ℕ)
 parent_of None = None
 parent_of (Some snap) = snap.parent
-
--- the parent has this name
-abbrev pub is_parent : Option (List ℕ) → List ℕ → Bool
-is_parent None name = false
-is_parent (Some parent) name = bytes_eq parent name
 
 -- this name is met on the way from a parent to its parents; there are no more steps than snapshots
 abbrev pub is_met : List Snap → List Snap → List ℕ → Option (List ℕ) → Bool

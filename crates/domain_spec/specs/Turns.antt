@@ -16,7 +16,7 @@ use Rattle.domain_spec.specs.Chapter.{first_base, next_base}
 use Rattle.domain_spec.specs.Exit.{event_transitions}
 use Rattle.domain_spec.specs.Fold.{after, at_base, standing}
 use Rattle.domain_spec.specs.Kept.{AppliesHeld, WaitAfter, ears_after, held_by}
-use Rattle.domain_spec.specs.Lawful.{IsDone, IsEnded, IsPhased, IsRefused, IsStarted, IsTakenUp}
+use Rattle.domain_spec.specs.Lawful.{IsDone, IsEnded, IsLawfulRefusal, IsPhased, IsStarted, IsTakenUp}
 use Rattle.domain_spec.specs.Legal.{IsInOrder, IsLegal, MarksLoss}
 use Rattle.domain_spec.specs.Reading.{is_live}
 use Rattle.domain_spec.specs.Registrations.{HasRoom, is_numbered, registrations_after, registrations_at, registrations_taken}
@@ -53,7 +53,7 @@ pub record IsNextClient (c : Cell) (client : ℕ) : Type 0 where
 -- a mark by which a turn begins: a call is let in or turned away, an operation ends, a client comes or goes
 abbrev pub BeginsBy : Cell → CoreStep ℕ → Standing → Mark ℕ → Type 0
 BeginsBy c t s (mark.Admit number who wanted d boot) = LetsIn c t number who wanted d boot
-BeginsBy c t s (mark.Refused number who d why held) = TurnsAway c t number who d why held × IsRefused s who d why held
+BeginsBy c t s (mark.Refused number who d why held) = TurnsAway c t number who d why held × IsLawfulRefusal s who d why held
 BeginsBy c (step.EndOp n w) s (mark.End number who r) = (number ≡ n) × (who ≡ w) × IsEnded s s.operation number who r
 BeginsBy c (step.Watch n) s (mark.Watch number client) = (number ≡ n) × IsInOrder s (mark.Watch number client) × IsNextClient c client
 BeginsBy c (step.Unwatch n k) s (mark.Unwatch number client) = (number ≡ n) × (client ≡ k) × IsInOrder s (mark.Unwatch number client)

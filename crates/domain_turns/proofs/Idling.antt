@@ -13,7 +13,7 @@ use Rattle.domain_spec.specs.CanTake.{CanLook, CanTake}
 use Rattle.domain_spec.specs.Cell.{Cell, HeldEvent, LentEars, Queue}
 use Rattle.domain_spec.specs.Fold.{after}
 use Rattle.domain_spec.specs.Kept.{LooksOn, due_events, held_by, left_queue}
-use Rattle.domain_spec.specs.Lawful.{IsRefused}
+use Rattle.domain_spec.specs.Lawful.{IsLawfulRefusal}
 use Rattle.domain_spec.specs.Turns.{AllHaveRoom, AnswersAfter}
 use Rattle.domain_asks.specs.Along.{Asked}
 use Rattle.domain_ledger.specs.Away.{WaitsWith}
@@ -87,7 +87,7 @@ look_idle r q p held ears n who d first can settled room fits looks =
 
 -- what is known where a call is turned away
 pub record TurnsAway (old new : Recorded) (q : Queue) (held : List HeldEvent) (n : ℕ) (who : Who) (d : Call) (why : RefusalCode) (jobs : HeldJobs) : Type 0 where
-  pub refused : IsRefused (force_of old) who d why jobs
+  pub refused : IsLawfulRefusal (force_of old) who d why jobs
   pub waiting : jobs.waiting ≡ map (λ w. w.who) q.callers
   pub lost : (force_of old).lost ≡ None
   pub fits : FitsJob (force_of old).job held

@@ -13,7 +13,7 @@ use Rattle.domain_spec.specs.Carried.{WasLiveOrBefore}
 use Rattle.domain_spec.specs.Cell.{Cell, Queue, share_of, standing_of}
 use Rattle.domain_spec.specs.JobTable.{May}
 use Rattle.domain_spec.specs.Kept.{joined_queue, left_queue, looks_of}
-use Rattle.domain_spec.specs.Lawful.{IsRefused}
+use Rattle.domain_spec.specs.Lawful.{IsLawfulRefusal}
 use Rattle.domain_spec.specs.Open.{Excludes, job_held, operation_held}
 use Rattle.domain_spec.specs.Reading.{live_boot}
 use Rattle.domain_ledger.specs.declared.ledger.Entry.TheVariants as entry
@@ -47,7 +47,7 @@ Enters n who c boot old new q p other = ⊥
 
 -- a call was turned away, having found these jobs held
 pub record IsTurned (n : ℕ) (who : Who) (c : Call) (jobs : HeldJobs) (old new : Recorded) : Type 0 where
-  pub refused : IsRefused (force_of old) who c code.TooManyWaiting jobs
+  pub refused : IsLawfulRefusal (force_of old) who c code.TooManyWaiting jobs
   pub marked : HasMarked old new (mark.Refused n who c code.TooManyWaiting jobs ∷ [])
   pub course : new.course ≡ old.course
 

@@ -7,7 +7,7 @@ use Rattle.domain_spec.specs.declared.mark.Mark.{Mark}
 use Rattle.domain_spec.specs.declared.mark.Mark.TheVariants as mark
 use Rattle.domain_spec.specs.Cell.{Queue}
 use Rattle.domain_spec.specs.Kept.{left_queue}
-use Rattle.domain_spec.specs.Lawful.{IsRefused}
+use Rattle.domain_spec.specs.Lawful.{IsLawfulRefusal}
 use Rattle.domain_spec.specs.Open.{Excludes, job_held, operation_held}
 use Rattle.domain_queue.specs.Waiting.{callers_in}
 use Rattle.domain_record.specs.Record.{HasMarked, Recorded, force_of}
@@ -26,7 +26,7 @@ IsSetAside r q rooms (Some x) = CanRefuse r q x × (1 + (ends_needed (force_of r
 
 -- a call was refused that looked often enough, having found these jobs held
 pub record IsGivenUp (n : ℕ) (x : Refusable) (jobs : HeldJobs) (old new : Recorded) : Type 0 where
-  pub refused : IsRefused (force_of old) x.who x.call code.OperationTimeout jobs
+  pub refused : IsLawfulRefusal (force_of old) x.who x.call code.OperationTimeout jobs
   pub marked : HasMarked old new (mark.Refused n x.who x.call code.OperationTimeout jobs ∷ [])
   pub course : new.course ≡ old.course
 

@@ -1,9 +1,9 @@
--- A history begins itself, beginnings go through, and of two histories the longer is begun by both.
+-- A history begins itself, beginnings go through, and of two histories the longer_history is begun by both.
 use Rattle.std.proofs.Common.{◌≡◌, ◌⊎◌, ℕ, ◌<◌, ◌≤◌, Bool, true, false, true≢false, cond, List, [], ◌++◌, length, inl, inr, ⊎_elim, refl, sym, ap, ◌∙◌, subst, append_assoc, append-nil, length-append, arith}
 use Rattle.std.proofs.lemmas.Bool.{cases_lt}
 use Rattle.std.proofs.lemmas.List.{nil_from_length}
 use Rattle.history_spec.specs.declared.history.History.{History}
-use Rattle.history_spec.specs.Front.{front_of, front_lt, longer}
+use Rattle.history_spec.specs.Front.{front_lt, front_of, longer_history}
 use Rattle.history_spec.specs.Begins.{IsPrefix, SameChapter, LaterChapter, Begins}
 use Rattle.history_spec.proofs.Fronts.{front_lt-true, earlier-front_lt, fewer-front_lt}
 
@@ -80,12 +80,12 @@ module _ {B M : Type 0} (rising : B → List M → ℕ) where
   by_test a b true e p = (⊎_elim (λ (x : Begins rising a b). x) (λ (x : Begins rising b a). absurd (further_back a b e x)) p, begins_itself b)
   by_test a b false e p = (begins_itself a, ⊎_elim (λ (x : Begins rising a b). no_further a b e x) (λ (x : Begins rising b a). x) p)
 
-  -- of two histories of one value, both begin the longer
-  pub both_begin : (a b : History B M) → Begins rising a b ⊎ Begins rising b a → Begins rising a (longer a b) × Begins rising b (longer a b)
+  -- of two histories of one value, both begin the longer_history
+  pub both_begin : (a b : History B M) → Begins rising a b ⊎ Begins rising b a → Begins rising a (longer_history a b) × Begins rising b (longer_history a b)
   both_begin a b p = by_test a b (front_lt (front_of a) (front_of b)) refl p
 
-  -- the longer is one of the two
-  pub longer_either : (P : History B M → Type 0) (a b : History B M) → P a → P b → P (longer a b)
+  -- the longer_history is one of the two
+  pub longer_either : (P : History B M → Type 0) (a b : History B M) → P a → P b → P (longer_history a b)
   longer_either P a b p q = by (front_lt (front_of a) (front_of b))
     where
       by : (t : Bool) → P (cond t b a)

@@ -16,5 +16,5 @@ abbrev pub front_lt : Front → Front → Bool
 front_lt a b = nat_lt a.chapter b.chapter || ((a.chapter == b.chapter) && nat_lt a.marks b.marks)
 
 -- of two histories the first, unless the second has come further
-abbrev pub longer : {B M : Type 0} → History B M → History B M → History B M
-longer a b = if front_lt (front_of a) (front_of b) then b else a
+abbrev pub longer_history : {B M : Type 0} → History B M → History B M → History B M
+longer_history a b = if front_lt (front_of a) (front_of b) then b else a

@@ -1,7 +1,7 @@
 // What answers say of the asks that they answer.
 ghost use Rattle.std.specs.Prelude.{◌≡◌, IfOk, Option, not, position};
 ghost use Rattle.std.specs.List.{list_any};
-ghost use Rattle.domain_spec.specs.Asks.{bad_place, first_bad, first_value, is_ended_answer, is_lost_answer, is_ok_answer, is_undone, last_value, value_of};
+ghost use Rattle.domain_spec.specs.Asks.{first_bad, first_bad_at, first_value, is_ended_answer, is_lost_answer, is_ok_answer, is_undone, last_value, value_of};
 
 use virt_types::{Answer, AnswerValue, NoMemory, TryCopy};
 
@@ -67,8 +67,8 @@ pub fn first_bad(answers: &[Answer]) -> Result<Option<Answer>, NoMemory>
 }
 
 /// The place of the first answer that is not Ok.
-pub fn bad_place(answers: &[Answer]) -> Option<usize>
-    ensures { result ≡ bad_place answers.now }
+pub fn first_bad_at(answers: &[Answer]) -> Option<usize>
+    ensures { result ≡ first_bad_at answers.now }
 {
     answers.iter().position(|answer| !is_ok_answer(answer))
 }

@@ -2,7 +2,7 @@
 ghost use Rattle.std.specs.Prelude.{◌≡◌, IfOk, Some, map, slice_get, take};
 ghost use Rattle.domain_spec.specs.Asks.{asks_left, asks_made, course, course_at, plain, undo_at, undone_by};
 
-use crate::answers::{bad_place, first_bad, is_undone};
+use crate::answers::{first_bad, first_bad_at, is_undone};
 use crate::lists::{behind, front_of, joined, led_by};
 use domain_spec::PlannedAsk;
 use std::alloc::Global;
@@ -106,7 +106,7 @@ fn cut_course(
 fn course(alloc: Global, plan: &[PlannedAsk], answers: &[Answer]) -> Result<AskList, NoMemory>
     ensures { IfOk result (λ asks. asks ≡ course plan.now answers.now) }
 {
-    match bad_place(answers) {
+    match first_bad_at(answers) {
         None => asks_of(alloc, plan),
         Some(place) => cut_course(alloc, plan, answers, place),
     }

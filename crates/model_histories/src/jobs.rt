@@ -1,6 +1,6 @@
 // What is open, and what may be let in beside it.
 ghost use Rattle.std.specs.Prelude.{◌≡◌, ◌↔◌, IsTrue};
-ghost use Rattle.domain_spec.specs.Lawful.{IsAdmitted, IsNested, IsOpen, IsRefused, NoneNested};
+ghost use Rattle.domain_spec.specs.Lawful.{IsAdmitted, IsLawfulRefusal, IsNested, IsOpen, NoneNested};
 ghost use Rattle.domain_spec.specs.Open.{AreDistinct, Excludes, IsCarried, IsCrowded, IsKnownBoot, IsOtherNumber, IsOwnJob, IsRecord, IsRefusedAs, MayAdmit, OperationGoesOn, is_among, is_rest, is_same_who, job_held, kind_begun, operation_held};
 
 use domain_spec::{HeldJobs, HeldOperation, OpenJob, OpenOperation, Outcome, Standing};
@@ -239,7 +239,7 @@ fn is_record(s: &Standing, held: &HeldJobs) -> bool
 
 /// Whether a call is refused since its job is excluded.
 pub fn is_refused(s: &Standing, who: Who, call: &Call, code: RefusalCode, held: &HeldJobs) -> bool
-    ensures { IsTrue result ↔ IsRefused s.now who call.now code held.now }
+    ensures { IsTrue result ↔ IsLawfulRefusal s.now who call.now code held.now }
 {
     is_record(s, held)
         && excludes(held.active, held.op, call, who)

@@ -4,7 +4,7 @@ use Rattle.domain_spec.specs.Types.{Answer, Ask, Call, Live, Refusal, State}
 use Rattle.domain_spec.specs.Types.call
 use Rattle.domain_spec.specs.Types.state
 use Rattle.domain_spec.specs.declared.planned.PlannedAsk.{PlannedAsk}
-use Rattle.domain_spec.specs.Asks.{asks_left, bad_place, course_at, first_bad, undo_at}
+use Rattle.domain_spec.specs.Asks.{asks_left, course_at, first_bad, first_bad_at, undo_at}
 use Rattle.domain_spec.specs.Call.{guest_plan, plan_of}
 use Rattle.domain_spec.specs.Sequential.{makes_asks, still_asked, tested_step}
 use Rattle.core_rules.specs.Cores.{core_of_call}
@@ -38,7 +38,7 @@ empty_course answers (Some k) =
     ∙ ap (λ p. undo_at p (first_bad answers)) (nothing_at k) ∙ nothing_undone (first_bad answers)
 
 pub nothing_left : (answers : List Answer) → asks_left [] answers ≡ []
-nothing_left answers = ap (drop (length answers)) (empty_course answers (bad_place answers)) ∙ nothing_dropped (length answers)
+nothing_left answers = ap (drop (length answers)) (empty_course answers (first_bad_at answers)) ∙ nothing_dropped (length answers)
 
 on_guest : (live : Option Live) (c : Call) → ((l : Live) → guest_plan (Some l) c ≡ []) → guest_plan live c ≡ []
 on_guest None c h = refl

@@ -7,7 +7,7 @@ use lib.ListN.{get_elem?}
 use Rattle.atomic_table.proofs.Lists.{at_set, set_else, set_here}
 use Rattle.history_spec.specs.declared.history.History.{History}
 use Rattle.history_spec.specs.declared.history.Ended.{Ended}
-use Rattle.history_spec.specs.Front.{longer}
+use Rattle.history_spec.specs.Front.{longer_history}
 use Rattle.history_spec.specs.Begins.{IsPrefix}
 use Rattle.history_spec.specs.Chapter.{in_chapter}
 use Rattle.history_spec.proofs.Beginnings.{begins_itself, begins_through, begins_chapter, both_begin, longer_either}
@@ -27,7 +27,7 @@ module _ {T B M S : Type 0} (K : Meaning T B M S) where
       let both : Knows B M S = both_of turns a b in
       let mid : List (Knows B M S) = set all id both in
       let after : List (Knows B M S) = set mid other gone in
-      let far : History B M = longer a.seen b.seen in
+      let far : History B M = longer_history a.seen b.seen in
       let long : length after ≡ length all = length-set mid other gone ∙ length-set all id both in
       let mine = g.each id a at some_parts in
       let theirs = g.each other b there some_parts' in

@@ -8,7 +8,7 @@ use lib.ListN.{get_elem?}
 use Rattle.atomic_table.proofs.Lists.{at_longer, at_last, set_else, set_here}
 use Rattle.history_spec.specs.declared.history.History.{History}
 use Rattle.history_spec.specs.declared.history.Ended.{Ended}
-use Rattle.history_spec.specs.Front.{longer}
+use Rattle.history_spec.specs.Front.{longer_history}
 use Rattle.history_spec.specs.Begins.{IsPrefix, SameChapter, LaterChapter}
 use Rattle.history_spec.specs.Chapter.{in_chapter}
 use Rattle.history_spec.proofs.Beginnings.{prefix_whole, begins_itself}
@@ -34,7 +34,7 @@ module _ {B M S : Type 0} where
   abbrev pub both_of : ℕ → Knows B M S → Knows B M S → Knows B M S
   both_of turns a b = record a {
     parts = a.parts + b.parts;
-    seen = longer a.seen b.seen;
+    seen = longer_history a.seen b.seen;
     met = (a.seen, b.seen);
     ended = a.ended ++ record { number = b.number; turns = turns; mine = b.mine } ∷ b.ended;
   }

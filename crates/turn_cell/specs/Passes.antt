@@ -5,7 +5,7 @@ use Rattle.atomic_table.specs.Seated.{TableId}
 use Rattle.history_spec.specs.declared.history.History.{History}
 use Rattle.history_spec.specs.declared.history.Ended.{Ended}
 use Rattle.history_spec.specs.Chapter.{GoesOn, added, tagged, in_chapter}
-use Rattle.history_spec.specs.Front.{longer}
+use Rattle.history_spec.specs.Front.{longer_history}
 use Rattle.history_spec.specs.Pass.{AreOf, mine_after, held_after}
 use Rattle.turn_cell.specs.Meaning.{Meaning}
 use Rattle.turn_cell.specs.Known.{IsBegun, HasMarks, IsAmong, AreApart, Rests, own_in, turns_of_ended}
@@ -101,7 +101,7 @@ module _ {T B M S : Type 0} where
 -- two passes joined: the first, with what the second had seen and had done
 abbrev pub joined : {B M S : Type 0} → Passed B M S → Passed B M S → Passed B M S
 joined one other = record one {
-  seen = longer one.seen other.seen;
+  seen = longer_history one.seen other.seen;
   ended = one.ended ++ record { number = other.number; turns = other.turns; mine = other.mine } ∷ other.ended;
   parts = one.parts + other.parts;
   spent = one.spent || other.spent;

@@ -4,7 +4,7 @@ use Rattle.atomic_table.specs.Table.{Step, Me, rest}
 use Rattle.history_spec.specs.declared.history.History.{History}
 use Rattle.history_spec.specs.declared.history.Ended.{Ended}
 use Rattle.history_spec.specs.Chapter.{in_chapter}
-use Rattle.history_spec.specs.Front.{longer}
+use Rattle.history_spec.specs.Front.{longer_history}
 use Rattle.history_spec.specs.Pass.{mine_after, held_after}
 use Rattle.turn_cell.specs.Meaning.{Meaning}
 use Rattle.turn_cell.specs.Known.{IsBegun, own_in, HasMarks, IsAmong, AreApart, Rests}
@@ -119,7 +119,7 @@ module _ {T B M S : Type 0} where
     spent = v.spent || w.spent;
     knows = record v.knows {
       parts = v.knows.parts + w.knows.parts;
-      seen = longer v.knows.seen w.knows.seen;
+      seen = longer_history v.knows.seen w.knows.seen;
       met = (v.knows.seen, w.knows.seen);
       ended = v.knows.ended ++ record { number = w.knows.number; turns = w.turns; mine = w.knows.mine } ∷ w.knows.ended;
     };

@@ -4,7 +4,7 @@ use Rattle.std.specs.List.{list_any, position_or_len}
 use Rattle.std.proofs.lemmas.Bool.Decides.{nat_tests}
 use Rattle.domain_spec.specs.Types.{Answer, Ask}
 use Rattle.domain_spec.specs.Types.answer
-use Rattle.domain_spec.specs.Asks.{asks_left, asks_made, bad_place, course, course_at, first_bad, is_ended_answer, is_lost_answer, is_ok_answer, is_undone, undone_by}
+use Rattle.domain_spec.specs.Asks.{asks_left, asks_made, course, course_at, first_bad, first_bad_at, is_ended_answer, is_lost_answer, is_ok_answer, is_undone, undone_by}
 
 -- answers that are all Ok
 
@@ -16,7 +16,7 @@ no_further : (n m : ℕ) (b : Bool) → nat_lt n m ≡ b → (if b then Some n e
 no_further n m true e none = cc
 no_further n m false e none = let f : nat_lt (1 + n) (suc m) ≡ false = grind (arith, nat_tests) in ap (λ (t : Bool). if t then Some (1 + n) else None) f
 
-no_bad_behind : (a : Answer) (answers : List Answer) → is_ok_answer a ≡ true → bad_place answers ≡ None → bad_place (a ∷ answers) ≡ None
+no_bad_behind : (a : Answer) (answers : List Answer) → is_ok_answer a ≡ true → first_bad_at answers ≡ None → first_bad_at (a ∷ answers) ≡ None
 no_bad_behind a answers e none =
     let n : ℕ = position_or_len (λ x. not (is_ok_answer x)) answers in
     ap (λ (t : Bool). let first = (if not (not t) then 1 + n else 0) in if nat_lt first (suc (length answers)) then Some first else None) e
@@ -35,7 +35,7 @@ ok_head a answers none = ok_first (is_ok_answer a) a answers refl none
 pub ok_tail : (a : Answer) (answers : List Answer) → first_bad (a ∷ answers) ≡ None → first_bad answers ≡ None
 ok_tail a answers none = sym (first_behind a answers (ok_head a answers none)) ∙ none
 
-no_place : (answers : List Answer) → first_bad answers ≡ None → bad_place answers ≡ None
+no_place : (answers : List Answer) → first_bad answers ≡ None → first_bad_at answers ≡ None
 no_place [] none = refl
 no_place (a ∷ answers) none = no_bad_behind a answers (ok_head a answers none) (no_place answers (ok_tail a answers none))
 

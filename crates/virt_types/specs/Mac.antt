@@ -8,6 +8,7 @@ use Rattle.virt_types.specs.declared.mac.Mac.{Mac}
 abbrev pub byte_text : ℕ → List ℕ
 byte_text byte = digit_char (byte / 16) ∷ digit_char (byte % 16) ∷ []
 
+-- the letter between two bytes of an address
 abbrev pub colon : ℕ
 colon = 58
 

@@ -8,6 +8,7 @@ use Rattle.virt_types.specs.declared.domain.Snap.{Snap}
 abbrev pub is_before : List ℕ → List ℕ → Bool
 is_before one other = is_lt (slice_cmp nat_cmp one other)
 
+-- the snapshot has this name
 abbrev pub is_named : List ℕ → Snap → Bool
 is_named name snap = bytes_eq snap.name name
 
