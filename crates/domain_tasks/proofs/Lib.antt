@@ -4,3 +4,4 @@ pub mod Stopping
 pub mod Coming
 pub mod Answering
 pub mod Tasking
+pub mod OfOutcomes

@@ -2,3 +2,5 @@ pub mod Passes
 pub mod Telling
 pub mod Serving
 pub mod Tasked
+pub mod OfObjects
+pub mod OfOutcomes

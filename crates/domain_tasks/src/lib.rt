@@ -7,4 +7,6 @@ mod reading;
 mod tasks;
 mod telling;
 
+pub use domain_obj::{DomainObj, DomainPass, Queried};
+pub use outcome_spec::Outcome;
 pub use tasks::{Tasked, run_task};

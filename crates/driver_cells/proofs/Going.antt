@@ -1,9 +1,9 @@
 -- Rows that go on: each pass saw more, or is the same.
 use Rattle.std.proofs.Common.{◌≡◌, ◌++◌, List, [], ◌∷◌, map, sym, subst}
-use Rattle.domain_obj.specs.InTurn.{DomainPass}
+use Rattle.domain_tasks.specs.OfObjects.{DomainPass}
 use Rattle.domain_spec.specs.Chapter.{rising_number}
-use Rattle.outcome_spec.specs.Rows.{AreLater, DomainPass as KnownPass, HasGone, IsLater, KnownRow, level}
-use Rattle.outcome_spec.proofs.Going.{boots_stay, level_stays}
+use Rattle.domain_tasks.specs.OfOutcomes.{AreLater, DomainPass as KnownPass, HasGone, IsLater, KnownRow, level}
+use Rattle.domain_tasks.proofs.OfOutcomes.{boots_stay, level_stays}
 use Rattle.driver_cells.specs.Known.{DriverRow, known, known_row}
 use Rattle.driver_cells.proofs.Passing.{later_itself, later_through}
 

@@ -3,12 +3,11 @@ use Rattle.std.proofs.Common.{◌≡◌, ◌⊎◌, ℕ, zero, suc, Bool, true, 
 use Rattle.std.specs.List.{All}
 use Rattle.std.proofs.lemmas.List.Elements.{All-cons, All-nil}
 use Rattle.domain_cell.specs.Meaning.{meaning}
-use Rattle.domain_obj.specs.InTurn.{DomainPass}
+use Rattle.domain_tasks.specs.OfObjects.{DomainPass}
 use Rattle.object_list.specs.Keeping.{meaning as list_meaning}
 use Rattle.def_keeper.specs.Turns.{meaning as store_meaning}
 use Rattle.files_disk.specs.Telling.{Told}
-use Rattle.outcome_spec.specs.Rows.{DomainPass as KnownPass}
-use Rattle.outcome_spec.specs.Spent.{HasSpent}
+use Rattle.domain_tasks.specs.OfOutcomes.{DomainPass as KnownPass, HasSpent}
 use Rattle.pass_rows.specs.Resting.{IsIdle}
 use Rattle.pass_rows.specs.Rows.{IsIdleRow}
 use Rattle.turn_cell.specs.Meaning.{Meaning}

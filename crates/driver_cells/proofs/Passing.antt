@@ -1,7 +1,7 @@
 -- Passes that go on, as outcomes speak of them.
 use Rattle.std.proofs.Common.{◌≡◌, ℕ, List, true, refl, sym, ◌∙◌, subst}
 use Rattle.history_spec.proofs.Beginnings.{NoMarkLowers, begins_itself, begins_through, prefix_itself, prefix_through}
-use Rattle.outcome_spec.specs.Rows.{IsLater, Known}
+use Rattle.domain_tasks.specs.OfOutcomes.{IsLater, Known}
 use Rattle.turn_cell.specs.Meaning.{Meaning}
 use Rattle.turn_cell.specs.Passes.{Passed}
 use Rattle.turn_cell.specs.Turning.{Went}

@@ -7,7 +7,7 @@ use Rattle.def_keeper.specs.declared.mark.StoreMark.{StoreMark}
 use Rattle.domain_cell.specs.Celled.{CellShare}
 use Rattle.domain_spec.specs.declared.mark.Mark.{Mark}
 use Rattle.domain_spec.specs.declared.standing.Base.{Base}
-use Rattle.outcome_spec.specs.Rows.{Known, KnownRow}
+use Rattle.domain_tasks.specs.OfOutcomes.{Known, KnownRow}
 use Rattle.pass_rows.specs.Rows.{PassRow}
 use Rattle.turn_cell.specs.Passes.{Passed}
 

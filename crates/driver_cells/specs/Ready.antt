@@ -3,7 +3,7 @@ use Rattle.std.specs.Prelude.{◌≡◌, ◌⊎◌, true, length}
 use Rattle.std.specs.List.{All}
 use Rattle.book_spec.specs.Slots.{no_holds}
 use Rattle.domain_cell.specs.Meaning.{nothing_kept}
-use Rattle.domain_obj.specs.InTurn.{DomainPass}
+use Rattle.domain_tasks.specs.OfObjects.{DomainPass}
 use Rattle.object_list.specs.Turns.{ListPassed}
 use Rattle.virt_types.specs.Limits.{most_domains}
 use Rattle.driver_cells.specs.Known.{DriverRow}

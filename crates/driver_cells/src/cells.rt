@@ -1,7 +1,7 @@
 // The cells of a driver, and rows of passes for them.
 use def_keeper::{Keeper, Opening};
 use domain_cell::DomainCell;
-use domain_obj::DomainObj;
+use domain_tasks::DomainObj;
 use files_disk::Files;
 use monitor_link::{Ears, Killer, Monitor};
 use object_list::ObjectList;

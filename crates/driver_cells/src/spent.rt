@@ -1,9 +1,9 @@
 // A request of a row that has a pass without tickets.
 ghost use Rattle.std.specs.Prelude.{◌≡◌};
-ghost use Rattle.domain_obj.specs.Replies.{TellsSpent};
+ghost use Rattle.domain_tasks.specs.OfObjects.{TellsSpent};
 ghost use Rattle.driver_cells.specs.Fronts.{no_front};
 
-use outcome_spec::Outcome;
+use domain_tasks::Outcome;
 use refusal_replies::{ReplyRoom, no_memory};
 use std::alloc::Global;
 use virt_types::{CellName, Front, NoMemory};

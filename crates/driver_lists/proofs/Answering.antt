@@ -2,8 +2,7 @@
 use Rattle.std.proofs.Common.{◌≡◌, inl, ℕ, ℤ, List, map, take, nat_abs, Ok, Err, ap, ◌∙◌}
 use Rattle.std.specs.List.{filter}
 use Rattle.driver_cells.proofs.Stopping.{no_room, ran_out}
-use Rattle.outcome_spec.specs.Outcomes.{HasOutcome, IsStopped}
-use Rattle.outcome_spec.specs.Rows.{KnownRow}
+use Rattle.driver_cells.specs.OfOutcomes.{HasOutcome, IsStopped, KnownRow}
 use Rattle.virt_types.specs.declared.caller.CellName.TheVariants as cell
 use Rattle.virt_types.specs.declared.caller.Front.{Front}
 use Rattle.virt_types.specs.declared.request.Request.TheVariants as request

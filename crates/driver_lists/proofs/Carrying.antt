@@ -3,25 +3,27 @@ use Rattle.std.proofs.Common.{◌≡◌, List, length, map, refl, sym, ap, ◌�
 use Rattle.std.proofs.lemmas.List.{length-map}
 use Rattle.std.specs.List.{All}
 use Rattle.atomic_table.specs.Seated.{TableId}
-use Rattle.domain_obj.specs.InTurn.{DomainPass}
+use Rattle.driver_cells.specs.OfObjects.{DomainPass}
 use Rattle.driver_cells.specs.Known.{DriverRow, known, known_row}
+use Rattle.driver_cells.specs.Parts.{KeepsParts}
 use Rattle.driver_cells.specs.Ready.{HoldsNoSlot, IsReadyRow, KeepsNothing}
 use Rattle.driver_cells.proofs.Going.{are_later_itself}
 use Rattle.driver_cells.proofs.Passing.{later_itself}
 use Rattle.object_list.specs.Turns.{ListPassed}
-use Rattle.outcome_spec.specs.Rows.{HasGone, IsLater, level}
+use Rattle.driver_cells.specs.OfOutcomes.{HasGone, IsLater, level}
 use Rattle.pass_rows.specs.Cutting.{cell_of}
 use Rattle.pass_rows.specs.Rows.{IsOf}
 use Rattle.driver_lists.specs.Reading.{PassesGo}
 
 -- passes that stay as they are
 pub go_nowhere : (passes : List DomainPass) → All KeepsNothing passes → PassesGo passes passes
-go_nowhere passes rest = record { later = are_later_itself passes; cells = refl; rest = rest }
+go_nowhere passes rest = record { later = are_later_itself passes; cells = refl; parts = refl; rest = rest }
 
 -- a pass of the list went on, and holds nothing
 pub record ListGoes (before after : ListPassed) : Type 0 where
   pub later : IsLater level (known before) (known after)
   pub cell : after.cell ≡ before.cell
+  pub parts : after.parts ≡ before.parts
   pub holds : HoldsNoSlot after
 
 -- as many as before
@@ -47,6 +49,13 @@ module _ {G : Type 0} where
     list_is = goes.list.cell ∙ own.list_is;
     store_is = ap (λ (row : DriverRow G). row.store.cell) goes.others ∙ own.store_is;
     domains_are = goes.domains.cells ∙ own.domains_are;
+  }
+
+  pub keeps_parts : (before after : DriverRow G) → RowGoes before after → KeepsParts before after
+  keeps_parts before after goes = record {
+    list = goes.list.parts;
+    store = ap (λ (row : DriverRow G). row.store.parts) goes.others;
+    domains = goes.domains.parts;
   }
 
   pub is_ready : (before after : DriverRow G) → IsReadyRow before → RowGoes before after → IsReadyRow after

@@ -6,9 +6,8 @@ use Rattle.object_list.specs.declared.slot_name.SlotName.{SlotName}
 use Rattle.virt_types.specs.declared.domain.Domain.{Domain}
 use Rattle.virt_types.specs.declared.value.DomainRow.{DomainRow}
 use Rattle.driver_lists.specs.Reading.{AreFound, IsFound}
-use Rattle.outcome_spec.specs.Lists.{row_of, rows_of}
-use Rattle.outcome_spec.specs.Rows.{AreLater, DomainPass, IsLater}
-use Rattle.outcome_spec.proofs.Going.{boots_stay}
+use Rattle.driver_cells.specs.OfOutcomes.{AreLater, DomainPass, IsLater, row_of, rows_of}
+use Rattle.driver_cells.proofs.OfOutcomes.{boots_stay}
 
 one_pass : (x p : DomainPass) → Some x ≡ Some p → x ≡ p
 one_pass x p is = cc

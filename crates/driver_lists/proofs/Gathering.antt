@@ -2,10 +2,10 @@
 use Rattle.std.proofs.Common.{◌≡◌, ◌++◌, ◌+◌, ◌<◌, ℕ, List, [], ◌∷◌, length, map, take, get_or, option_map, Option, None, Some, Ok, Err, sym, ap, ◌∙◌, subst}
 use Rattle.std.specs.Option.{option_to_list}
 use Rattle.std.proofs.lemmas.List.{take_more}
-use Rattle.domain_obj.specs.InTurn.{DomainPass}
+use Rattle.driver_cells.specs.OfObjects.{DomainPass}
 use Rattle.driver_cells.specs.Known.{known}
 use Rattle.object_list.specs.declared.slot_name.SlotName.{SlotName}
-use Rattle.outcome_spec.specs.Lists.{row_of, rows_of}
+use Rattle.driver_cells.specs.OfOutcomes.{row_of, rows_of}
 use Rattle.virt_types.specs.declared.domain.Domain.{Domain}
 use Rattle.virt_types.specs.declared.value.DomainRow.{DomainRow}
 use Rattle.driver_lists.specs.Reading.{HasReadAll, HasReadOne, PassesGo}
@@ -18,6 +18,7 @@ pub go_through : (before mid after : List DomainPass) → PassesGo before mid �
 go_through before mid after goes on = record {
   later = later_through (map known before) (map known mid) (map known after) goes.later on.later;
   cells = on.cells ∙ goes.cells;
+  parts = on.parts ∙ goes.parts;
   rest = on.rest;
 }
 

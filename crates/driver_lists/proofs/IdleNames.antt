@@ -7,7 +7,7 @@ use Rattle.virt_types.specs.declared.domain.Live.{Live}
 use Rattle.virt_types.specs.declared.run_state.RunState.{RunState}
 use Rattle.virt_types.specs.declared.run_state.RunState.TheVariants as run
 use Rattle.driver_lists.specs.Idle.{is_idle, is_shut_off}
-use Rattle.outcome_spec.specs.Lists.{idle_names, row_of, rows_of}
+use Rattle.driver_cells.specs.OfOutcomes.{idle_names, row_of, rows_of}
 
 of_run : (r : RunState) → is_shut_off (state_running r) ≡ false
 of_run run.Running = refl

@@ -5,14 +5,14 @@ use Rattle.std.specs.List.{All}
 use Rattle.history_spec.proofs.Beginnings.{begins_itself}
 use Rattle.book_spec.specs.ListHistory.{slots_of}
 use Rattle.book_spec.specs.Slots.{Slots, holds_of, no_holds, times_held}
-use Rattle.domain_obj.specs.InTurn.{DomainPass}
+use Rattle.driver_cells.specs.OfObjects.{DomainPass}
 use Rattle.driver_cells.specs.Known.{DriverRow, known, known_row}
 use Rattle.driver_cells.specs.Ready.{HoldsNoSlot}
 use Rattle.driver_cells.proofs.Passing.{later_spent, later_went}
 use Rattle.object_list.specs.Keeping.{meaning}
 use Rattle.object_list.specs.Turns.{ListPassed}
 use Rattle.object_list.specs.declared.slot_name.SlotName.{SlotName}
-use Rattle.outcome_spec.specs.Rows.{level}
+use Rattle.driver_cells.specs.OfOutcomes.{level}
 use Rattle.pass_rows.specs.Resting.{IsIdle}
 use Rattle.virt_types.specs.Limits.{most_domains}
 use Rattle.virt_types.specs.declared.caller.Front.{Front}
@@ -31,6 +31,7 @@ pub list_spent : (before after : ListPassed) → after ≡ record before { spent
 list_spent before after is = record {
   later = later_spent level before after is;
   cell = ap (λ (p : ListPassed). p.cell) is;
+  parts = ap (λ (p : ListPassed). p.parts) is;
   holds = inl (ap (λ (p : ListPassed). p.spent) is);
 }
 
@@ -50,6 +51,7 @@ module _ (names : Result (List SlotName) NoMemory) (front : Front) (before after
   list_went = record {
     later = later_went meaning 1 [] before after listed.went;
     cell = listed.went.same.cell;
+    parts = listed.went.same.parts;
     holds = inr (listed.share ∙ free);
   }
 

@@ -14,9 +14,7 @@ use Rattle.virt_types.specs.declared.domain.State.{State}
 use Rattle.virt_types.specs.declared.domain.State.TheVariants as state
 use Rattle.driver_lists.specs.Reading.{AreFound}
 use Rattle.driver_lists.proofs.Members.{contains_cases, contains_here, contains_later, contains_none}
-use Rattle.outcome_spec.specs.Lists.{AreListed, AreRows, Listed, domain_at}
-use Rattle.outcome_spec.specs.Read.{state_of}
-use Rattle.outcome_spec.specs.Rows.{KnownRow}
+use Rattle.driver_cells.specs.OfOutcomes.{AreListed, AreRows, KnownRow, Listed, domain_at, state_of}
 
 -- the entries in the slots of these names
 abbrev pub entries_of : (slots : Slots) (rs : List SlotName) → AllStandIn slots rs → List Listed

@@ -4,22 +4,18 @@ use Rattle.std.specs.List.{All}
 use Rattle.history_spec.proofs.Beginnings.{begins_itself}
 use Rattle.atomic_table.specs.Seated.{TableId}
 use Rattle.book_spec.specs.Slots.{new_entry}
-use Rattle.domain_cell.specs.Meaning.{meaning, nothing_kept}
-use Rattle.domain_obj.specs.InTurn.{DomainPass}
-use Rattle.domain_obj.specs.Running.{HasQueried, Reads}
-use Rattle.domain_obj.specs.declared.place.Seen.{Seen}
-use Rattle.domain_obj.specs.declared.queries.Queried.{Queried}
-use Rattle.domain_obj.specs.declared.queries.Queried.TheVariants as queried
+use Rattle.driver_cells.specs.OfCells.{meaning, nothing_kept}
+use Rattle.driver_cells.specs.OfObjects.{DomainPass, HasQueried, Queried, Reads, Seen}
+use Rattle.driver_cells.specs.OfObjects.queried_variants as queried
 use Rattle.domain_spec.specs.Chapter.{rising_number}
 use Rattle.domain_spec.specs.Read.{read}
 use Rattle.driver_cells.specs.Known.{known}
+use Rattle.driver_cells.specs.Parts.{parts_of}
 use Rattle.driver_cells.specs.Ready.{KeepsNothing}
 use Rattle.driver_cells.proofs.Going.{are_later}
 use Rattle.driver_cells.proofs.Passing.{later_spent, later_went}
 use Rattle.object_list.specs.declared.slot_name.SlotName.{SlotName}
-use Rattle.outcome_spec.specs.Lists.{domain_at, row_of}
-use Rattle.outcome_spec.specs.Read.{state_of}
-use Rattle.outcome_spec.specs.Rows.{IsLater}
+use Rattle.driver_cells.specs.OfOutcomes.{IsLater, domain_at, row_of, state_of}
 use Rattle.pass_rows.specs.Cutting.{cell_of}
 use Rattle.virt_types.specs.declared.call.Query.TheVariants as query
 use Rattle.virt_types.specs.declared.domain.State.{State}
@@ -54,6 +50,11 @@ same_cell before after (queried.Read said seen) it = it.0.goes.went.same.cell
 same_cell before after (queried.NoMemory seen) it = it.goes.went.same.cell
 same_cell before after queried.Spent it = ap (λ (p : DomainPass). p.cell) it
 
+same_parts : (before after : DomainPass) (came : Queried) → HasQueried query.Reference before after came → after.parts ≡ before.parts
+same_parts before after (queried.Read said seen) it = it.0.goes.went.same.parts
+same_parts before after (queried.NoMemory seen) it = it.goes.went.same.parts
+same_parts before after queried.Spent it = ap (λ (p : DomainPass). p.parts) it
+
 rests_still : (before after : DomainPass) (seen : Seen) → Reads before after seen → KeepsNothing before → KeepsNothing after
 rests_still before after seen reads rest = ⊎_elim
     (λ (spent : before.spent ≡ true). inl (reads.goes.went.spent ∙ spent))
@@ -84,6 +85,7 @@ module _ (before after first rest : List DomainPass) (old new : DomainPass) (was
       record {
         later = are_later before after first rest old new was is (later_queried old new came it);
         cells = ap (map cell_of) is ∙ same_map cell_of first old new rest (same_cell old new came it) ∙ ap (map cell_of) (sym was);
+        parts = ap (map parts_of) is ∙ same_map parts_of first old new rest (same_parts old new came it) ∙ ap (map parts_of) (sym was);
         rest = subst (All KeepsNothing) (sym is) (all_at KeepsNothing first old new rest there (keeps_nothing old new came it (one_of KeepsNothing first old rest there)));
       }
 

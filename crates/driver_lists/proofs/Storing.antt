@@ -6,13 +6,12 @@ use Rattle.def_keeper.specs.Turns.{meaning}
 use Rattle.def_keeper.specs.declared.mark.StoreBase.{StoreBase}
 use Rattle.def_keeper.specs.declared.mark.StoreMark.{StoreMark}
 use Rattle.driver_cells.specs.Known.{DriverRow, known, known_row}
+use Rattle.driver_cells.specs.Parts.{KeepsParts, parts_of}
 use Rattle.driver_cells.specs.Ready.{IsReadyRow}
 use Rattle.driver_cells.proofs.Going.{are_later_itself}
 use Rattle.driver_cells.proofs.Passing.{later_itself, later_spent, later_went}
 use Rattle.files_disk.specs.Telling.{Told}
-use Rattle.outcome_spec.specs.Outcomes.{HasOutcome}
-use Rattle.outcome_spec.specs.Rows.{AreLater, HasGone, IsLater, level}
-use Rattle.outcome_spec.specs.Spent.{HasSpent}
+use Rattle.driver_cells.specs.OfOutcomes.{AreLater, HasGone, HasOutcome, HasSpent, IsLater, level}
 use Rattle.pass_rows.specs.Rows.{IsOf}
 use Rattle.turn_cell.specs.Passes.{Passed}
 use Rattle.virt_types.specs.declared.caller.CellName.TheVariants as cell
@@ -31,12 +30,13 @@ StorePass = Passed StoreBase StoreMark (Unit {0})
 pub record StoreGoes (before after : StorePass) : Type 0 where
   pub later : IsLater level (known before) (known after)
   pub cell : after.cell ≡ before.cell
+  pub parts : after.parts ≡ before.parts
 
 pub store_spent : (before after : StorePass) → after ≡ record before { spent = true } → StoreGoes before after
-store_spent before after is = record { later = later_spent level before after is; cell = ap (λ (p : StorePass). p.cell) is }
+store_spent before after is = record { later = later_spent level before after is; cell = ap (λ (p : StorePass). p.cell) is; parts = ap (λ (p : StorePass). p.parts) is }
 
 pub store_went : {F : Type 0} (told : F → Told) (rows : Result (List TitleRow) NoMemory) (front : Front) (before after : StorePass) → HasReadTitles told rows front before after → StoreGoes before after
-store_went told rows front before after read = record { later = later_went (meaning told) 1 [] before after read.went; cell = read.went.same.cell }
+store_went told rows front before after read = record { later = later_went (meaning told) 1 [] before after read.went; cell = read.went.same.cell; parts = read.went.same.parts }
 
 -- of passes that are these
 pub store_goes_at : (before after was is : StorePass) → before ≡ was → after ≡ is → StoreGoes was is → StoreGoes before after
@@ -64,6 +64,13 @@ module _ {G : Type 0} where
   is_of list store domains before after own goes =
       let moved : IsOf list store domains (record before { store = after.store }) = record { list_is = own.list_is; store_is = goes.store.cell ∙ own.store_is; domains_are = own.domains_are } in
       subst (IsOf list store domains) (sym goes.others) moved
+
+  pub keeps_parts : (before after : DriverRow G) → StoreRowGoes before after → KeepsParts before after
+  keeps_parts before after goes = record {
+    list = ap (λ (row : DriverRow G). row.list.parts) goes.others;
+    store = goes.store.parts;
+    domains = ap (λ (row : DriverRow G). map parts_of row.domains) goes.others;
+  }
 
   pub is_ready : (before after : DriverRow G) → IsReadyRow before → StoreRowGoes before after → IsReadyRow after
   is_ready before after ready goes =

@@ -9,7 +9,7 @@ use Rattle.store_spec.specs.Changes.{Definitions}
 use Rattle.store_spec.specs.declared.entry.Entry.{Entry}
 use Rattle.store_spec.specs.declared.kind.BookKind.TheVariants as kind
 use Rattle.virt_types.specs.declared.value.TitleRow.{TitleRow}
-use Rattle.outcome_spec.specs.Titles.{AreTitles, title_row}
+use Rattle.driver_cells.specs.OfOutcomes.{AreTitles, title_row}
 use Rattle.driver_lists.proofs.Members.{contains_cases, contains_here, contains_later, contains_map, contains_none}
 
 all_below : (e : Entry) (es : List Entry) → AllByRecursion (λ other. slice_cmp nat_cmp e.name other.name ≡ Less) es → AllByRecursion (λ (other : TitleRow). slice_cmp nat_cmp (title_row e).name other.name ≡ Less) (map title_row es)

@@ -3,20 +3,16 @@ use Rattle.std.specs.Prelude.{◌≡◌, ◌&&◌, ℕ, List, [], ◌∷◌, byt
 use Rattle.std.specs.List.{All}
 use Rattle.history_spec.specs.declared.history.History.{History}
 use Rattle.book_spec.specs.Slots.{new_entry}
-use Rattle.domain_obj.specs.InTurn.{DomainPass}
-use Rattle.domain_obj.specs.Running.{HasQueried}
-use Rattle.domain_obj.specs.declared.queries.Queried.{Queried}
-use Rattle.domain_obj.specs.declared.queries.Queried.TheVariants as queried
+use Rattle.driver_cells.specs.OfObjects.{DomainPass, HasQueried, Queried}
+use Rattle.driver_cells.specs.OfObjects.queried_variants as queried
 use Rattle.domain_spec.specs.Chapter.{rising_number}
 use Rattle.domain_spec.specs.declared.mark.Mark.{Mark}
 use Rattle.domain_spec.specs.declared.standing.Base.{Base}
 use Rattle.driver_cells.specs.Known.{known}
+use Rattle.driver_cells.specs.Parts.{parts_of}
 use Rattle.driver_cells.specs.Ready.{KeepsNothing}
 use Rattle.object_list.specs.declared.slot_name.SlotName.{SlotName}
-use Rattle.outcome_spec.specs.Histories.{IsRead}
-use Rattle.outcome_spec.specs.Lists.{domain_at, row_of, rows_of}
-use Rattle.outcome_spec.specs.Read.{state_of}
-use Rattle.outcome_spec.specs.Rows.{AreLater, DomainPass as KnownPass}
+use Rattle.driver_cells.specs.OfOutcomes.{AreLater, DomainPass as KnownPass, IsRead, domain_at, row_of, rows_of, state_of}
 use Rattle.pass_rows.specs.Cutting.{cell_of}
 use Rattle.virt_types.specs.declared.call.Query.TheVariants as query
 use Rattle.virt_types.specs.declared.domain.Domain.{Domain}
@@ -43,10 +39,11 @@ IsTold at queried.Spent result = result ≡ Err stop.Spent
 abbrev pub HasReadRow : SlotName → DomainPass → DomainPass → Result (Option DomainRow) Stop → Type 0
 HasReadRow at before after result = (came : Queried) × HasQueried query.Reference before after came × IsTold at came result
 
--- passes that went on: of the same cells, and nothing is kept for any
+-- passes that went on: of the same cells, with the parts that they had, and nothing is kept for any
 pub record PassesGo (before after : List DomainPass) : Type 0 where
   pub later : AreLater (map known before) (map known after)
   pub cells : map cell_of after ≡ map cell_of before
+  pub parts : map parts_of after ≡ map parts_of before
   pub rest : All KeepsNothing after
 
 -- this was found in the cell of a slot: the domain of its name and identifier, if the cell had it. The history that was read

@@ -4,8 +4,7 @@ use Rattle.def_keeper.specs.Turns.{meaning}
 use Rattle.def_keeper.specs.declared.mark.StoreBase.{StoreBase}
 use Rattle.def_keeper.specs.declared.mark.StoreMark.{StoreMark}
 use Rattle.files_disk.specs.Telling.{Told}
-use Rattle.outcome_spec.specs.Histories.{front_of}
-use Rattle.outcome_spec.specs.Titles.{AreTitles, map_of}
+use Rattle.driver_cells.specs.OfOutcomes.{AreTitles, front_of, map_of}
 use Rattle.turn_cell.specs.Passes.{Passed}
 use Rattle.turn_cell.specs.Turning.{Went}
 use Rattle.virt_types.specs.declared.caller.Front.{Front}

@@ -1,8 +1,6 @@
 -- What is read of the list and of the cells of its domains.
 use Rattle.std.specs.Prelude.{◌≡◌, List, Option, Result, Ok, Err}
-use Rattle.outcome_spec.specs.Lists.{IsList, rows_of}
-use Rattle.outcome_spec.specs.Rows.{KnownRow}
-use Rattle.outcome_spec.specs.Spent.{HasSpent}
+use Rattle.driver_cells.specs.OfOutcomes.{HasSpent, IsList, KnownRow, rows_of}
 use Rattle.virt_types.specs.declared.caller.Front.{Front}
 use Rattle.virt_types.specs.declared.domain.Domain.{Domain}
 use Rattle.virt_types.specs.declared.value.DomainRow.{DomainRow}

@@ -1,10 +1,9 @@
 // The requests that list domains.
 ghost use Rattle.std.specs.Prelude.{◌≡◌};
 ghost use Rattle.driver_cells.specs.Known.{known_row};
+ghost use Rattle.driver_cells.specs.Parts.{KeepsParts};
 ghost use Rattle.driver_cells.specs.Ready.{IsReadyRow};
-ghost use Rattle.outcome_spec.specs.Now.{ReadsNow};
-ghost use Rattle.outcome_spec.specs.Outcomes.{HasOutcome};
-ghost use Rattle.outcome_spec.specs.Rows.{HasGone};
+ghost use Rattle.driver_cells.specs.OfOutcomes.{HasGone, HasOutcome, ReadsNow};
 ghost use Rattle.pass_rows.specs.Rows.{IsOf};
 ghost use Rattle.virt_types.specs.declared.request.Request.TheVariants as request;
 
@@ -12,10 +11,9 @@ use crate::stopping::{Stop, stopped};
 use crate::telling::idle_names;
 use crate::whole::read_list;
 use def_keeper::Opening;
-use driver_cells::{Cells, Row};
+use driver_cells::{Cells, Outcome, Row};
 use files_disk::Files;
 use monitor_link::{Ears, Killer, Monitor};
-use outcome_spec::Outcome;
 use std::alloc::Global;
 use std::sync::Wait;
 use virt_types::{CellName, ListOf, NoMemory, Reply, Value};
@@ -42,6 +40,7 @@ pub fn list_all<
     ensures now { ReadsNow (known_row result.0) request.ListAll result.1 }
     ensures gone { HasGone (known_row row) (known_row result.0) }
     ensures others { result.0 ≡ record row { list = result.0.list; domains = result.0.domains } }
+    ensures parts { KeepsParts row result.0 }
     ensures own { IsOf cells.now.list cells.now.store cells.now.domains.items result.0 }
     ensures ready { IsReadyRow result.0 }
 {
@@ -81,6 +80,7 @@ pub fn list_defined<
     ensures now { ReadsNow (known_row result.0) (request.ListDefinedDomains most) result.1 }
     ensures gone { HasGone (known_row row) (known_row result.0) }
     ensures others { result.0 ≡ record row { list = result.0.list; domains = result.0.domains } }
+    ensures parts { KeepsParts row result.0 }
     ensures own { IsOf cells.now.list cells.now.store cells.now.domains.items result.0 }
     ensures ready { IsReadyRow result.0 }
 {

@@ -8,9 +8,7 @@ ghost use Rattle.pass_rows.specs.Cutting.{cell_of};
 ghost use Rattle.driver_lists.specs.Reading.{HasReadAll, HasReadOne, HasReadRow, IsTold, PassesGo, row_told};
 
 use crate::stopping::Stop;
-use domain_cell::DomainCell;
-use domain_obj::{DomainObj, DomainPass, Queried};
-use driver_cells::state_of;
+use driver_cells::{DomainCell, DomainObj, DomainPass, Queried, state_of};
 use monitor_link::{Ears, Killer, Monitor};
 use object_list::SlotName;
 use pass_rows::Passes;

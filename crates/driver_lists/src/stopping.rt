@@ -3,8 +3,7 @@ ghost use Rattle.std.specs.Prelude.{◌≡◌};
 ghost use Rattle.driver_cells.specs.Fronts.{no_front};
 ghost use Rattle.driver_lists.specs.Stopping.{TellsStop};
 
-use driver_cells::{NO_FRONT, run_out};
-use outcome_spec::Outcome;
+use driver_cells::{NO_FRONT, Outcome, run_out};
 use refusal_replies::no_memory;
 use std::alloc::Global;
 use virt_types::CellName;

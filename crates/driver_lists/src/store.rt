@@ -1,6 +1,6 @@
 // The titles of the domains of the store, in a turn.
 ghost use Rattle.std.specs.Prelude.{◌≡◌, true, length, IfErr, IfOk};
-ghost use Rattle.outcome_spec.specs.Titles.{AreTitles, map_of};
+ghost use Rattle.driver_cells.specs.OfOutcomes.{AreTitles, map_of};
 ghost use Rattle.driver_lists.specs.Titling.{HasReadTitles};
 
 use crate::titles::titles;

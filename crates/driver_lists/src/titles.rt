@@ -1,7 +1,7 @@
 // The titles of the domains that a store keeps.
 ghost use Rattle.std.specs.Prelude.{◌≡◌, IfOk, map};
 ghost use Rattle.def_map.specs.Map.{found};
-ghost use Rattle.outcome_spec.specs.Titles.{AreTitles, title_row};
+ghost use Rattle.driver_cells.specs.OfOutcomes.{AreTitles, title_row};
 
 use def_map::DefMap;
 use std::alloc::Global;

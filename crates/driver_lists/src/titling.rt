@@ -1,20 +1,18 @@
 // The request that gives titles.
 ghost use Rattle.std.specs.Prelude.{◌≡◌};
 ghost use Rattle.driver_cells.specs.Known.{known_row};
+ghost use Rattle.driver_cells.specs.Parts.{KeepsParts};
 ghost use Rattle.driver_cells.specs.Ready.{IsReadyRow};
-ghost use Rattle.outcome_spec.specs.Now.{ReadsNow};
-ghost use Rattle.outcome_spec.specs.Outcomes.{HasOutcome};
-ghost use Rattle.outcome_spec.specs.Rows.{HasGone};
+ghost use Rattle.driver_cells.specs.OfOutcomes.{HasGone, HasOutcome, ReadsNow};
 ghost use Rattle.pass_rows.specs.Rows.{IsOf};
 ghost use Rattle.virt_types.specs.declared.request.Request.TheVariants as request;
 
 use crate::stopping::{Stop, stopped};
 use crate::store::read_titles;
 use def_keeper::Opening;
-use driver_cells::{Cells, Row};
+use driver_cells::{Cells, Outcome, Row};
 use files_disk::Files;
 use monitor_link::{Ears, Killer, Monitor};
-use outcome_spec::Outcome;
 use pass_rows::{PassState, RestingPass, RowOf};
 use std::alloc::Global;
 use std::sync::Wait;
@@ -41,6 +39,7 @@ pub fn tell_titles<
     ensures now { ReadsNow (known_row result.0) request.Titles result.1 }
     ensures gone { HasGone (known_row row) (known_row result.0) }
     ensures others { result.0 ≡ record row { store = result.0.store } }
+    ensures parts { KeepsParts row result.0 }
     ensures own { IsOf cells.now.list cells.now.store cells.now.domains.items result.0 }
     ensures ready { IsReadyRow result.0 }
 {

@@ -1,8 +1,9 @@
 // The domains of the list with their states, by the passes of a row.
 ghost use Rattle.std.specs.Prelude.{◌≡◌};
 ghost use Rattle.driver_cells.specs.Known.{known_row};
+ghost use Rattle.driver_cells.specs.Parts.{KeepsParts};
 ghost use Rattle.driver_cells.specs.Ready.{IsReadyRow};
-ghost use Rattle.outcome_spec.specs.Rows.{HasGone};
+ghost use Rattle.driver_cells.specs.OfOutcomes.{HasGone};
 ghost use Rattle.pass_rows.specs.Rows.{IsOf};
 ghost use Rattle.driver_lists.specs.Whole.{HasReadList};
 
@@ -39,6 +40,7 @@ pub(crate) fn read_list<
     ensures read { HasReadList (known_row row) (known_row result.0) result.1 }
     ensures gone { HasGone (known_row row) (known_row result.0) }
     ensures others { result.0 ≡ record row { list = result.0.list; domains = result.0.domains } }
+    ensures parts { KeepsParts row result.0 }
     ensures own { IsOf cells.now.list cells.now.store cells.now.domains.items result.0 }
     ensures ready { IsReadyRow result.0 }
 {

@@ -17,9 +17,9 @@ use Rattle.def_keeper.specs.declared.mark.StoreMark.{StoreMark}
 use Rattle.def_keeper.specs.declared.outcome.Found.{Found}
 use Rattle.def_keeper.specs.Keeper.{Keeping}
 use Rattle.def_keeper.specs.Turns as storing
-use Rattle.domain_cell.specs.Celled.{Celled, new_cell}
-use Rattle.domain_cell.specs.Meaning as domain
-use Rattle.domain_obj.specs.InTurn.{DomainPass}
+use Rattle.driver_cells.specs.OfCells.{Celled, new_cell}
+use Rattle.driver_cells.specs.OfCells as domain
+use Rattle.driver_cells.specs.OfObjects.{DomainPass}
 use Rattle.pass_rows.specs.Resting.{IsIdle}
 use Rattle.found_domains.specs.declared.found.FoundDomain.{FoundDomain}
 use Rattle.driver_store.specs.Again.{IsMarkOf}

@@ -1,3 +1,4 @@
 pub mod Firsts
 pub mod Slotted
 pub mod Made
+pub mod OfStore

@@ -10,7 +10,7 @@ use Rattle.def_keeper.specs.declared.mark.StoreBase.{StoreBase}
 use Rattle.def_keeper.specs.declared.mark.StoreMark.{StoreMark}
 use Rattle.def_keeper.specs.Keeper.{Keeping}
 use Rattle.def_keeper.specs.Turns as storing
-use Rattle.domain_obj.specs.InTurn.{DomainPass}
+use Rattle.driver_cells.specs.OfObjects.{DomainPass}
 use Rattle.pass_rows.specs.Rows.{IsOf}
 use Rattle.found_domains.specs.declared.found.FoundDomain.{FoundDomain}
 use Rattle.driver_cells.specs.Known.{DriverRow}

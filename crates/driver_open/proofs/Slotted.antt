@@ -6,9 +6,8 @@ use Rattle.std.proofs.lemmas.List.{length-map, length-replicate, map_push, take_
 use Rattle.std.proofs.lemmas.List.Elements.{All-push}
 use Rattle.atomic_table.specs.Seated.{TableId}
 use Rattle.virt_types.specs.Limits.{most_domains}
-use Rattle.domain_cell.specs.Celled.{Celled}
-use Rattle.domain_cell.specs.Meaning.{meaning}
-use Rattle.domain_obj.specs.InTurn.{DomainPass}
+use Rattle.driver_cells.specs.OfCells.{Celled, meaning}
+use Rattle.driver_cells.specs.OfObjects.{DomainPass}
 use Rattle.pass_rows.specs.Cutting.{cell_of}
 use Rattle.pass_rows.specs.Resting.{IsIdle}
 use Rattle.found_domains.specs.declared.found.FoundDomain.{FoundDomain}

@@ -10,7 +10,7 @@ use Rattle.object_list.specs.Keeping as listing
 use Rattle.def_keeper.specs.declared.outcome.Found.{Found}
 use Rattle.def_keeper.specs.Keeper.{Keeping}
 use Rattle.def_keeper.specs.Turns as storing
-use Rattle.domain_cell.specs.Meaning as domain
+use Rattle.driver_cells.specs.OfCells as domain
 use Rattle.pass_rows.specs.Rows.{IsIdleRow}
 use Rattle.found_domains.specs.declared.found.FoundDomain.{FoundDomain}
 use Rattle.driver_cells.specs.Known.{DriverRow}

@@ -4,9 +4,8 @@ use Rattle.std.specs.List.{All, AllZip}
 use Rattle.atomic_table.specs.Seated.{TableId}
 use Rattle.virt_types.specs.Limits.{most_domains}
 use Rattle.turn_cell.specs.Passes.{IsFirst}
-use Rattle.domain_cell.specs.Celled.{Celled, new_cell}
-use Rattle.domain_cell.specs.Meaning.{meaning}
-use Rattle.domain_obj.specs.InTurn.{DomainPass}
+use Rattle.driver_cells.specs.OfCells.{Celled, meaning, new_cell}
+use Rattle.driver_cells.specs.OfObjects.{DomainPass}
 use Rattle.pass_rows.specs.Cutting.{cell_of}
 use Rattle.pass_rows.specs.Resting.{IsIdle}
 use Rattle.found_domains.specs.declared.found.FoundDomain.{FoundDomain}

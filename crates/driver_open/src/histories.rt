@@ -2,7 +2,7 @@
 ghost use Rattle.std.specs.Prelude.{◌≡◌, ◌≤◌, IfOk, []};
 ghost use Rattle.std.specs.Vec.{vec_capacity};
 
-use domain_cell::Chronicle;
+use driver_cells::Chronicle;
 use std::alloc::Global;
 use std::marker::Model;
 use virt_types::NoMemory;

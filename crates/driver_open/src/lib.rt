@@ -10,6 +10,8 @@ mod slots;
 #[cfg(test)]
 mod tests;
 
+pub use driver_cells::{Cells, Chronicle, DomainCell, DomainObj, Row};
+pub use driver_store::DriverFault;
 pub use histories::HistoryRoom;
 pub use open::open_cells;
 pub use opened::Opened;

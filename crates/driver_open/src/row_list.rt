@@ -3,12 +3,11 @@ ghost use Rattle.std.specs.Prelude.{◌≡◌, ◌≤◌, IfErr, IfOk};
 ghost use Rattle.std.specs.List.{All};
 ghost use Rattle.object_list.specs.Keeping as listing;
 ghost use Rattle.def_keeper.specs.Turns as storing;
-ghost use Rattle.domain_cell.specs.Meaning as domain;
+ghost use Rattle.driver_cells.specs.OfCells as domain;
 ghost use Rattle.pass_rows.specs.Rows.{HasRowParts, HasSplit, IsIdleRow, IsOf, KeepsPasses};
 
 use def_keeper::{Keeper, Opening};
-use domain_cell::DomainCell;
-use driver_cells::{Cells, Row};
+use driver_cells::{Cells, DomainCell, Row};
 use files_disk::Files;
 use monitor_link::{Ears, Guests, Killer, Monitor};
 use object_list::ObjectList;

@@ -1,11 +1,10 @@
 // The domains of a driver are made, one for each slot of the list.
 ghost use Rattle.std.specs.Prelude.{◌≡◌, ◌≤◌, IfOk, OnOk, length};
 ghost use Rattle.virt_types.specs.Limits.{most_domains};
-ghost use Rattle.domain_cell.specs.Celled.{new_cell};
+ghost use Rattle.driver_cells.specs.OfCells.{new_cell};
 ghost use Rattle.driver_open.specs.Slots.{AreFirst, IsPushed, cells_of, found_cell};
 
-use domain_cell::DomainCell;
-use domain_obj::DomainObj;
+use driver_cells::{DomainCell, DomainObj};
 use found_domains::FoundDomain;
 use monitor_link::{Ears, Killer, Monitor};
 use pass_rows::{PassState, RestingPass};

@@ -6,3 +6,5 @@ pub mod Slots
 pub mod Ways
 pub mod TaskKinds
 pub mod Requests
+pub mod OfOutcomes
+pub mod OfRows

@@ -4,15 +4,9 @@ use Rattle.book_spec.specs.declared.list.ListCall.{ListCall}
 use Rattle.book_spec.specs.declared.list.ListMark.{ListMark}
 use Rattle.book_spec.specs.Slots.{Slots}
 use Rattle.domain_requests.specs.declared.task.Task.{Task}
-use Rattle.domain_tasks.specs.Tasked.{IsUnbuilt}
-use Rattle.outcome_spec.specs.Asked.{Asks}
-use Rattle.outcome_spec.specs.Listed.{IsNotListed, list_refusal}
-use Rattle.outcome_spec.specs.Marks.{HasLeft, StandsAt}
-use Rattle.outcome_spec.specs.Now.{IsNow, is_read}
-use Rattle.outcome_spec.specs.Outcomes.{HasOutcome, IsOfDomain, IsOfList, RestsOn}
-use Rattle.outcome_spec.specs.Rows.{Known, KnownRow, pass_of}
-use Rattle.outcome_spec.specs.declared.outcome.Outcome.{Outcome}
-use Rattle.outcome_spec.proofs.Going.{asks_stay}
+use Rattle.driver_cells.specs.OfTasks.{IsUnbuilt}
+use Rattle.driver_cells.specs.OfOutcomes.{Asks, HasLeft, HasOutcome, IsNotListed, IsNow, IsOfDomain, IsOfList, Known, KnownRow, Outcome, RestsOn, StandsAt, is_read, list_refusal, pass_of}
+use Rattle.driver_cells.proofs.OfOutcomes.{asks_stay}
 use Rattle.virt_types.specs.declared.caller.CellName.{CellName}
 use Rattle.virt_types.specs.declared.caller.CellName.TheVariants as cell
 use Rattle.virt_types.specs.declared.caller.Front.{Front}

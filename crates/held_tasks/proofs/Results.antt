@@ -3,24 +3,18 @@ use Rattle.std.proofs.Common.{◌≡◌, ◌⊎◌, ◌++◌, ℕ, List, [], ◌
 use Rattle.book_spec.specs.declared.list.ListCall.{ListCall}
 use Rattle.book_spec.specs.declared.list.ListFault.{ListFault}
 use Rattle.book_spec.specs.declared.list.ListMark.{ListMark}
-use Rattle.domain_obj.specs.InTurn.{DomainPass}
+use Rattle.driver_cells.specs.OfObjects.{DomainPass}
 use Rattle.domain_requests.specs.declared.task.Task.{Task}
 use Rattle.domain_requests.specs.declared.task.Task.TheVariants as task
 use Rattle.domain_spec.specs.Types.{Who}
-use Rattle.domain_tasks.specs.Tasked.{Answers, ReadsNow}
-use Rattle.domain_tasks.proofs.Marks.{left_among, stands_last}
+use Rattle.driver_cells.specs.OfTasks.{Answers, ReadsNow}
+use Rattle.driver_cells.proofs.OfTasks.{left_among, stands_last}
 use Rattle.files_disk.specs.Telling.{Told}
 use Rattle.list_holds.specs.Held.{HasHeld, IsLast}
 use Rattle.list_replies.specs.Telling.{TellsFault}
 use Rattle.object_list.specs.Turns.{ListPassed}
-use Rattle.outcome_spec.specs.Histories.{front_of}
-use Rattle.outcome_spec.specs.Marks.{HasLeft, StandsAt}
-use Rattle.outcome_spec.specs.Now.{IsNow}
-use Rattle.outcome_spec.specs.Rows.{DomainPass as KnownPass, IsLater, KnownRow, level, pass_of}
-use Rattle.outcome_spec.specs.Slots.{HasSlot}
-use Rattle.outcome_spec.specs.Spent.{HasSpent}
-use Rattle.outcome_spec.specs.declared.outcome.Outcome.{Outcome}
-use Rattle.outcome_spec.proofs.Staying.{left_stays}
+use Rattle.driver_cells.specs.OfOutcomes.{DomainPass as KnownPass, HasLeft, HasSlot, HasSpent, IsLater, IsNow, KnownRow, Outcome, StandsAt, front_of, level, pass_of}
+use Rattle.driver_cells.proofs.OfOutcomes.{left_stays}
 use Rattle.virt_types.specs.declared.ask.GuestEvent.{GuestEvent}
 use Rattle.virt_types.specs.declared.call.Query.{Query}
 use Rattle.virt_types.specs.declared.caller.CellName.{CellName}

@@ -5,16 +5,14 @@ use Rattle.atomic_table.specs.Seated.{TableId}
 use Rattle.book_spec.specs.Slots.{no_holds}
 use Rattle.book_spec.specs.declared.list.ListCall.{ListCall}
 use Rattle.book_spec.specs.declared.list.ListFault.{ListFault}
-use Rattle.domain_obj.specs.InTurn.{DomainPass}
+use Rattle.driver_cells.specs.OfObjects.{DomainPass}
 use Rattle.domain_requests.specs.declared.task.Task.{Task}
 use Rattle.domain_spec.specs.Types.{Answer, Ask, Who}
 use Rattle.files_disk.specs.Telling.{Told}
 use Rattle.list_holds.specs.Held.{HasHeld}
 use Rattle.object_list.specs.Keeping.{meaning as list_meaning}
 use Rattle.object_list.specs.Turns.{ListPassed, one_more}
-use Rattle.outcome_spec.specs.Rows.{AreLater, HasGone, IsLater, level}
-use Rattle.outcome_spec.specs.Spent.{HasSpent}
-use Rattle.outcome_spec.specs.declared.outcome.Outcome.{Outcome}
+use Rattle.driver_cells.specs.OfOutcomes.{AreLater, HasGone, HasSpent, IsLater, Outcome, level}
 use Rattle.pass_rows.specs.Cutting.{cell_of}
 use Rattle.pass_rows.specs.Rows.{IsOf}
 use Rattle.row_desk.specs.Served.{HasServed}
@@ -24,11 +22,13 @@ use Rattle.virt_types.specs.declared.caller.Front.{Front}
 use Rattle.virt_types.specs.declared.memory.OrNoMemory.{OrNoMemory}
 use Rattle.held_tasks.specs.Course.{HasServedHeld, IsServedIn, ListGoes}
 use Rattle.driver_cells.specs.Known.{DriverRow, known, known_row}
+use Rattle.driver_cells.specs.Parts.{KeepsParts, parts_of}
 use Rattle.driver_cells.specs.Ready.{HoldsNoSlot, IsReadyRow, KeepsNothing}
 use Rattle.list_holds.specs.Released.{LetsGo}
 use Rattle.held_tasks.proofs.Lists.{all_at, one_of, same_length, same_map}
-use Rattle.outcome_spec.proofs.Going.{level_stays}
+use Rattle.driver_cells.proofs.OfOutcomes.{level_stays}
 use Rattle.driver_cells.proofs.Going.{are_later, are_same}
+use Rattle.driver_cells.proofs.Parts.{parts_through}
 use Rattle.driver_cells.proofs.Passing.{later_itself, later_spent, later_through, later_went}
 use Rattle.list_holds.proofs.Sharing.{one_more_same}
 
@@ -59,6 +59,10 @@ let_go_cell : (slot : ℕ) (front : Front) (occupied : Bool) (had after : ListPa
 let_go_cell slot front occupied had after (inl released) = released.went.same.cell
 let_go_cell slot front occupied had after (inr spent) = ap (λ (p : ListPassed). p.cell) spent
 
+let_go_parts : (slot : ℕ) (front : Front) (occupied : Bool) (had after : ListPassed) → LetsGo slot front occupied had after → after.parts ≡ had.parts
+let_go_parts slot front occupied had after (inl released) = released.went.same.parts
+let_go_parts slot front occupied had after (inr spent) = ap (λ (p : ListPassed). p.parts) spent
+
 -- where a slot was held, the pass held none before
 none_held : (pass : ListPassed) → pass.spent ≡ false → HoldsNoSlot pass → pass.share ≡ no_holds
 none_held pass fresh (inl spent) = true_false (sym spent ∙ fresh)
@@ -81,6 +85,9 @@ module _ {F : Type 0} (told : F → Told) where
   store_cell : (report : List (Ask × Answer)) (before after : StorePass) → HasServed told report before after → after.cell ≡ before.cell
   store_cell report before after h = h.goes.went.same.cell
 
+  store_parts : (report : List (Ask × Answer)) (before after : StorePass) → HasServed told report before after → after.parts ≡ before.parts
+  store_parts report before after h = h.goes.went.same.parts
+
 -- ---- the row
 
 module _ {G : Type 0} where
@@ -100,6 +107,13 @@ module _ {G : Type 0} where
     list_is = cell ∙ own.list_is;
     store_is = ap (λ (r : DriverRow G). r.store.cell) same ∙ own.store_is;
     domains_are = ap (λ (r : DriverRow G). map cell_of r.domains) same ∙ own.domains_are;
+  }
+
+  parts_by_list : (before after : DriverRow G) → after.list.parts ≡ before.list.parts → ListGoes before after → KeepsParts before after
+  parts_by_list before after parts same = record {
+    list = parts;
+    store = ap (λ (r : DriverRow G). r.store.parts) same;
+    domains = ap (λ (r : DriverRow G). map parts_of r.domains) same;
   }
 
   ready_by_list : (before after : DriverRow G) → HoldsNoSlot after.list → ListGoes before after → IsReadyRow before → IsReadyRow after
@@ -124,6 +138,14 @@ module _ {G : Type 0} where
   out_of list store domains before after (inl (spent, same)) own = subst (IsOf list store domains) (sym same) own
   out_of list store domains before after (inr is) own = of_by_list list store domains before after (ap (λ (p : ListPassed). p.cell) (spent_now before after is)) (as_list before after (record before.list { spent = true }) is) own
 
+  out_parts : (before after : DriverRow G) → (HasSpent (known_row before) × (after ≡ before)) ⊎ (after ≡ record before { list = record before.list { spent = true } }) → KeepsParts before after
+  out_parts before after (inl (spent, same)) = record {
+    list = ap (λ (r : DriverRow G). r.list.parts) same;
+    store = ap (λ (r : DriverRow G). r.store.parts) same;
+    domains = ap (λ (r : DriverRow G). map parts_of r.domains) same;
+  }
+  out_parts before after (inr is) = parts_by_list before after (ap (λ (p : ListPassed). p.parts) (spent_now before after is)) (as_list before after (record before.list { spent = true }) is)
+
   out_ready : (before after : DriverRow G) → (HasSpent (known_row before) × (after ≡ before)) ⊎ (after ≡ record before { list = record before.list { spent = true } }) → IsReadyRow before → IsReadyRow after
   out_ready before after (inl (spent, same)) ready = subst IsReadyRow (sym same) ready
   out_ready before after (inr is) ready = ready_by_list before after (inl (ap (λ (p : ListPassed). p.spent) (spent_now before after is))) (as_list before after (record before.list { spent = true }) is) ready
@@ -143,6 +165,14 @@ module _ {G : Type 0} where
       domains_are = ap (λ (l : List DomainPass). map cell_of l) h.domains.is
           ∙ (same_map cell_of h.domains.first h.old h.new h.domains.rest h.serves.tasked.same.cell
           ∙ (ap (λ (l : List DomainPass). map cell_of l) (sym h.domains.was) ∙ own.domains_are));
+    }
+
+    served_parts : (who : Who) (t : Task) (slot : ℕ) (had after : DriverRow G) (o : Outcome) → IsServedIn told maker ends faults unheard who t slot had after o → KeepsParts had after
+    served_parts who t slot had after o h = record {
+      list = let_go_parts slot h.seen.front h.seen.occupied had.list after.list h.lets_go;
+      store = store_parts told h.serves.report had.store after.store h.serves.served;
+      domains = ap (λ (l : List DomainPass). map parts_of l) h.domains.is
+          ∙ (same_map parts_of h.domains.first h.old h.new h.domains.rest h.serves.tasked.same.parts ∙ ap (λ (l : List DomainPass). map parts_of l) (sym h.domains.was));
     }
 
     served_domains : (who : Who) (t : Task) (slot : ℕ) (had after : DriverRow G) (o : Outcome) → IsServedIn told maker ends faults unheard who t slot had after o → All KeepsNothing had.domains → All KeepsNothing after.domains
@@ -172,6 +202,13 @@ module _ {G : Type 0} where
         served_of list store domains who t s.slot s.had after o s.serves (of_by_list list store domains before s.had s.holds.asked.went.same.cell s.rest own)
     is_of list store domains who held t before after o (inr (inl u)) own = of_by_list list store domains before after u.holds.asked.went.same.cell u.rest own
     is_of list store domains who held t before after o (inr (inr out)) own = out_of list store domains before after out.spent own
+
+    -- its passes have the parts that they had
+    pub keeps_parts : (who : Who) (held : ListCall) (t : Task) (before after : DriverRow G) (o : Outcome) → HasServedHeld told maker ends faults unheard who held t before after o → KeepsParts before after
+    keeps_parts who held t before after o (inl s) =
+        parts_through before s.had after (parts_by_list before s.had s.holds.asked.went.same.parts s.rest) (served_parts who t s.slot s.had after o s.serves)
+    keeps_parts who held t before after o (inr (inl u)) = parts_by_list before after u.holds.asked.went.same.parts u.rest
+    keeps_parts who held t before after o (inr (inr out)) = out_parts before after out.spent
 
     served_slots : (who : Who) (t : Task) (slot : ℕ) (had after : DriverRow G) (o : Outcome) → IsServedIn told maker ends faults unheard who t slot had after o → length after.domains ≡ length had.domains
     served_slots who t slot had after o h =

@@ -1,13 +1,10 @@
 -- A task that is run by a desk.
 use Rattle.std.proofs.Common.{◌≡◌, ℕ, List, [], Option, inr, sym, ap, subst}
-use Rattle.domain_cell.specs.Celled.{CellShare}
-use Rattle.domain_cell.specs.Meaning.{nothing_kept}
-use Rattle.domain_obj.specs.InTurn.{DomainPass}
-use Rattle.domain_obj.specs.Running.{IsReady}
-use Rattle.domain_obj.specs.declared.place.Seen.{Seen}
+use Rattle.driver_cells.specs.OfCells.{CellShare, nothing_kept}
+use Rattle.driver_cells.specs.OfObjects.{DomainPass, IsReady, Seen}
 use Rattle.domain_requests.specs.declared.task.Task.{Task}
 use Rattle.domain_spec.specs.Types.{Answer, Ask, Reply, Who}
-use Rattle.domain_tasks.specs.Tasked.{HasTasked}
+use Rattle.driver_cells.specs.OfTasks.{HasTasked}
 use Rattle.files_disk.specs.Telling.{Told}
 use Rattle.row_desk.specs.Served.{HasMade, HasServed}
 use Rattle.row_desk.specs.Views.{StorePass}

@@ -7,11 +7,8 @@ use Rattle.domain_requests.specs.declared.task.Parsed.{Parsed}
 use Rattle.domain_requests.specs.declared.task.Parsed.TheVariants as parsed
 use Rattle.domain_requests.specs.declared.task.Task.{Task}
 use Rattle.domain_requests.specs.declared.task.Task.TheVariants as task
-use Rattle.domain_tasks.specs.Tasked.{IsUnbuilt}
-use Rattle.outcome_spec.specs.Asked.{Asks, IsTask}
-use Rattle.outcome_spec.specs.Now.{is_read, is_read_of_domain}
-use Rattle.outcome_spec.specs.Rows.{KnownRow}
-use Rattle.outcome_spec.specs.Shown.{is_built, is_built_of_domain}
+use Rattle.driver_cells.specs.OfTasks.{IsUnbuilt}
+use Rattle.driver_cells.specs.OfOutcomes.{Asks, IsTask, KnownRow, is_built, is_built_of_domain, is_read, is_read_of_domain}
 use Rattle.virt_types.specs.Name.{bad_place}
 use Rattle.virt_types.specs.declared.call.Call.{Call}
 use Rattle.virt_types.specs.declared.call.Call.TheVariants as call

@@ -7,8 +7,8 @@ use Rattle.book_spec.specs.Slots.{no_holds}
 use Rattle.book_spec.specs.declared.list.ListCall.{ListCall}
 use Rattle.book_spec.specs.declared.list.ListFault.{ListFault}
 use Rattle.def_keeper.specs.Turns.{meaning as store_meaning}
-use Rattle.domain_cell.specs.Meaning.{meaning}
-use Rattle.domain_obj.specs.Replies.{TellsSpent}
+use Rattle.driver_cells.specs.OfCells.{meaning}
+use Rattle.driver_cells.specs.OfObjects.{DomainPass, TellsSpent}
 use Rattle.domain_requests.specs.declared.task.Task.{Task}
 use Rattle.domain_spec.specs.Types.{Who}
 use Rattle.files_disk.specs.Telling.{Told}
@@ -16,7 +16,7 @@ use Rattle.list_holds.specs.Held.{HasHeld}
 use Rattle.list_replies.specs.Telling.{TellsFault}
 use Rattle.object_list.specs.Keeping.{meaning as list_meaning}
 use Rattle.object_list.specs.Turns.{ListPassed, one_more}
-use Rattle.outcome_spec.specs.declared.outcome.Outcome.{Outcome}
+use Rattle.driver_cells.specs.OfOutcomes.{Outcome}
 use Rattle.pass_rows.specs.Resting.{IsIdle, IsSo}
 use Rattle.pass_rows.specs.Rows.{IsIdleRow, IsOf}
 use Rattle.pass_rows.specs.declared.resting.PassState.TheVariants as state
@@ -32,7 +32,6 @@ use Rattle.driver_cells.proofs.Idle.{has_spent}
 use Rattle.held_tasks.specs.Holding.{HoldsSlot}
 use Rattle.row_desk.specs.Views.{StorePass}
 use Rattle.held_tasks.proofs.Slots.{row_with}
-use Rattle.domain_obj.specs.InTurn.{DomainPass}
 use Rattle.list_holds.proofs.Sharing.{held_not_free}
 
 -- ---- the slot that was given is one of the row's

@@ -2,9 +2,7 @@
 use Rattle.std.specs.Prelude.{◌≡◌, ◌⊎◌, ◌++◌, ◌∷◌, ℕ, List, length, true, Option, None, Some, Ok, Err}
 use Rattle.book_spec.specs.declared.list.ListCall.{ListCall}
 use Rattle.book_spec.specs.declared.list.ListFault.{ListFault}
-use Rattle.domain_obj.specs.InTurn.{DomainPass}
-use Rattle.domain_obj.specs.Replies.{TellsSpent}
-use Rattle.domain_obj.specs.declared.place.Seen.{Seen}
+use Rattle.driver_cells.specs.OfObjects.{DomainPass, Seen, TellsSpent}
 use Rattle.domain_requests.specs.declared.task.Task.{Task}
 use Rattle.domain_spec.specs.Types.{Who}
 use Rattle.driver_cells.specs.Fronts.{no_front}
@@ -13,8 +11,7 @@ use Rattle.files_disk.specs.Telling.{Told}
 use Rattle.list_holds.specs.Held.{HasHeld}
 use Rattle.list_holds.specs.Released.{LetsGo}
 use Rattle.list_replies.specs.Telling.{TellsFault}
-use Rattle.outcome_spec.specs.Spent.{HasSpent}
-use Rattle.outcome_spec.specs.declared.outcome.Outcome.{Outcome}
+use Rattle.driver_cells.specs.OfOutcomes.{HasSpent, Outcome}
 use Rattle.virt_types.specs.declared.ask.GuestEvent.{GuestEvent}
 use Rattle.virt_types.specs.declared.caller.CellName.TheVariants as cell
 use Rattle.virt_types.specs.declared.caller.Front.{Front}

@@ -3,7 +3,7 @@ use Rattle.std.specs.Prelude.{◌≡◌, ◌<◌, ℕ, List, false, length, slic
 use Rattle.std.specs.List.{All}
 use Rattle.atomic_table.specs.Seated.{TableId}
 use Rattle.book_spec.specs.Slots.{no_holds}
-use Rattle.domain_cell.specs.Meaning.{meaning}
+use Rattle.driver_cells.specs.OfCells.{meaning}
 use Rattle.driver_cells.specs.Known.{DriverRow}
 use Rattle.object_list.specs.Turns.{one_more}
 use Rattle.pass_rows.specs.Resting.{IsIdle}

@@ -2,12 +2,7 @@
 use Rattle.std.specs.Prelude.{◌≡◌, true}
 use Rattle.book_spec.specs.declared.list.ListCall.{ListCall}
 use Rattle.domain_requests.specs.declared.task.Task.{Task}
-use Rattle.outcome_spec.specs.Asked.{Asks}
-use Rattle.outcome_spec.specs.Now.{IsNow, ReadsNow}
-use Rattle.outcome_spec.specs.Outcomes.{HasOutcome}
-use Rattle.outcome_spec.specs.Rows.{HasGone, KnownRow}
-use Rattle.outcome_spec.specs.Shown.{is_built}
-use Rattle.outcome_spec.specs.declared.outcome.Outcome.{Outcome}
+use Rattle.driver_cells.specs.OfOutcomes.{Asks, HasGone, HasOutcome, IsNow, KnownRow, Outcome, ReadsNow, is_built}
 use Rattle.virt_types.specs.declared.request.Request.{Request}
 use Rattle.held_tasks.specs.Outcomes.{HasTaskOutcome, is_query}
 

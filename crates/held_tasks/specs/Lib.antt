@@ -3,3 +3,8 @@ pub mod Running
 pub mod Course
 pub mod Outcomes
 pub mod Laws
+pub mod OfDesks
+pub mod OfObjects
+pub mod OfOutcomes
+pub mod OfRequests
+pub mod OfRows

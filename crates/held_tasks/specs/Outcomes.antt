@@ -4,13 +4,8 @@ use Rattle.book_spec.specs.declared.list.ListCall.{ListCall}
 use Rattle.book_spec.specs.declared.list.ListFault.{ListFault}
 use Rattle.domain_requests.specs.declared.task.Task.{Task}
 use Rattle.domain_requests.specs.declared.task.Task.TheVariants as task
-use Rattle.domain_tasks.specs.Tasked.{IsUnbuilt}
-use Rattle.outcome_spec.specs.Listed.{list_refusal}
-use Rattle.outcome_spec.specs.Marks.{StandsAt}
-use Rattle.outcome_spec.specs.Outcomes.{IsGiven, IsStopped}
-use Rattle.outcome_spec.specs.Rows.{DomainPass, KnownRow, pass_of}
-use Rattle.outcome_spec.specs.Slots.{HasSlot}
-use Rattle.outcome_spec.specs.declared.outcome.Outcome.{Outcome}
+use Rattle.driver_cells.specs.OfTasks.{IsUnbuilt}
+use Rattle.driver_cells.specs.OfOutcomes.{DomainPass, HasSlot, IsGiven, IsStopped, KnownRow, Outcome, StandsAt, list_refusal, pass_of}
 use Rattle.virt_types.specs.declared.caller.CellName.{CellName}
 use Rattle.virt_types.specs.declared.caller.CellName.TheVariants as cell
 use Rattle.virt_types.specs.declared.caller.Front.{Front}

@@ -1,10 +1,9 @@
 -- A task that is run in the domain of a slot, with the row's maker of guests and its pass of the store at hand.
 use Rattle.std.specs.Prelude.{ℕ, List, [], Option}
-use Rattle.domain_obj.specs.InTurn.{DomainPass}
-use Rattle.domain_obj.specs.declared.place.Seen.{Seen}
+use Rattle.driver_cells.specs.OfObjects.{DomainPass, Seen}
 use Rattle.domain_requests.specs.declared.task.Task.{Task}
 use Rattle.domain_spec.specs.Types.{Answer, Ask, Reply, Who}
-use Rattle.domain_tasks.specs.Tasked.{HasTasked}
+use Rattle.driver_cells.specs.OfTasks.{HasTasked}
 use Rattle.files_disk.specs.Telling.{Told}
 use Rattle.row_desk.specs.Served.{HasMade, HasServed}
 use Rattle.row_desk.specs.Views.{StorePass}

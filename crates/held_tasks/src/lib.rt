@@ -7,5 +7,7 @@ mod serving;
 mod slot;
 mod store;
 
+pub use driver_cells::{Cells, NO_FRONT, Outcome, Row, run_out, state_of};
 pub use laws::{queries_read_now, tasks_answer_requests};
+pub use row_desk::{Maker, MakerOf};
 pub use serving::serve_held;

@@ -1,9 +1,9 @@
 // A task of the domain that a request names.
 ghost use Rattle.std.specs.Prelude.{◌≡◌};
 ghost use Rattle.driver_cells.specs.Known.{known_row};
+ghost use Rattle.driver_cells.specs.Parts.{KeepsParts};
 ghost use Rattle.driver_cells.specs.Ready.{IsReadyRow};
-ghost use Rattle.outcome_spec.specs.Now.{IsNow};
-ghost use Rattle.outcome_spec.specs.Rows.{HasGone};
+ghost use Rattle.driver_cells.specs.OfOutcomes.{HasGone, IsNow};
 ghost use Rattle.pass_rows.specs.Rows.{IsOf};
 ghost use Rattle.slot_holds.specs.Holds.{call_of};
 ghost use Rattle.held_tasks.specs.Course.{HasServedHeld};
@@ -12,11 +12,10 @@ ghost use Rattle.held_tasks.specs.Outcomes.{HasTaskOutcome, is_query};
 use crate::slot::serve_in_slot;
 use def_keeper::Opening;
 use domain_requests::Task;
-use driver_cells::{Cells, Row, run_out};
+use driver_cells::{Cells, Outcome, Row, run_out};
 use files_disk::Files;
 use list_holds::hold_slot;
 use list_replies::reply_to;
-use outcome_spec::Outcome;
 use pass_rows::{PassState, RestingPass, RowOf};
 use row_desk::Maker;
 use slot_holds::Hold;
@@ -84,6 +83,7 @@ pub fn serve_held<R: Wait, G: Maker, F: Files + Drop, K: Opening>(
     ensures outcome { HasTaskOutcome (known_row row) (known_row result.0) (call_of hold.now) task.now result.1 }
     ensures now { IsNow (known_row result.0) (is_query task.now) result.1.cell result.1.front }
     ensures gone { HasGone (known_row row) (known_row result.0) }
+    ensures parts { KeepsParts row result.0 }
     ensures own { IsOf cells.now.list cells.now.store cells.now.domains.items result.0 }
     ensures ready { IsReadyRow result.0 }
 {

@@ -1,12 +1,11 @@
 // The task with the store and the maker of guests at hand.
 ghost use Rattle.std.specs.Prelude.{◌≡◌, false};
-ghost use Rattle.domain_cell.specs.Meaning.{nothing_kept};
+ghost use Rattle.driver_cells.specs.OfCells.{nothing_kept};
 ghost use Rattle.held_tasks.specs.Running.{HasServedTask};
 
 use def_keeper::{Keeper, KeeperPass, Opening};
-use domain_obj::{DomainObj, DomainPass};
 use domain_requests::Task;
-use domain_tasks::{Tasked, run_task};
+use driver_cells::{DomainObj, DomainPass, Tasked, run_task};
 use files_disk::Files;
 use row_desk::{Handed, Maker, RowDesk};
 use std::alloc::Global;

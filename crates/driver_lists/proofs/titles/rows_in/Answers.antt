@@ -3,7 +3,7 @@ use Rattle.std.proofs.lemmas.Result.{IfOk-weaker}
 use Rattle.std.proofs.lemmas.Simd.{map-map}
 use Rattle.def_map.specs.Map.{found}
 use Rattle.store_spec.specs.declared.entry.Entry.{Entry}
-use Rattle.outcome_spec.specs.Titles.{AreTitles, title_row}
+use Rattle.driver_cells.specs.OfOutcomes.{AreTitles, title_row}
 use Rattle.driver_lists.proofs.TitleRows.{are_titles}
 use Rattle.driver_lists.proofs.titles.rows_in.Goals as goal
 

@@ -1,5 +1,5 @@
 use Rattle.std.proofs.Common.{◌≡◌, map, take}
-use Rattle.outcome_spec.specs.Titles.{title_row}
+use Rattle.driver_cells.specs.OfOutcomes.{title_row}
 use Rattle.driver_lists.proofs.titles.rows_of.Given as goal
 
 abbrev pub invariant-loop-entry : goal.invariant-loop-entry

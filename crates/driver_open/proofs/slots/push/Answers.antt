@@ -1,6 +1,6 @@
 use Rattle.driver_open.proofs.Firsts.{domain_is_idle}
 use Rattle.driver_open.proofs.Slotted.{pushed}
-use Rattle.domain_cell.specs.Celled.{new_cell}
+use Rattle.driver_cells.specs.OfCells.{new_cell}
 use Rattle.driver_open.proofs.slots.push.Goals as goal
 
 pub new-pass-requires : goal.new-pass-requires

@@ -1,5 +1,5 @@
 use Rattle.held_tasks.proofs.Results.{now, outcome}
-use Rattle.held_tasks.proofs.Rows.{gone, is_of, is_ready}
+use Rattle.held_tasks.proofs.Rows.{gone, is_of, is_ready, keeps_parts}
 use Rattle.held_tasks.proofs.serving.serve_held.Goals as goal
 
 pub returns : goal.returns
@@ -15,6 +15,7 @@ returns g c =
       outcome = outcome _ _ _ _ _ _ _ _ _ _ _ h;
       now = now _ _ _ _ _ _ _ _ _ _ _ h;
       gone = gone _ _ _ _ _ _ _ _ _ _ _ h;
+      parts = keeps_parts _ _ _ _ _ _ _ _ _ _ _ h;
       own = is_of _ _ _ _ _ list store domains _ _ _ _ _ _ h c.requires.own;
       ready = is_ready _ _ _ _ _ _ _ _ _ _ _ h c.requires.ready;
     }

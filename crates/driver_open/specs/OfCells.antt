@@ -1,0 +1,2 @@
+-- Words of domain_cell that are passed on: crates above name them here.
+pub use Rattle.driver_cells.specs.OfCells.{Celled, history_of, meaning, no_mark_lowers}
