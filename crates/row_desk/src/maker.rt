@@ -4,7 +4,7 @@ ghost use Rattle.monitor_link.specs.Causes.{IsFaultCaused};
 ghost use Rattle.monitor_link.specs.Exchanges.{HasNoExchange};
 
 use monitor_link::{Ears, Guests, Killer, Link, Monitor};
-use virt_types::{DomainDef, Fault};
+use virt_types::{DomainDef, Fault, NoMemory};
 
 /// What a desk makes guests by. It says no more of them than a desk needs: whether their parts may go to threads is not for
 /// a desk to know.
@@ -46,5 +46,26 @@ impl<G: Guests> Maker for MakerOf<G> {
 
     fn make(&mut self, def: &DomainDef, boot: u64) -> Result<Link<G::M, G::E, G::Z>, Fault> {
         self.guests.make(def, boot)
+    }
+}
+
+impl<G: Guests> Guests for MakerOf<G> {
+    type M = G::M;
+
+    type E = G::E;
+
+    type Z = G::Z;
+
+    ghost faults = { λ m. G.faults m.guests };
+
+    fn make(&mut self, def: &DomainDef, boot: u64) -> Result<Link<G::M, G::E, G::Z>, Fault> {
+        self.guests.make(def, boot)
+    }
+
+    fn another(&mut self) -> Result<MakerOf<G>, NoMemory> {
+        match self.guests.another() {
+            Ok(guests) => Ok(MakerOf { guests }),
+            Err(NoMemory) => Err(NoMemory),
+        }
     }
 }
