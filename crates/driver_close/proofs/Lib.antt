@@ -1,0 +1,4 @@
+pub mod Ending
+pub mod Whole
+pub mod Fresh
+pub mod Parts

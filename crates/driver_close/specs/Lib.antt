@@ -1,0 +1,5 @@
+pub mod Closed
+pub mod Last
+pub mod OfCells
+pub mod OfOpening
+pub mod Laws
