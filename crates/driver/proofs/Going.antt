@@ -1,14 +1,12 @@
 -- A row of which the store's pass may have taken a turn, and then the whole row goes on.
-use Rattle.std.proofs.Common.{◌≡◌, List, sym, ap, ◌∙◌, subst, map}
+use Rattle.std.proofs.Common.{◌≡◌, List, ap, ◌∙◌, subst, map}
 use Rattle.atomic_table.specs.Seated.{TableId}
-use Rattle.driver_cells.proofs.Going.{are_same}
-use Rattle.driver_cells.proofs.Passing.{later_itself, later_through}
-use Rattle.driver_cells.specs.Known.{DriverRow, known, known_row}
-use Rattle.driver_cells.specs.Ready.{IsReadyRow}
-use Rattle.outcome_spec.proofs.Going.{level_stays}
-use Rattle.outcome_spec.specs.Rows.{HasGone, IsLater, KnownRow, level}
+use Rattle.held_tasks.proofs.OfRows.{later_through}
+use Rattle.held_tasks.specs.OfRows.{DriverRow, IsReadyRow, KeepsParts, known, known_row, parts_of}
+use Rattle.held_tasks.proofs.OfOutcomes.{level_stays}
+use Rattle.held_tasks.specs.OfOutcomes.{HasGone, IsLater, level}
 use Rattle.pass_rows.specs.Rows.{IsOf}
-use Rattle.store_asks.specs.Turning.{StorePass}
+use Rattle.held_tasks.specs.OfDesks.{StorePass}
 
 module _ {G : Type 0} where
   -- by way of the store's pass
@@ -21,6 +19,14 @@ module _ {G : Type 0} where
         store = later_through level level_stays (known before.store) (known had.store) (known after.store) store on.store;
         domains = on.domains;
       }
+
+  -- its passes have the parts that they had
+  pub parts_on : (before had after : DriverRow G) → had ≡ record before { store = had.store } → had.store.parts ≡ before.store.parts → KeepsParts had after → KeepsParts before after
+  parts_on before had after row store on = record {
+    list = on.list ∙ ap (λ (r : DriverRow G). r.list.parts) row;
+    store = on.store ∙ store;
+    domains = on.domains ∙ ap (λ (r : DriverRow G). map parts_of r.domains) row;
+  }
 
   -- the row is of the same cells, and ready
   pub still_own : (list store : TableId) (domains : List TableId) (before : DriverRow G) (p : StorePass) → p.cell ≡ before.store.cell → IsOf list store domains before → IsOf list store domains (record before { store = p })

@@ -3,3 +3,4 @@ pub mod Outcomes
 pub mod Going
 pub mod Rejoined
 pub mod Opening
+pub mod Splitting

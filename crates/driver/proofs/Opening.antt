@@ -1,9 +1,8 @@
 -- The row of a driver that was opened may serve requests.
 use Rattle.std.proofs.Common.{◌≡◌, length, inr}
 use Rattle.def_keeper.specs.Turns as storing
-use Rattle.domain_cell.specs.Meaning as domain
-use Rattle.driver_cells.specs.Known.{DriverRow}
-use Rattle.driver_cells.specs.Ready.{IsReadyRow}
+use Rattle.driver_close.specs.OfCells as domain
+use Rattle.held_tasks.specs.OfRows.{DriverRow, IsReadyRow}
 use Rattle.files_disk.specs.Telling.{Told}
 use Rattle.object_list.specs.Keeping as listing
 use Rattle.pass_rows.specs.Rows.{IsIdleRow}

@@ -1,23 +1,20 @@
 -- What comes of a request rests on what its outcome names.
-use Rattle.std.proofs.Common.{◌≡◌, ℕ, List, Bool, true, false, Option, None, Some, inl, inr, refl, sym, ap, ◌∙◌, subst}
+use Rattle.std.proofs.Common.{◌≡◌, ℕ, List, Bool, true, false, Option, None, inl, inr, refl, sym, ap, ◌∙◌, subst}
 use Rattle.domain_spec.specs.Types.{Reply, Who}
-use Rattle.driver_cells.proofs.Stopping.{no_room, ran_out}
-use Rattle.driver_cells.specs.Known.{DriverRow, known_row}
+use Rattle.held_tasks.proofs.OfRows.{no_room, ran_out}
+use Rattle.held_tasks.specs.OfRows.{DriverRow, known_row}
 use Rattle.files_disk.specs.Telling.{Told}
 use Rattle.held_tasks.proofs.Requests.{queries_now, tasks_answer}
 use Rattle.held_tasks.proofs.Results.{now, outcome}
 use Rattle.held_tasks.specs.Laws.{FindsTask}
-use Rattle.domain_requests.specs.declared.task.Task.{Task}
-use Rattle.outcome_spec.specs.Now.{IsNow, ReadsNow, is_read}
-use Rattle.outcome_spec.specs.Outcomes.{HasOutcome, IsOfNobody, IsOfStore}
-use Rattle.outcome_spec.specs.Rows.{HasGone, KnownRow}
-use Rattle.outcome_spec.specs.declared.outcome.Outcome.{Outcome}
+use Rattle.held_tasks.specs.OfRequests.{Task}
+use Rattle.held_tasks.specs.OfOutcomes.{HasGone, HasOutcome, IsNow, IsOfNobody, IsOfStore, KnownRow, Outcome, ReadsNow, is_read}
 use Rattle.request_asks.specs.Found.{IsFound, Leaves, restored_from}
 use Rattle.request_asks.specs.declared.asked.Asked.{Asked}
 use Rattle.request_asks.specs.declared.asked.Asked.TheVariants as asked
 use Rattle.slot_holds.specs.Holds.{call_of}
 use Rattle.slot_holds.specs.declared.Hold.{Hold}
-use Rattle.store_asks.specs.Turning.{StorePass}
+use Rattle.held_tasks.specs.OfDesks.{StorePass}
 use Rattle.virt_types.specs.declared.ask.GuestEvent.{GuestEvent}
 use Rattle.virt_types.specs.declared.caller.CellName.{CellName}
 use Rattle.virt_types.specs.declared.caller.CellName.TheVariants as cell

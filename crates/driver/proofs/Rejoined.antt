@@ -1,17 +1,14 @@
 -- What became of a request, of the row that was given.
-use Rattle.std.proofs.Common.{◌≡◌, ℕ, List, Option, sym, ap, ◌∙◌, subst}
+use Rattle.std.proofs.Common.{◌≡◌, ℕ, List, Option, sym, ◌∙◌, subst}
 use Rattle.domain_spec.specs.Types.{Who}
-use Rattle.driver_cells.specs.Known.{DriverRow, known_row}
+use Rattle.held_tasks.specs.OfRows.{DriverRow, known_row}
 use Rattle.files_disk.specs.Telling.{Told}
 use Rattle.object_list.specs.Turns.{ListPassed}
-use Rattle.domain_obj.specs.InTurn.{DomainPass}
-use Rattle.outcome_spec.specs.Now.{ReadsNow}
-use Rattle.outcome_spec.specs.Outcomes.{HasOutcome}
-use Rattle.outcome_spec.specs.Rows.{HasGone}
-use Rattle.outcome_spec.specs.declared.outcome.Outcome.{Outcome}
+use Rattle.held_tasks.specs.OfObjects.{DomainPass}
+use Rattle.held_tasks.specs.OfOutcomes.{HasGone, HasOutcome, Outcome, ReadsNow}
 use Rattle.request_asks.specs.Found.{IsFound, Leaves, restored_from}
 use Rattle.request_asks.specs.declared.asked.Asked.{Asked}
-use Rattle.store_asks.specs.Turning.{StorePass}
+use Rattle.held_tasks.specs.OfDesks.{StorePass}
 use Rattle.virt_types.specs.declared.ask.GuestEvent.{GuestEvent}
 use Rattle.virt_types.specs.declared.request.Request.{Request}
 use Rattle.driver.specs.Called.{CameTo, HasCalled}

@@ -1,8 +1,6 @@
 -- What an answer rests on, by what the request was found to ask.
-use Rattle.std.proofs.Common.{◌≡◌, ℕ, ℤ, true, false, Option, None, Some, refl, ap, sym}
-use Rattle.outcome_spec.specs.Now.{is_read}
-use Rattle.outcome_spec.specs.Outcomes.{IsOfConnection, IsOfStore}
-use Rattle.outcome_spec.specs.Rows.{KnownRow}
+use Rattle.std.proofs.Common.{◌≡◌, ℕ, ℤ, true, false, Option, None, Some, refl, ap}
+use Rattle.held_tasks.specs.OfOutcomes.{IsOfConnection, IsOfStore, KnownRow, is_read}
 use Rattle.request_asks.specs.Found.{IsAsked, restored_from}
 use Rattle.request_asks.specs.Passes.{known}
 use Rattle.request_asks.specs.Plain.{names_asked, plainly_asked}
@@ -11,7 +9,7 @@ use Rattle.request_asks.specs.declared.asked.Asked.TheVariants as asked
 use Rattle.request_asks.specs.declared.asked.Listing.{Listing}
 use Rattle.request_asks.specs.declared.asked.Listing.TheVariants as listing
 use Rattle.session_spec.specs.Served.{passed}
-use Rattle.store_asks.specs.Turning.{StorePass}
+use Rattle.held_tasks.specs.OfDesks.{StorePass}
 use Rattle.virt_types.specs.declared.caller.Front.{Front}
 use Rattle.virt_types.specs.declared.refusal.Refusal.{Refusal}
 use Rattle.virt_types.specs.declared.request.Request.{Request}

@@ -1,14 +1,11 @@
 -- What became of a request: what it asks was found out, and then that was done.
 use Rattle.std.specs.Prelude.{◌≡◌, ℕ, List, Option}
-use Rattle.domain_obj.specs.Replies.{TellsSpent}
+use Rattle.held_tasks.specs.OfObjects.{TellsSpent}
 use Rattle.domain_spec.specs.Types.{Reply, Who}
-use Rattle.driver_cells.specs.Fronts.{no_front}
-use Rattle.driver_cells.specs.Known.{DriverRow, known_row}
+use Rattle.held_tasks.specs.OfRows.{DriverRow, known_row, no_front}
 use Rattle.files_disk.specs.Telling.{Told}
 use Rattle.held_tasks.specs.Course.{HasServedHeld}
-use Rattle.outcome_spec.specs.Now.{ReadsNow}
-use Rattle.outcome_spec.specs.Outcomes.{HasOutcome}
-use Rattle.outcome_spec.specs.declared.outcome.Outcome.{Outcome}
+use Rattle.held_tasks.specs.OfOutcomes.{HasOutcome, Outcome, ReadsNow}
 use Rattle.refusal_replies.specs.Replies.{no_memory_reply}
 use Rattle.request_asks.specs.Found.{IsFound, Leaves, restored_from}
 use Rattle.request_asks.specs.declared.asked.Asked.{Asked}
@@ -17,7 +14,6 @@ use Rattle.request_asks.specs.declared.asked.Listing.{Listing}
 use Rattle.request_asks.specs.declared.asked.Listing.TheVariants as listing
 use Rattle.slot_holds.specs.Holds.{call_of}
 use Rattle.virt_types.specs.declared.ask.GuestEvent.{GuestEvent}
-use Rattle.virt_types.specs.declared.caller.CellName.{CellName}
 use Rattle.virt_types.specs.declared.caller.CellName.TheVariants as cell
 use Rattle.virt_types.specs.declared.caller.Front.{Front}
 use Rattle.virt_types.specs.declared.request.Request.{Request}
@@ -40,11 +36,18 @@ request_of (listing.Idle most) = request.ListDefinedDomains most
 request_of listing.Titles = request.Titles
 
 module _ {G : Type 0} where
-  -- the domains were listed, and no guest was asked anything
+  -- which passes a list lets go on, with the rest of the row the same: that of the store for titles, and else those of the list
+  -- and of the domains
+  abbrev pub LetsGoOn : Listing → DriverRow G → DriverRow G → Type 0
+  LetsGoOn listing.All before after = after ≡ record before { list = after.list; domains = after.domains }
+  LetsGoOn (listing.Idle most) before after = after ≡ record before { list = after.list; domains = after.domains }
+  LetsGoOn listing.Titles before after = after ≡ record before { store = after.store }
+
+  -- the domains were listed, and nobody else was asked anything
   pub record HasListed (l : Listing) (before after : DriverRow G) (o : Outcome) : Type 0 where
     pub outcome : HasOutcome (known_row before) (known_row after) (request_of l) o
     pub now : ReadsNow (known_row after) (request_of l) o
-    pub guests : after.guests ≡ before.guests
+    pub others : LetsGoOn l before after
 
   -- nothing more was done, and this is the answer
   pub record IsAnswered (said : Outcome) (before after : DriverRow G) (o : Outcome) : Type 0 where

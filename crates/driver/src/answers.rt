@@ -1,9 +1,8 @@
 // Answers that no domain gives.
 ghost use Rattle.std.specs.Prelude.{◌≡◌};
-ghost use Rattle.driver_cells.specs.Fronts.{no_front};
+ghost use Rattle.held_tasks.specs.OfRows.{no_front};
 
-use driver_cells::NO_FRONT;
-use outcome_spec::Outcome;
+use held_tasks::{NO_FRONT, Outcome};
 use virt_types::{CellName, Front, Refusal, Reply};
 
 /// No cell decides it.

@@ -1,25 +1,19 @@
 // A request is served by a row.
 ghost use Rattle.std.specs.Prelude.{◌≡◌};
 ghost use Rattle.driver.specs.Called.{CameTo, HasCalled, HasListed};
-ghost use Rattle.driver_cells.specs.Known.{known_row};
-ghost use Rattle.driver_cells.specs.Ready.{IsReadyRow};
-ghost use Rattle.outcome_spec.specs.Now.{ReadsNow};
-ghost use Rattle.outcome_spec.specs.Outcomes.{HasOutcome};
-ghost use Rattle.outcome_spec.specs.Rows.{HasGone};
+ghost use Rattle.held_tasks.specs.OfRows.{IsReadyRow, KeepsParts, known_row};
+ghost use Rattle.held_tasks.specs.OfOutcomes.{HasGone, HasOutcome, ReadsNow};
 ghost use Rattle.pass_rows.specs.Rows.{IsOf};
 ghost use Rattle.virt_types.specs.Drawn.{IsMadeOfDrawn};
 
 use crate::answers::{of_nobody, of_store};
 use def_keeper::Opening;
-use driver_cells::{Cells, Row, run_out, state_of};
 use driver_lists::{list_all, list_defined, tell_titles};
 use files_disk::Files;
-use held_tasks::serve_held;
-use outcome_spec::Outcome;
+use held_tasks::{Cells, Maker, Outcome, Row, run_out, serve_held, state_of};
 use pass_rows::{RestingPass, RowOf};
 use refusal_replies::no_memory;
 use request_asks::{Asked, Listing, read_request};
-use row_desk::Maker;
 use std::alloc::Global;
 use std::sync::Wait;
 use virt_types::{Random, Reply, Request, Value, Who};
@@ -36,6 +30,7 @@ fn list<R: Wait, G: Maker, F: Files + Drop, K: Opening>(
     requires ready { IsReadyRow row }
     ensures listed { HasListed listing row result.0 result.1 }
     ensures gone { HasGone (known_row row) (known_row result.0) }
+    ensures parts { KeepsParts row result.0 }
     ensures own { IsOf cells.now.list cells.now.store cells.now.domains.items result.0 }
     ensures ready { IsReadyRow result.0 }
 {
@@ -59,6 +54,7 @@ fn serve_asked<R: Wait, G: Maker, F: Files + Drop, K: Opening>(
     requires ready { IsReadyRow row }
     ensures came { CameTo F.told G.faults G.E.ends G.E.faults G.E.unheard who asked row result.0 result.1 }
     ensures gone { HasGone (known_row row) (known_row result.0) }
+    ensures parts { KeepsParts row result.0 }
     ensures own { IsOf cells.now.list cells.now.store cells.now.domains.items result.0 }
     ensures ready { IsReadyRow result.0 }
 {
@@ -90,6 +86,7 @@ pub(crate) fn serve<R: Wait, D: Random, G: Maker, F: Files + Drop, K: Opening>(
     ensures outcome { HasOutcome (known_row row) (known_row result.0) request.now result.1 }
     ensures now { ReadsNow (known_row result.0) request.now result.1 }
     ensures gone { HasGone (known_row row) (known_row result.0) }
+    ensures parts { KeepsParts row result.0 }
     ensures own { IsOf cells.now.list cells.now.store cells.now.domains.items result.0 }
     ensures ready { IsReadyRow result.0 }
 {

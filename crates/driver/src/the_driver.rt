@@ -1,29 +1,29 @@
 // The driver: its cells, and the calls that activities make with their rows.
-ghost use Rattle.std.specs.Prelude.{◌≡◌, IfErr, IfOk};
+ghost use Rattle.std.specs.Prelude.{◌≡◌, ◌≤◌, ◌<◌, IfErr, IfOk, length};
+ghost use Rattle.std.specs.List.{All};
 ghost use Rattle.def_keeper.specs.Opened.{IsSureAt};
-ghost use Rattle.driver_cells.specs.Known.{known_row};
-ghost use Rattle.driver_cells.specs.Ready.{IsReadyRow};
-ghost use Rattle.driver_open.specs.Cells.{HasCells};
-ghost use Rattle.driver_open.specs.Unopened.{IsUnopened};
-ghost use Rattle.outcome_spec.specs.Now.{ReadsNow};
-ghost use Rattle.outcome_spec.specs.Outcomes.{HasOutcome};
-ghost use Rattle.outcome_spec.specs.Rows.{HasGone};
+ghost use Rattle.def_keeper.specs.Safe.{KeepsAll};
+ghost use Rattle.driver_close.specs.Closed.{HasClosed, IsWhole};
+ghost use Rattle.held_tasks.specs.OfRows.{IsReadyRow, KeepsParts, known_row};
+ghost use Rattle.driver_close.specs.OfOpening.{HasCells, IsUnopened};
+ghost use Rattle.held_tasks.specs.OfOutcomes.{HasGone, HasOutcome, ReadsNow};
+ghost use Rattle.pass_rows.specs.Rows.{HasRowParts, KeepsPasses};
 ghost use Rattle.virt_types.specs.Drawn.{IsMadeOfDrawn};
 ghost use Rattle.driver.specs.Called.{HasCalled};
-ghost use Rattle.driver.specs.Cells.{IsRowOf};
+ghost use Rattle.driver.specs.Cells.{BecomesMany, IsIdleRow, IsRowOf};
 
 use crate::serving::serve;
 use def_keeper::Opening;
-use driver_cells::{Cells, Row};
-use driver_open::{HistoryRoom, Opened, open_cells};
-use driver_store::DriverFault;
+use driver_close::{
+    Books, DriverFault, HistoryRoom, Opened, RowList, close_cells, more, open_cells,
+};
 use files_disk::Files;
-use outcome_spec::Outcome;
-use row_desk::Maker;
+use held_tasks::{Cells, Maker, MakerOf, Outcome, Row};
+use monitor_link::Guests;
 use std::alloc::Global;
 use std::marker::Model;
 use std::sync::Wait;
-use virt_types::{ListOf, OrNoMemory, Random, Request, RequestList, Status, Who};
+use virt_types::{ListOf, NoMemory, OrNoMemory, Random, Request, RequestList, Status, Who};
 
 /// The driver of a daemon: the list of domains, the store of definitions, and the domains. Many activities call it at once,
 /// each with a row of its own. Contracts see which cells it has.
@@ -120,9 +120,59 @@ impl<F: Files + Drop, K: Opening, G: Maker> Driver<F, K, G> {
         ensures outcome { HasOutcome (known_row row) (known_row result.0) request.now result.1 }
         ensures now { ReadsNow (known_row result.0) request.now result.1 }
         ensures gone { HasGone (known_row row) (known_row result.0) }
+        ensures parts { KeepsParts row result.0 }
         ensures own { IsRowOf self.now result.0 }
         ensures ready { IsReadyRow result.0 }
     {
         serve(rt, self.alloc, &self.cells, row, who, request, random)
+    }
+}
+
+impl<F: Files + Drop, K: Opening, G: Guests + Drop> Driver<F, K, MakerOf<G>> {
+    /// Makes so many rows of this one: itself, and new ones, whose passes are cut off its own and have seen as much. Each has a
+    /// maker of guests of its own. Where there is no memory, or no maker for a new row, it comes back with the same passes.
+    pub fn more(
+        &self,
+        row: Row<F, K, G::M, G::E, G::Z, MakerOf<G>>,
+        rows: u32,
+    ) -> Result<
+        RowList<F, K, G::M, G::E, G::Z, MakerOf<G>>,
+        (Row<F, K, G::M, G::E, G::Z, MakerOf<G>>, NoMemory),
+    >
+        requires some { 1 ≤ rows }
+        requires own { IsRowOf self.now row }
+        requires parts { HasRowParts rows row }
+        requires ready { IsReadyRow row }
+        ensures ok { IfOk result (λ all. BecomesMany F.told (λ maker. G.faults maker.guests) rows row all.list) }
+        ensures own { IfOk result (λ all. All (IsRowOf self.now) all.list) }
+        ensures ready { IfOk result (λ all. All IsReadyRow all.list) }
+        ensures idle { IfOk result (λ all. IsIdleRow F.told row → All (IsIdleRow F.told) all.list) }
+        ensures passes { IfErr result (λ e. KeepsPasses row e.0) }
+        ensures failed { IfErr result (λ e. G.faults row.guests.guests ≤ G.faults e.0.guests.guests) }
+    {
+        more(self.alloc, &self.cells, row, rows)
+    }
+}
+
+impl<F: Files + Drop, K: Opening, G: Maker + Drop> Driver<F, K, G> {
+    /// Closes the driver with all of its rows, each of which is idle. It gives back the files, and what happened in each cell:
+    /// what every pass has seen there begins it, and each mark in it is of one of these passes, or of nobody. It takes no
+    /// memory.
+    pub fn close(self, rows: RowList<F, K, G::M, G::E, G::Z, G>) -> (F, Books)
+        requires some { 0 < length rows.list }
+        requires own { All (IsRowOf self) rows.list }
+        requires idle { All (IsIdleRow F.told) rows.list }
+        requires whole { IsWhole rows.list }
+        ensures closed { HasClosed F.told rows.list result.0 result.1.list result.1.store result.1.cells.items }
+        ensures crash { K.sound → KeepsAll (F.told result.0) result.1.store }
+    {
+        let Driver {
+            alloc: _,
+            cells,
+            starts: _,
+            statuses: _,
+            room,
+        } = self;
+        close_cells(cells, rows, room)
     }
 }

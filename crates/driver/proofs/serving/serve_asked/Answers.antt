@@ -1,6 +1,6 @@
 use Rattle.std.proofs.Common.{sym, subst}
 use Rattle.driver.specs.Called.{CameTo}
-use Rattle.driver_cells.proofs.Going.{gone_itself}
+use Rattle.held_tasks.proofs.OfRows.{gone_itself}
 use Rattle.request_asks.specs.declared.asked.Asked.{Asked}
 use Rattle.driver.proofs.serving.serve_asked.Goals as goal
 
