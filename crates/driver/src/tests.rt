@@ -14,9 +14,7 @@ use std::alloc::Global;
 use std::marker::Brand;
 use std::sync::Wait;
 use std::test::Fail;
-use virt_types::{
-    DomainRequest, DomainTarget, NoMemory, Random, Reply, Request, Text, Uuid, Who,
-};
+use virt_types::{DomainRequest, DomainTarget, NoMemory, Random, Reply, Request, Text, Uuid, Who};
 
 type Host<H> = Driver<MemFiles, Brand, MakerOf<SimGuests<H>>>;
 
