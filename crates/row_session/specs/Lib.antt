@@ -1,0 +1,4 @@
+pub mod Reading
+pub mod Replying
+pub mod Telling
+pub mod Steps
