@@ -1,0 +1,3 @@
+pub mod Outcomes
+pub mod Apart
+pub mod Laws
