@@ -87,5 +87,5 @@ refusal_short why k = error_short _ _ _ (message_hundred why.code) k
 
 -- a reply of the right shape can be written
 pub can_reply : (h : Header) (payload : List ℕ) (asked : Request) (said : Reply) → IsCall h payload asked → IsSayable (result_shape asked) said → CanReply h said
-can_reply h payload asked (reply.Ok v) is fits = (has_result h payload asked v is fits.0, fits.1)
+can_reply h payload asked (reply.Ok v) is fits = has_result h payload asked v is fits
 can_reply h payload asked (reply.No why) is fits = fits

@@ -10,7 +10,7 @@ use remote_args::{write_error, write_reply};
 use std::alloc::Global;
 use virt_types::{Bytes, NoMemory, OrNoMemory, Refusal, Reply, Value};
 
-/// The reply with this value: far from the longest packet.
+/// The reply with this value. For one that no packet holds there is no room, as if memory ran out.
 fn write_value(alloc: Global, call: &Header, value: &Value) -> Result<Bytes, NoMemory>
     requires { CanReply call.now (reply.Ok value.now) }
     ensures bytes { IfOk result (λ bytes. bytes ≡ spelling (reply_packet call.now (reply.Ok value.now))) }
@@ -18,8 +18,9 @@ fn write_value(alloc: Global, call: &Header, value: &Value) -> Result<Bytes, NoM
 {
     match write_reply(alloc, call, value) {
         Ok(bytes) => Ok(bytes),
-        Err(OrNoMemory::NoMemory) => Err(NoMemory),
-        Err(OrNoMemory::Fault(WriteFault::TooBig { .. })) => unreachable!(),
+        Err(OrNoMemory::NoMemory) | Err(OrNoMemory::Fault(WriteFault::TooBig { .. })) => {
+            Err(NoMemory)
+        }
     }
 }
 

@@ -31,8 +31,7 @@ pub trait Service {
     fn serves(&self, procedure: Procedure) -> bool
         ensures { result ≡ is_served procedure };
 
-    /// Serves a request. The reply has the shape of what the request's procedure replies, and a packet is long enough for
-    /// it. It may wait.
+    /// Serves a request. The reply has the shape of what the request's procedure replies. It may wait.
     fn call<H: Wait, R: Random>(
         &self,
         rt: &H,
