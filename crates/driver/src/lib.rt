@@ -4,8 +4,6 @@
 
 mod answers;
 mod serving;
-#[cfg(test)]
-mod tests;
 mod the_driver;
 
 pub use the_driver::Driver;
