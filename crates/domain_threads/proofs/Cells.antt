@@ -1,0 +1,49 @@
+-- A domain's cell may go to another thread, where the link of its guest may.
+use denote.Builtin.{u64}
+use denote.Param.Send.{IsSend, plain_send, recorded_send, struct_send, view_send}
+use denote.RattleType.{RattleType}
+use denote.Struct.Declared as struct
+use Rattle.domain_cell.proofs.link.Here.TheSendSync as here
+use Rattle.domain_cell.specs.contracts.cell.DomainCell
+use Rattle.domain_cell.specs.contracts.cell.DomainCell.TheInside as cell
+use Rattle.domain_cell.specs.contracts.link.Here
+use Rattle.domain_cell.specs.contracts.turns.DomainTurns
+use Rattle.domain_cell.specs.contracts.turns.DomainTurns.TheInside as turns
+use Rattle.domain_listeners.proofs.listeners.Listeners.TheSendSync as listeners
+use Rattle.domain_queue.proofs.queue.Queue.TheSendSync as queue
+use Rattle.domain_record.specs.contracts.record.Record
+use Rattle.domain_record.specs.contracts.record.Record.TheInside as kept
+use Rattle.domain_threads.proofs.Ledgers.{ledger_send}
+use Rattle.domain_turns.proofs.ears.LentEars.TheSendSync as lent
+use Rattle.domain_turns.proofs.held.HeldEvent.TheSendSync as held
+use Rattle.domain_turns.proofs.held.OneRoom.TheSendSync as room
+use Rattle.domain_turns.proofs.refusing.Refusable.TheSendSync as refusable
+use Rattle.domain_turns.specs.contracts.ears.LentEars
+use Rattle.domain_turns.specs.contracts.held.HeldEvent
+use Rattle.domain_turns.specs.contracts.held.OneRoom
+use Rattle.domain_turns.specs.contracts.refusing.Refusable
+use Rattle.std.proofs.Crossing.{Vec-send}
+use Rattle.std.proofs.option.Option.TheSendSync as option
+
+record_send : IsSend Record.the_row
+record_send = view_send kept.the_row _ _ _ _ (recorded_send (kept.the_field).row _ _ (kept.the_type).to_one (struct_send (struct.shape kept.the_type)
+    (ledger_send, (listeners.the_send, tt))))
+
+turns_send : IsSend DomainTurns.the_row
+turns_send = view_send turns.the_row _ _ _ _ (recorded_send (turns.the_field).row _ _ (turns.the_type).to_one (struct_send (struct.shape turns.the_type) (
+  record_send,
+  (
+    queue.the_send,
+    (
+      Vec-send HeldEvent.the_row held.the_send,
+      (
+        Vec-send OneRoom.the_row room.the_send,
+        (option.the_field_send LentEars.the_row lent.the_send, (option.the_field_send Refusable.the_row refusable.the_send, tt)),
+      ),
+    ),
+  ),
+)))
+
+pub cell_send : (M E Z : RattleType) → IsSend M → IsSend E → IsSend Z → IsSend (DomainCell.the_row M E Z)
+cell_send M E Z m e z = let T = cell.the_type M E Z in view_send (cell.the_row M E Z) _ _ _ _ (recorded_send (cell.the_field M E Z).row _ _ T.to_one (struct_send (struct.shape T)
+    (turns_send, (option.the_field_send (Here.the_row M E Z) (here.the_send M E Z m e z), (option.the_field_send u64 (plain_send _ _ _ _ _), tt)))))

@@ -1,0 +1,5 @@
+pub mod Cells
+pub mod Chapters
+pub mod Ledgers
+pub mod Objects
+pub mod States

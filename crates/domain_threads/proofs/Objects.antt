@@ -1,0 +1,33 @@
+-- A pass of a domain may go to another thread, and threads may share the domain, where the links of its guests may go to
+-- another thread.
+use denote.Builtin.{u64}
+use denote.Param.Send.{IsSend, IsSync, recorded_sync, struct_sync, view_sync}
+use denote.RattleType.{RattleType}
+use denote.Struct.Declared as struct
+use Rattle.domain_cell.specs.contracts.cell.DomainCell
+use Rattle.domain_cell.specs.contracts.kept.DomainCellKept.TheImpl.{ghosts, no_dict}
+use Rattle.domain_cell.specs.contracts.kept.Share
+use Rattle.domain_obj.specs.contracts.object.DomainObj
+use Rattle.domain_obj.specs.contracts.object.DomainObj.TheInside as object
+use Rattle.domain_spec.specs.contracts.mark.Mark
+use Rattle.domain_spec.specs.contracts.standing.Base
+use Rattle.domain_threads.proofs.Cells.{cell_send}
+use Rattle.monitor_link.specs.declared.link.Ears as ears
+use Rattle.monitor_link.specs.declared.link.Killer as killer
+use Rattle.monitor_link.specs.declared.link.Monitor as monitor
+use Rattle.turn_cell.proofs.cell.TurnCell.TheSendSync as cell
+use Rattle.turn_cell.proofs.turn.Pass.TheSendSync as pass
+use Rattle.turn_cell.specs.contracts.turn.Pass
+use Rattle.turn_cell.specs.declared.kept.Kept as kept
+
+module _ (M E Z : RattleType) (f : monitor.Ghosts M.Denot) (g : ears.Ghosts E.Denot) (h : killer.Ghosts Z.Denot) (m : IsSend M) (e : IsSend E) (z : IsSend Z) where
+  abbrev keeps : kept.Ghosts (DomainCell.the_row M E Z).Denot Base.the_row.Denot (Mark.the_row u64).Denot Share.the_row.Denot
+  keeps = ghosts M E Z f no_dict g no_dict h no_dict no_dict no_dict no_dict
+
+  pub pass_send : IsSend (Pass.the_row (DomainCell.the_row M E Z) Base.the_row (Mark.the_row u64) Share.the_row keeps)
+  pass_send = pass.the_send (DomainCell.the_row M E Z) Base.the_row (Mark.the_row u64) Share.the_row keeps (cell_send M E Z m e z)
+
+  pub object_sync : IsSync (DomainObj.the_row M E Z f g h)
+  object_sync = let T = object.the_type M E Z f g h in
+      view_sync (object.the_row M E Z f g h) _ _ _ _ (recorded_sync (object.the_field M E Z f g h).row _ _ T.to_one (struct_sync (struct.shape T)
+      (cell.the_sync (DomainCell.the_row M E Z) Base.the_row (Mark.the_row u64) Share.the_row keeps (cell_send M E Z m e z), tt)))
