@@ -1,0 +1,3 @@
+pub mod Serving
+pub mod Saying
+pub mod Calling

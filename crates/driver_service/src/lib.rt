@@ -1,0 +1,10 @@
+//! The driver as what serves the requests of sessions.
+#![tactic(auto)]
+
+mod saying;
+mod service;
+mod serving;
+
+pub use saying::is_sayable;
+pub use service::DriverService;
+pub use serving::is_served;

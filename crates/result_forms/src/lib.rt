@@ -1,0 +1,8 @@
+//! Whether a value has the form of what a procedure replies.
+#![tactic(auto)]
+
+mod shape;
+#[cfg(test)]
+mod tests;
+
+pub use shape::has_shape;
