@@ -4,8 +4,6 @@
 mod books;
 mod closing;
 mod laws;
-#[cfg(test)]
-mod tests;
 
 pub use books::Books;
 pub use closing::close_cells;
