@@ -1,0 +1,8 @@
+//! A driver with the row of one activity that calls it, for stories and benches.
+#![tactic(auto)]
+
+mod played;
+mod rising;
+
+pub use played::PlayedDriver;
+pub use rising::Rising;
