@@ -1,0 +1,5 @@
+pub mod Made
+pub mod Taken
+pub mod Keeping
+pub mod Enough
+pub mod Rows

@@ -1,0 +1,7 @@
+pub mod Words
+pub mod Handed
+pub mod Outside
+pub mod Status
+pub mod Serving
+pub mod Demo
+pub mod Top
