@@ -1,5 +1,6 @@
 -- Words of outcome_spec that are passed on: crates above name them here.
 pub use Rattle.outcome_spec.specs.Asked.{Asks, IsTask}
+pub use Rattle.outcome_spec.specs.Done.{IsCallOf, IsDone, call_in}
 pub use Rattle.outcome_spec.specs.Histories.{IsRead, front_of}
 pub use Rattle.outcome_spec.specs.Listed.{IsNotListed, list_refusal}
 pub use Rattle.outcome_spec.specs.Lists.{AreListed, AreRows, IsList, Listed, domain_at, idle_names, row_of, rows_of}

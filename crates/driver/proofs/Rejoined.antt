@@ -1,6 +1,7 @@
 -- What became of a request, of the row that was given.
 use Rattle.std.proofs.Common.{◌≡◌, ℕ, List, Option, sym, ◌∙◌, subst}
 use Rattle.domain_spec.specs.Types.{Who}
+use Rattle.held_tasks.specs.OfStatuses.{StatusKept}
 use Rattle.held_tasks.specs.OfRows.{DriverRow, known_row}
 use Rattle.files_disk.specs.Telling.{Told}
 use Rattle.object_list.specs.Turns.{ListPassed}
@@ -20,29 +21,29 @@ module _ {G : Type 0} where
       → had ≡ record { list = list; store = store; domains = domains; guests = guests } → had ≡ record before { store = had.store }
   rejoined before had list was store domains guests b h = h ∙ sym (λ i. record (b i) { store = (h i).store })
 
-  module _ {F E : Type 0} (told : F → Told) (maker : G → ℕ) (ends faults : E → ℕ) (unheard : E → Option (List GuestEvent)) (store_faults : F → ℕ) where
-    pub called : (who : Who) (r : Request) (words : List ℕ) (a : Asked) (before had after : DriverRow G) (o : Outcome) (p q : StorePass) → had ≡ record before { store = had.store } → before.store ≡ p → had.store ≡ q
-        → IsFound p q words r a → Leaves told store_faults (restored_from r) a p q → CameTo told maker ends faults unheard who a had after o → HasCalled told maker ends faults unheard store_faults who r words before after o
-    called who r words a before had after o p q row was is found leaves came = record {
+  module _ {F E : Type 0} (told : F → Told) (stores : F → ℕ) (maker : G → ℕ) (ends faults : E → ℕ) (unheard : E → Option (List GuestEvent)) where
+    pub called : (who : Who) (r : Request) (words : List ℕ) (a : Asked) (before had after : DriverRow G) (o : Outcome) (result : StatusKept) (p q : StorePass) → had ≡ record before { store = had.store } → before.store ≡ p → had.store ≡ q
+        → IsFound p q words r a → Leaves told stores (restored_from r) a p q → CameTo told stores maker ends faults unheard who a had after o result → HasCalled told stores maker ends faults unheard who r words before after o result
+    called who r words a before had after o result p q row was is found leaves came = record {
       asked = a;
       had = had;
       row = row;
       found = subst (λ (x : StorePass × StorePass). IsFound x.0 x.1 words r a) (λ i. (sym was i, sym is i)) found;
-      leaves = subst (λ (x : StorePass × StorePass). Leaves told store_faults (restored_from r) a x.0 x.1) (λ i. (sym was i, sym is i)) leaves;
+      leaves = subst (λ (x : StorePass × StorePass). Leaves told stores (restored_from r) a x.0 x.1) (λ i. (sym was i, sym is i)) leaves;
       came = came;
     }
 
     -- the outcome rests on what it names
-    pub outcome_of : (who : Who) (r : Request) (words : List ℕ) (a : Asked) (before had after : DriverRow G) (o : Outcome) (p q : StorePass) → had ≡ record before { store = had.store } → before.store ≡ p → had.store ≡ q
-        → IsFound p q words r a → Leaves told store_faults (restored_from r) a p q → CameTo told maker ends faults unheard who a had after o → HasGone (known_row had) (known_row after) → HasOutcome (known_row before) (known_row after) r o
-    outcome_of who r words a before had after o p q row was is found leaves came gone =
-        answers told maker ends faults unheard store_faults who r words a before had after o row
+    pub outcome_of : (who : Who) (r : Request) (words : List ℕ) (a : Asked) (before had after : DriverRow G) (o : Outcome) (result : StatusKept) (p q : StorePass) → had ≡ record before { store = had.store } → before.store ≡ p → had.store ≡ q
+        → IsFound p q words r a → Leaves told stores (restored_from r) a p q → CameTo told stores maker ends faults unheard who a had after o result → HasGone (known_row had) (known_row after) → HasOutcome (known_row before) (known_row after) r o
+    outcome_of who r words a before had after o result p q row was is found leaves came gone =
+        answers told stores maker ends faults unheard who r words a before had after o result row
         (subst (λ (x : StorePass × StorePass). IsFound x.0 x.1 words r a) (λ i. (sym was i, sym is i)) found)
-        (subst (λ (x : StorePass × StorePass). Leaves told store_faults (restored_from r) a x.0 x.1) (λ i. (sym was i, sym is i)) leaves) came gone
+        (subst (λ (x : StorePass × StorePass). Leaves told stores (restored_from r) a x.0 x.1) (λ i. (sym was i, sym is i)) leaves) came gone
 
     -- and a read is of what the row has seen
-    pub now_of : (who : Who) (r : Request) (words : List ℕ) (a : Asked) (before had after : DriverRow G) (o : Outcome) (p q : StorePass) → had ≡ record before { store = had.store } → before.store ≡ p → had.store ≡ q
-        → IsFound p q words r a → CameTo told maker ends faults unheard who a had after o → ReadsNow (known_row after) r o
-    now_of who r words a before had after o p q row was is found came =
-        reads told maker ends faults unheard store_faults who r words a before had after o row
+    pub now_of : (who : Who) (r : Request) (words : List ℕ) (a : Asked) (before had after : DriverRow G) (o : Outcome) (result : StatusKept) (p q : StorePass) → had ≡ record before { store = had.store } → before.store ≡ p → had.store ≡ q
+        → IsFound p q words r a → CameTo told stores maker ends faults unheard who a had after o result → ReadsNow (known_row after) r o
+    now_of who r words a before had after o result p q row was is found came =
+        reads told stores maker ends faults unheard who r words a before had after o result row
         (subst (λ (x : StorePass × StorePass). IsFound x.0 x.1 words r a) (λ i. (sym was i, sym is i)) found) came

@@ -5,6 +5,8 @@ use Rattle.domain_spec.specs.Types.{Reply, Who}
 use Rattle.held_tasks.specs.OfRows.{DriverRow, known_row, no_front}
 use Rattle.files_disk.specs.Telling.{Told}
 use Rattle.held_tasks.specs.Course.{HasServedHeld}
+use Rattle.held_tasks.specs.OfStatuses.{StatusKept}
+use Rattle.held_tasks.specs.OfStatuses.status_kept_variants as kept
 use Rattle.held_tasks.specs.OfOutcomes.{HasOutcome, Outcome, ReadsNow}
 use Rattle.refusal_replies.specs.Replies.{no_memory_reply}
 use Rattle.request_asks.specs.Found.{IsFound, Leaves, restored_from}
@@ -60,23 +62,23 @@ module _ {G : Type 0} where
     pub tells : TellsSpent o.reply
     pub name : o.cell ≡ cell.Nowhere
 
-  module _ {F E : Type 0} (told : F → Told) (maker : G → ℕ) (ends faults : E → ℕ) (unheard : E → Option (List GuestEvent)) where
-    -- what was done of what was asked
-    abbrev pub CameTo : Who → Asked → DriverRow G → DriverRow G → Outcome → Type 0
-    CameTo who (asked.Task hold t) before after o = HasServedHeld told maker ends faults unheard who (call_of hold) t before after o
-    CameTo who (asked.List listing) before after o = HasListed listing before after o
-    CameTo who asked.Connection before after o = IsAnswered (of_nobody (reply.Ok value.Nothing)) before after o
-    CameTo who (asked.Refused why) before after o = IsAnswered (of_nobody (reply.No why)) before after o
-    CameTo who (asked.NotRestored why front) before after o = IsAnswered (of_store front (reply.No why)) before after o
-    CameTo who asked.NoMemory before after o = IsAnswered (of_nobody no_memory_reply) before after o
-    CameTo who asked.Spent before after o = HasRunOut before after o
+  module _ {F E : Type 0} (told : F → Told) (stores : F → ℕ) (maker : G → ℕ) (ends faults : E → ℕ) (unheard : E → Option (List GuestEvent)) where
+    -- what was done of what was asked, and what came of keeping the status of the domain's boot
+    abbrev pub CameTo : Who → Asked → DriverRow G → DriverRow G → Outcome → StatusKept → Type 0
+    CameTo who (asked.Task hold t) before after o result = HasServedHeld told stores maker ends faults unheard who (call_of hold) t before after o result
+    CameTo who (asked.List listing) before after o result = HasListed listing before after o × (result ≡ kept.Unchanged)
+    CameTo who asked.Connection before after o result = IsAnswered (of_nobody (reply.Ok value.Nothing)) before after o × (result ≡ kept.Unchanged)
+    CameTo who (asked.Refused why) before after o result = IsAnswered (of_nobody (reply.No why)) before after o × (result ≡ kept.Unchanged)
+    CameTo who (asked.NotRestored why front) before after o result = IsAnswered (of_store front (reply.No why)) before after o × (result ≡ kept.Unchanged)
+    CameTo who asked.NoMemory before after o result = IsAnswered (of_nobody no_memory_reply) before after o × (result ≡ kept.Unchanged)
+    CameTo who asked.Spent before after o result = HasRunOut before after o × (result ≡ kept.Unchanged)
 
     -- with these words drawn for what a text lacks, it was found out what the request asks, for which at most the row's pass of
     -- the store took a turn; and then that was done
-    pub record HasCalled (store_faults : F → ℕ) (who : Who) (r : Request) (words : List ℕ) (before after : DriverRow G) (o : Outcome) : Type 0 where
+    pub record HasCalled (who : Who) (r : Request) (words : List ℕ) (before after : DriverRow G) (o : Outcome) (result : StatusKept) : Type 0 where
       pub asked : Asked
       pub had : DriverRow G
       pub row : had ≡ record before { store = had.store }
       pub found : IsFound before.store had.store words r asked
-      pub leaves : Leaves told store_faults (restored_from r) asked before.store had.store
-      pub came : CameTo who asked had after o
+      pub leaves : Leaves told stores (restored_from r) asked before.store had.store
+      pub came : CameTo who asked had after o result

@@ -10,7 +10,7 @@ use crate::answers::{of_nobody, of_store};
 use def_keeper::Opening;
 use driver_lists::{list_all, list_defined, tell_titles};
 use files_disk::Files;
-use held_tasks::{Cells, Maker, Outcome, Row, run_out, serve_held, state_of};
+use held_tasks::{Cells, Maker, Outcome, Row, StatusKept, run_out, serve_held, state_of};
 use pass_rows::{RestingPass, RowOf};
 use refusal_replies::no_memory;
 use request_asks::{Asked, Listing, read_request};
@@ -49,23 +49,27 @@ fn serve_asked<R: Wait, G: Maker, F: Files + Drop, K: Opening>(
     row: Row<F, K, G::M, G::E, G::Z, G>,
     who: Who,
     asked: Asked,
-) -> (Row<F, K, G::M, G::E, G::Z, G>, Outcome)
+) -> (Row<F, K, G::M, G::E, G::Z, G>, Outcome, StatusKept)
     requires own { IsOf cells.now.list cells.now.store cells.now.domains.items row }
     requires ready { IsReadyRow row }
-    ensures came { CameTo F.told G.faults G.E.ends G.E.faults G.E.unheard who asked row result.0 result.1 }
+    ensures came { CameTo F.told F.faults G.faults G.E.ends G.E.faults G.E.unheard who asked row result.0 result.1 result.2 }
     ensures gone { HasGone (known_row row) (known_row result.0) }
     ensures parts { KeepsParts row result.0 }
     ensures own { IsOf cells.now.list cells.now.store cells.now.domains.items result.0 }
     ensures ready { IsReadyRow result.0 }
 {
+    let unchanged = StatusKept::Unchanged;
     match asked {
         Asked::Task { hold, task } => serve_held(rt, alloc, cells, row, who, &hold, &task),
-        Asked::List(listing) => list(rt, alloc, cells, row, listing),
-        Asked::Connection => (row, of_nobody(Reply::Ok(Value::Nothing))),
-        Asked::Refused(why) => (row, of_nobody(Reply::No(why))),
-        Asked::NotRestored { why, front } => (row, of_store(why, front)),
-        Asked::NoMemory => (row, of_nobody(no_memory(alloc))),
-        Asked::Spent => (row, run_out(alloc)),
+        Asked::List(listing) => {
+            let (row, outcome) = list(rt, alloc, cells, row, listing);
+            (row, outcome, unchanged)
+        }
+        Asked::Connection => (row, of_nobody(Reply::Ok(Value::Nothing)), unchanged),
+        Asked::Refused(why) => (row, of_nobody(Reply::No(why)), unchanged),
+        Asked::NotRestored { why, front } => (row, of_store(why, front), unchanged),
+        Asked::NoMemory => (row, of_nobody(no_memory(alloc)), unchanged),
+        Asked::Spent => (row, run_out(alloc), unchanged),
     }
 }
 
@@ -79,10 +83,10 @@ pub(crate) fn serve<R: Wait, D: Random, G: Maker, F: Files + Drop, K: Opening>(
     who: Who,
     request: &Request,
     random: &mut D,
-) -> (Row<F, K, G::M, G::E, G::Z, G>, Outcome)
+) -> (Row<F, K, G::M, G::E, G::Z, G>, Outcome, StatusKept)
     requires own { IsOf cells.now.list cells.now.store cells.now.domains.items row }
     requires ready { IsReadyRow row }
-    ensures called { IsMadeOfDrawn (λ words. HasCalled F.told G.faults G.E.ends G.E.faults G.E.unheard F.faults who request.now words row result.0 result.1) (D.drawn random.old) (D.drawn random.new) }
+    ensures called { IsMadeOfDrawn (λ words. HasCalled F.told F.faults G.faults G.E.ends G.E.faults G.E.unheard who request.now words row result.0 result.1 result.2) (D.drawn random.old) (D.drawn random.new) }
     ensures outcome { HasOutcome (known_row row) (known_row result.0) request.now result.1 }
     ensures now { ReadsNow (known_row result.0) request.now result.1 }
     ensures gone { HasGone (known_row row) (known_row result.0) }

@@ -96,7 +96,8 @@ fn serve<H: Wait + Copy + Send + Sync>(
         lane: 0,
         count,
     };
-    host.call(rt, row, who, request, &mut Rising { next: 1 })
+    let (row, outcome, _kept) = host.call(rt, row, who, request, &mut Rising { next: 1 });
+    (row, outcome)
 }
 
 // The driver is closed with its one row.

@@ -18,7 +18,7 @@ use driver_close::{
     Books, DriverFault, HistoryRoom, Opened, RowList, close_cells, more, open_cells,
 };
 use files_disk::Files;
-use held_tasks::{Cells, Maker, MakerOf, Outcome, Row};
+use held_tasks::{Cells, Maker, MakerOf, Outcome, Row, StatusKept};
 use monitor_link::Guests;
 use std::alloc::Global;
 use std::marker::Model;
@@ -105,6 +105,9 @@ impl<F: Files + Drop, K: Opening, G: Maker> Driver<F, K, G> {
     /// reply rests on. Its texts are filled in with words from `random`. It may wait for the turns of others, for a guest and
     /// for the store; while it asks one of these, it has no turn of a domain.
     ///
+    /// Where a call changed the state, the operation or the phase of a domain whose boot is live, or began or ended a boot, its
+    /// status file is written or removed after that. What came of it is for the log: the outcome does not depend on it.
+    ///
     /// Networks, pools and registrations are not served: they are refused (206).
     pub fn call<R: Wait, D: Random>(
         &self,
@@ -113,10 +116,10 @@ impl<F: Files + Drop, K: Opening, G: Maker> Driver<F, K, G> {
         who: Who,
         request: &Request,
         random: &mut D,
-    ) -> (Row<F, K, G::M, G::E, G::Z, G>, Outcome)
+    ) -> (Row<F, K, G::M, G::E, G::Z, G>, Outcome, StatusKept)
         requires own { IsRowOf self.now row }
         requires ready { IsReadyRow row }
-        ensures called { IsMadeOfDrawn (λ words. HasCalled F.told G.faults G.E.ends G.E.faults G.E.unheard F.faults who request.now words row result.0 result.1) (D.drawn random.old) (D.drawn random.new) }
+        ensures called { IsMadeOfDrawn (λ words. HasCalled F.told F.faults G.faults G.E.ends G.E.faults G.E.unheard who request.now words row result.0 result.1 result.2) (D.drawn random.old) (D.drawn random.new) }
         ensures outcome { HasOutcome (known_row row) (known_row result.0) request.now result.1 }
         ensures now { ReadsNow (known_row result.0) request.now result.1 }
         ensures gone { HasGone (known_row row) (known_row result.0) }

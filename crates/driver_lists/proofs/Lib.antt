@@ -1,4 +1,3 @@
-pub mod Silent
 pub mod Listed
 pub mod Members
 pub mod Naming

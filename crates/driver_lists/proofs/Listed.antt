@@ -11,7 +11,7 @@ use Rattle.object_list.specs.declared.slot_name.SlotName.{SlotName}
 use Rattle.virt_types.specs.declared.caller.Front.{Front}
 use Rattle.virt_types.specs.declared.memory.NoMemory.{NoMemory}
 use Rattle.driver_lists.specs.Listing.{HasListed}
-use Rattle.driver_lists.proofs.Silent.{went_silent}
+use Rattle.driver_cells.proofs.Silent.{went_silent}
 
 abbrev pub ListTurned : Type 0
 ListTurned = Turned ListHistory Slots ListMark (List ℕ)

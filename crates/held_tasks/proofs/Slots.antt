@@ -2,6 +2,7 @@
 use Rattle.std.proofs.Common.{◌≡◌, ◌<◌, ◌++◌, ℕ, List, ◌∷◌, false, length, map, get_or, Option, sym, ap, ◌∙◌, subst, arith}
 use Rattle.std.specs.List.{All}
 use Rattle.std.proofs.lemmas.List.{length-map}
+use Rattle.boot_status.specs.declared.outcome.StatusKept.{StatusKept}
 use Rattle.atomic_table.specs.Seated.{TableId}
 use Rattle.driver_cells.specs.OfCells.{meaning, nothing_kept}
 use Rattle.driver_cells.specs.OfObjects.{DomainPass, Seen}
@@ -20,6 +21,8 @@ use Rattle.driver_cells.specs.Known.{DriverRow}
 use Rattle.held_tasks.specs.Course.{IsServedIn, RestsAt}
 use Rattle.held_tasks.specs.Holding.{HoldsSlot}
 use Rattle.held_tasks.specs.Running.{HasServedTask}
+use Rattle.held_tasks.specs.Statuses.{HasLooked, IsTold}
+use Rattle.held_tasks.specs.declared.status.StatusRead.{StatusRead}
 use Rattle.held_tasks.proofs.Lists.{one_of, value_in}
 
 -- the row of these parts
@@ -65,20 +68,28 @@ pub keeps_empty : (old new : DomainPass) → (new.spent ≡ false → new.share 
 keeps_empty old new keeps free fresh = keeps fresh ∙ free
 
 -- all of it
-module _ {F E G : Type 0} (told : F → Told) (maker : G → ℕ) (ends faults : E → ℕ) (unheard : E → Option (List GuestEvent)) where
-  pub served_in : (who : Who) (t : Task) (slot : ℕ) (row after : DriverRow G) (o : Outcome) (l l' : ListPassed) (s s' : StorePass) (domains domains' first rest : List DomainPass) (old new : DomainPass) (guests guests' : G)
-      (r : Reply) (place : Option Front) (seen : Seen) → row ≡ row_with l s domains guests → domains ≡ first ++ old ∷ rest → length first ≡ slot
-      → HasServedTask told ends faults unheard who t s s' (maker guests) (maker guests') old new r place seen → LetsGo slot seen.front seen.occupied l l' → domains' ≡ first ++ new ∷ rest → after ≡ row_with l' s' domains' guests'
-      → o.reply ≡ r → RestsAt slot place o → IsServedIn told maker ends faults unheard who t slot row after o
-  served_in who t slot row after o l l' s s' domains domains' first rest old new guests guests' r place seen is was at serves goes put made says rests =
-      let base : IsServedIn told maker ends faults unheard who t slot (row_with l s domains guests) (row_with l' s' domains' guests') o = record {
+module _ {F E G : Type 0} (told : F → Told) (stores : F → ℕ) (maker : G → ℕ) (ends faults : E → ℕ) (unheard : E → Option (List GuestEvent)) where
+  pub served_in : (who : Who) (t : Task) (slot : ℕ) (row after : DriverRow G) (o : Outcome) (result : StatusKept) (l l' : ListPassed) (s mid s' : StorePass) (domains domains' before rest : List DomainPass) (old first last new : DomainPass) (was is : StatusRead) (guests guests' : G)
+      (r : Reply) (place : Option Front) (seen : Seen) → row ≡ row_with l s domains guests → domains ≡ before ++ old ∷ rest → length before ≡ slot
+      → HasLooked t old first was → HasServedTask told ends faults unheard who t s mid (maker guests) (maker guests') first last r place seen → HasLooked t last new is → IsTold told stores was is mid s' result
+      → LetsGo slot seen.front seen.occupied l l' → domains' ≡ before ++ new ∷ rest → after ≡ row_with l' s' domains' guests' → o.reply ≡ r → RestsAt slot place o → IsServedIn told stores maker ends faults unheard who t slot row after o result
+  served_in who t slot row after o result l l' s mid s' domains domains' before rest old first last new was is guests guests' r place seen from there at looks serves again status goes put made says rests =
+      let base : IsServedIn told stores maker ends faults unheard who t slot (row_with l s domains guests) (row_with l' s' domains' guests') o result = record {
         old = old;
+        first = first;
+        last = last;
         new = new;
+        mid = mid;
+        was = was;
+        is = is;
         place = place;
         seen = seen;
-        domains = record { first = first; rest = rest; was = was; is = put; in_slot = at };
-        serves = subst (λ (x : Reply). HasServedTask told ends faults unheard who t s s' (maker guests) (maker guests') old new x place seen) (sym says) serves;
+        domains = record { first = before; rest = rest; was = there; is = put; in_slot = at };
+        looks = looks;
+        serves = subst (λ (x : Reply). HasServedTask told ends faults unheard who t s mid (maker guests) (maker guests') first last x place seen) (sym says) serves;
+        looks_again = again;
+        status = status;
         lets_go = goes;
         rests = rests;
       } in
-      subst (λ (x : DriverRow G × DriverRow G). IsServedIn told maker ends faults unheard who t slot x.0 x.1 o) (λ i. (sym is i, sym made i)) base
+      subst (λ (x : DriverRow G × DriverRow G). IsServedIn told stores maker ends faults unheard who t slot x.0 x.1 o result) (λ i. (sym from i, sym made i)) base

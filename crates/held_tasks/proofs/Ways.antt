@@ -2,6 +2,8 @@
 use Rattle.std.proofs.Common.{◌≡◌, ◌↔◌, ◌+◌, ◌<◌, ℕ, zero, suc, Bool, IsTrue, List, [], ◌∷◌, true, false, length, Option, Ok, Err, Result, inl, inr, refl, sym, ap, ◌∙◌, subst, arith}
 use Rattle.std.specs.Prelude.{replicate, slice_index}
 use Rattle.std.proofs.lemmas.List.{length-replicate, length-set}
+use Rattle.boot_status.specs.declared.outcome.StatusKept.{StatusKept}
+use Rattle.boot_status.specs.declared.outcome.StatusKept.TheVariants as came
 use Rattle.atomic_table.specs.Seated.{TableId}
 use Rattle.book_spec.specs.Slots.{no_holds}
 use Rattle.book_spec.specs.declared.list.ListCall.{ListCall}
@@ -90,10 +92,10 @@ still_idle held why at before after h idle = record { fresh = h.asked.went.spent
 
 -- ---- each way
 
-module _ {F E G : Type 0} (told : F → Told) (maker : G → ℕ) (ends faults : E → ℕ) (unheard : E → Option (List GuestEvent)) (who : Who) (held : ListCall) (t : Task) where
-  pub with_slot : (slot : ℕ) (at : Front) (before mid after : DriverRow G) (had : ListPassed) (o : Outcome) → HasHeld held (Ok slot) at before.list had → mid ≡ record before { list = had } → IsServedIn told maker ends faults unheard who t slot mid after o
-      → HasServedHeld told maker ends faults unheard who held t before after o
-  with_slot slot at before mid after had o holds is serves = inl (record {
+module _ {F E G : Type 0} (told : F → Told) (stores : F → ℕ) (maker : G → ℕ) (ends faults : E → ℕ) (unheard : E → Option (List GuestEvent)) (who : Who) (held : ListCall) (t : Task) where
+  pub with_slot : (slot : ℕ) (at : Front) (before mid after : DriverRow G) (had : ListPassed) (o : Outcome) (result : StatusKept) → HasHeld held (Ok slot) at before.list had → mid ≡ record before { list = had } → IsServedIn told stores maker ends faults unheard who t slot mid after o result
+      → HasServedHeld told stores maker ends faults unheard who held t before after o result
+  with_slot slot at before mid after had o result holds is serves = inl (record {
     slot = slot;
     at = at;
     had = mid;
@@ -103,21 +105,21 @@ module _ {F E G : Type 0} (told : F → Told) (maker : G → ℕ) (ends faults :
   })
 
   pub without_slot : (why : OrNoMemory ListFault) (before after : DriverRow G) (now : ListPassed) (o : Outcome) → HasHeld held (Err why) o.front before.list now → after ≡ record before { list = now } → TellsFault held why o.reply → o.cell ≡ cell.List
-      → HasServedHeld told maker ends faults unheard who held t before after o
+      → HasServedHeld told stores maker ends faults unheard who held t before after o came.Unchanged
   without_slot why before after now o holds is tells name = inr (inl (record {
     why = why;
     holds = subst (λ (p : ListPassed). HasHeld held (Err why) o.front before.list p) (sym (ap (λ (r : DriverRow G). r.list) is)) holds;
     rest = is ∙ λ i. record before { list = sym (ap (λ (r : DriverRow G). r.list) is) i };
     tells = tells;
     name = name;
-  }))
+  }), refl)
 
-  pub without_ticket : (before after : DriverRow G) (o : Outcome) → after ≡ record before { list = record before.list { spent = true } } → TellsSpent o.reply → o.cell ≡ cell.Nowhere → HasServedHeld told maker ends faults unheard who held t before after o
-  without_ticket before after o is tells name = inr (inr (record { spent = inr is; tells = tells; name = name }))
+  pub without_ticket : (before after : DriverRow G) (o : Outcome) → after ≡ record before { list = record before.list { spent = true } } → TellsSpent o.reply → o.cell ≡ cell.Nowhere → HasServedHeld told stores maker ends faults unheard who held t before after o came.Unchanged
+  without_ticket before after o is tells name = inr (inr (record { spent = inr is; tells = tells; name = name }), refl)
 
   pub without_idle : (before after : DriverRow G) (o : Outcome) → IsReadyRow before → (IsIdleRow list_meaning (store_meaning told) meaning before → ⊥) → after ≡ before → TellsSpent o.reply → o.cell ≡ cell.Nowhere
-      → HasServedHeld told maker ends faults unheard who held t before after o
-  without_idle before after o ready busy is tells name = inr (inr (record { spent = inl (has_spent told before ready busy, is); tells = tells; name = name }))
+      → HasServedHeld told stores maker ends faults unheard who held t before after o came.Unchanged
+  without_idle before after o ready busy is tells name = inr (inr (record { spent = inl (has_spent told before ready busy, is); tells = tells; name = name }), refl)
 
 -- ---- whether the row was idle
 
@@ -146,7 +148,7 @@ module _ {G : Type 0} (held : ListCall) (slot : ℕ) (at : Front) (answer : Resu
   may_hold told list store cells own ready idle =
       may_serve held slot at before had holds_slot (subst (IsIdle list_meaning) list_is idle.list) told list store cells row mid list_is mid_is own ready idle
 
-  pub served_so : {F E : Type 0} (told : F → Told) (maker : G → ℕ) (ends faults : E → ℕ) (unheard : E → Option (List GuestEvent)) (who : Who) (t : Task) (after : DriverRow G) (o : Outcome) → IsServedIn told maker ends faults unheard who t slot mid after o
-      → HasServedHeld told maker ends faults unheard who held t row after o
-  served_so told maker ends faults unheard who t after o serves =
-      with_slot told maker ends faults unheard who held t slot at row mid after had o (subst (λ (p : ListPassed). HasHeld held (Ok slot) at p had) (sym list_is) holds_slot) mid_is serves
+  pub served_so : {F E : Type 0} (told : F → Told) (stores : F → ℕ) (maker : G → ℕ) (ends faults : E → ℕ) (unheard : E → Option (List GuestEvent)) (who : Who) (t : Task) (after : DriverRow G) (o : Outcome) (result : StatusKept) → IsServedIn told stores maker ends faults unheard who t slot mid after o result
+      → HasServedHeld told stores maker ends faults unheard who held t row after o result
+  served_so told stores maker ends faults unheard who t after o result serves =
+      with_slot told stores maker ends faults unheard who held t slot at row mid after had o result (subst (λ (p : ListPassed). HasHeld held (Ok slot) at p had) (sym list_is) holds_slot) mid_is serves

@@ -5,6 +5,8 @@ use Rattle.book_spec.specs.declared.list.ListFault.{ListFault}
 use Rattle.driver_cells.specs.OfObjects.{DomainPass, Seen, TellsSpent}
 use Rattle.domain_requests.specs.declared.task.Task.{Task}
 use Rattle.domain_spec.specs.Types.{Who}
+use Rattle.boot_status.specs.declared.outcome.StatusKept.{StatusKept}
+use Rattle.boot_status.specs.declared.outcome.StatusKept.TheVariants as came
 use Rattle.driver_cells.specs.Fronts.{no_front}
 use Rattle.driver_cells.specs.Known.{DriverRow, known_row}
 use Rattle.files_disk.specs.Telling.{Told}
@@ -12,11 +14,14 @@ use Rattle.list_holds.specs.Held.{HasHeld}
 use Rattle.list_holds.specs.Released.{LetsGo}
 use Rattle.list_replies.specs.Telling.{TellsFault}
 use Rattle.driver_cells.specs.OfOutcomes.{HasSpent, Outcome}
+use Rattle.row_desk.specs.Views.{StorePass}
 use Rattle.virt_types.specs.declared.ask.GuestEvent.{GuestEvent}
 use Rattle.virt_types.specs.declared.caller.CellName.TheVariants as cell
 use Rattle.virt_types.specs.declared.caller.Front.{Front}
 use Rattle.virt_types.specs.declared.memory.OrNoMemory.{OrNoMemory}
 use Rattle.held_tasks.specs.Running.{HasServedTask}
+use Rattle.held_tasks.specs.Statuses.{HasLooked, IsTold}
+use Rattle.held_tasks.specs.declared.status.StatusRead.{StatusRead}
 
 -- the outcome names the cell of this slot and the place that the reply rests on; without one it names no cell
 abbrev pub RestsAt : ℕ → Option Front → Outcome → Type 0
@@ -50,28 +55,37 @@ module _ {G : Type 0} where
     pub tells : TellsSpent o.reply
     pub name : o.cell ≡ cell.Nowhere
 
-  module _ {F E : Type 0} (told : F → Told) (maker : G → ℕ) (ends faults : E → ℕ) (unheard : E → Option (List GuestEvent)) where
+  module _ {F E : Type 0} (told : F → Told) (stores : F → ℕ) (maker : G → ℕ) (ends faults : E → ℕ) (unheard : E → Option (List GuestEvent)) where
     -- of a row whose pass of the list holds a slot: the task was run in the domain there, and the slot was released with what
-    -- the domain's pass has seen
-    pub record IsServedIn (who : Who) (t : Task) (slot : ℕ) (before after : DriverRow G) (o : Outcome) : Type 0 where
+    -- the domain's pass had seen by then. Before a call and after it the status of the boot was read, and once no turn of the
+    -- domain was held the store was told what had changed
+    pub record IsServedIn (who : Who) (t : Task) (slot : ℕ) (before after : DriverRow G) (o : Outcome) (kept : StatusKept) : Type 0 where
       pub old : DomainPass
+      pub first : DomainPass
+      pub last : DomainPass
       pub new : DomainPass
+      pub mid : StorePass
+      pub was : StatusRead
+      pub is : StatusRead
       pub place : Option Front
       pub seen : Seen
       pub domains : Replaces slot old new before.domains after.domains
-      pub serves : HasServedTask told ends faults unheard who t before.store after.store (maker before.guests) (maker after.guests) old new o.reply place seen
+      pub looks : HasLooked t old first was
+      pub serves : HasServedTask told ends faults unheard who t before.store mid (maker before.guests) (maker after.guests) first last o.reply place seen
+      pub looks_again : HasLooked t last new is
+      pub status : IsTold told stores was is mid after.store kept
       pub lets_go : LetsGo slot seen.front seen.occupied before.list after.list
       pub rests : RestsAt slot place o
 
     -- the list gave a slot, and then so
-    pub record IsServed (who : Who) (held : ListCall) (t : Task) (before after : DriverRow G) (o : Outcome) : Type 0 where
+    pub record IsServed (who : Who) (held : ListCall) (t : Task) (before after : DriverRow G) (o : Outcome) (kept : StatusKept) : Type 0 where
       pub slot : ℕ
       pub at : Front
       pub had : DriverRow G
       pub holds : HasHeld held (Ok slot) at before.list had.list
       pub rest : ListGoes before had
-      pub serves : IsServedIn who t slot had after o
+      pub serves : IsServedIn who t slot had after o kept
 
     -- what became of it
-    abbrev pub HasServedHeld : Who → ListCall → Task → DriverRow G → DriverRow G → Outcome → Type 0
-    HasServedHeld who held t before after o = IsServed who held t before after o ⊎ (IsUnlisted held before after o ⊎ HasRunOut before after o)
+    abbrev pub HasServedHeld : Who → ListCall → Task → DriverRow G → DriverRow G → Outcome → StatusKept → Type 0
+    HasServedHeld who held t before after o result = IsServed who held t before after o result ⊎ ((IsUnlisted held before after o ⊎ HasRunOut before after o) × (result ≡ came.Unchanged))

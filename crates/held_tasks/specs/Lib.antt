@@ -3,8 +3,10 @@ pub mod Running
 pub mod Course
 pub mod Outcomes
 pub mod Laws
+pub mod Statuses
 pub mod OfDesks
 pub mod OfObjects
 pub mod OfOutcomes
 pub mod OfRequests
 pub mod OfRows
+pub mod OfStatuses

@@ -5,8 +5,10 @@
 mod laws;
 mod serving;
 mod slot;
+mod status;
 mod store;
 
+pub use boot_status::StatusKept;
 pub use driver_cells::{Cells, NO_FRONT, Outcome, Row, run_out, state_of};
 pub use laws::{queries_read_now, tasks_answer_requests};
 pub use row_desk::{Maker, MakerOf};

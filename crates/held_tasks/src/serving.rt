@@ -10,6 +10,7 @@ ghost use Rattle.held_tasks.specs.Course.{HasServedHeld};
 ghost use Rattle.held_tasks.specs.Outcomes.{HasTaskOutcome, is_query};
 
 use crate::slot::serve_in_slot;
+use boot_status::StatusKept;
 use def_keeper::Opening;
 use domain_requests::Task;
 use driver_cells::{Cells, Outcome, Row, run_out};
@@ -32,20 +33,21 @@ fn hold_and_serve<R: Wait, G: Maker, F: Files + Drop, K: Opening>(
     who: Who,
     hold: &Hold,
     task: &Task,
-) -> (Row<F, K, G::M, G::E, G::Z, G>, Outcome)
+) -> (Row<F, K, G::M, G::E, G::Z, G>, Outcome, StatusKept)
     requires own { IsOf cells.now.list cells.now.store cells.now.domains.items row }
     requires ready { IsReadyRow row }
-    ensures { HasServedHeld F.told G.faults G.E.ends G.E.faults G.E.unheard who (call_of hold.now) task.now row result.0 result.1 }
+    ensures { HasServedHeld F.told F.faults G.faults G.E.ends G.E.faults G.E.unheard who (call_of hold.now) task.now row result.0 result.1 result.2 }
 {
     if !row.is_idle() {
-        return (row, run_out(alloc));
+        return (row, run_out(alloc), StatusKept::Unchanged);
     }
     let (list, store, domains, guests) = row.into_parts();
     let (pass, held, front) = match hold_slot(rt, &cells.list, list.into_pass(), hold) {
         Ok(held) => held,
         Err(pass) => {
             let list = RestingPass::new(pass, PassState::Spent);
-            return (RowOf::of(list, store, domains, guests), run_out(alloc));
+            let row = RowOf::of(list, store, domains, guests);
+            return (row, run_out(alloc), StatusKept::Unchanged);
         }
     };
     match held {
@@ -61,13 +63,15 @@ fn hold_and_serve<R: Wait, G: Maker, F: Files + Drop, K: Opening>(
                 cell: CellName::List,
                 front,
             };
-            (RowOf::of(list, store, domains, guests), outcome)
+            let row = RowOf::of(list, store, domains, guests);
+            (row, outcome, StatusKept::Unchanged)
         }
     }
 }
 
 /// Asks the list for the slot of the domain, runs the task there, and releases the slot. Where the list gives no slot, its
-/// mark decides the reply. Where a pass of the row is spent, nothing is done.
+/// mark decides the reply. Where a pass of the row is spent, nothing is done. What came of keeping the status of the domain's
+/// boot comes with the outcome, which does not depend on it.
 pub fn serve_held<R: Wait, G: Maker, F: Files + Drop, K: Opening>(
     rt: &R,
     alloc: Global,
@@ -76,10 +80,10 @@ pub fn serve_held<R: Wait, G: Maker, F: Files + Drop, K: Opening>(
     who: Who,
     hold: &Hold,
     task: &Task,
-) -> (Row<F, K, G::M, G::E, G::Z, G>, Outcome)
+) -> (Row<F, K, G::M, G::E, G::Z, G>, Outcome, StatusKept)
     requires own { IsOf cells.now.list cells.now.store cells.now.domains.items row }
     requires ready { IsReadyRow row }
-    ensures course { HasServedHeld F.told G.faults G.E.ends G.E.faults G.E.unheard who (call_of hold.now) task.now row result.0 result.1 }
+    ensures course { HasServedHeld F.told F.faults G.faults G.E.ends G.E.faults G.E.unheard who (call_of hold.now) task.now row result.0 result.1 result.2 }
     ensures outcome { HasTaskOutcome (known_row row) (known_row result.0) (call_of hold.now) task.now result.1 }
     ensures now { IsNow (known_row result.0) (is_query task.now) result.1.cell result.1.front }
     ensures gone { HasGone (known_row row) (known_row result.0) }

@@ -3,7 +3,9 @@ ghost use Rattle.std.specs.Prelude.{◌≡◌};
 ghost use Rattle.held_tasks.specs.Course.{IsServedIn, RestsAt};
 ghost use Rattle.held_tasks.specs.Holding.{HoldsSlot};
 
+use crate::status::{look, tell};
 use crate::store::{Means, serve_with};
+use boot_status::StatusKept;
 use def_keeper::Opening;
 use domain_requests::Task;
 use driver_cells::{Cells, NO_FRONT, Outcome, Row, Tasked, state_of};
@@ -34,7 +36,8 @@ fn outcome_at(slot: u32, place: Option<Front>, reply: Reply) -> Outcome
     }
 }
 
-/// Runs the task in the domain of the slot that the row's pass of the list holds, and releases the slot.
+/// Runs the task in the domain of the slot that the row's pass of the list holds, and releases the slot. Where a call changed
+/// the status of the domain's boot, the store is told so after that.
 pub(crate) fn serve_in_slot<R: Wait, G: Maker, F: Files + Drop, K: Opening>(
     rt: &R,
     alloc: Global,
@@ -43,9 +46,9 @@ pub(crate) fn serve_in_slot<R: Wait, G: Maker, F: Files + Drop, K: Opening>(
     slot: u32,
     who: Who,
     task: &Task,
-) -> (Row<F, K, G::M, G::E, G::Z, G>, Outcome)
+) -> (Row<F, K, G::M, G::E, G::Z, G>, Outcome, StatusKept)
     requires { HoldsSlot slot cells.now.list cells.now.store cells.now.domains.items row }
-    ensures { IsServedIn F.told G.faults G.E.ends G.E.faults G.E.unheard who task.now slot row result.0 result.1 }
+    ensures { IsServedIn F.told F.faults G.faults G.E.ends G.E.faults G.E.unheard who task.now slot row result.0 result.1 result.2 }
 {
     let (list, store, domains, guests) = row.into_parts();
     let (pass, others) = domains.take(slot);
@@ -54,15 +57,18 @@ pub(crate) fn serve_in_slot<R: Wait, G: Maker, F: Files + Drop, K: Opening>(
         store: store.into_pass(),
     };
     let domain = &cells.domains[slot as usize];
+    let (pass, before) = look(rt, domain, pass, task);
     let (means, pass, tasked) = serve_with(rt, alloc, &cells.store, domain, means, pass, who, task);
+    let (pass, after) = look(rt, domain, pass, task);
     let Tasked { reply, place, seen } = tasked;
     let held = list.into_pass();
     let list = give_back(rt, &cells.list, held, slot, seen.front, seen.occupied);
     let Means { guests, store } = means;
+    let (store, kept) = tell(rt, &cells.store, store, before, after);
     let rests = state_of(&store);
     let store = RestingPass::new(store, rests);
     let rests = state_of(&pass);
     let domains = others.put(pass, rests);
     let row = RowOf::of(list, store, domains, guests);
-    (row, outcome_at(slot, place, reply))
+    (row, outcome_at(slot, place, reply), kept)
 }

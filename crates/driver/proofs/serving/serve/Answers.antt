@@ -15,7 +15,7 @@ returns-clause-called g c =
     let is = ap (λ (r : DriverRow g.row.G.Denot). r.store) c.of-row.ensures ∙ c.new.ensures in
     let found = c.read_request-pass.ensures.found in (
       found.0,
-      called g.F.Files.told g.G.Maker.faults g.G.E.Ears.ends g.G.E.Ears.faults g.G.E.Ears.unheard g.F.Files.faults c.args.who c.args.request.now found.0 c.read_request-pass.result.1 c.args.row had c.serve_asked.result.0 c.serve_asked.result.1
+      called g.F.Files.told g.F.Files.faults g.G.Maker.faults g.G.E.Ears.ends g.G.E.Ears.faults g.G.E.Ears.unheard c.args.who c.args.request.now found.0 c.read_request-pass.result.1 c.args.row had c.serve_asked.result.0 c.serve_asked.result.1 c.serve_asked.result.2
           c.into_pass.result c.read_request-pass.result.0 row was is found.1 c.read_request-pass.ensures.leaves c.serve_asked.ensures.came,
       found.2,
     )
@@ -48,7 +48,7 @@ returns-clause-outcome g c =
     let was = ap (λ (r : DriverRow g.row.G.Denot). r.store) c.into_parts-list.ensures ∙ sym c.into_pass.ensures in
     let is = ap (λ (r : DriverRow g.row.G.Denot). r.store) c.of-row.ensures ∙ c.new.ensures in
     let found = c.read_request-pass.ensures.found in
-    outcome_of g.F.Files.told g.G.Maker.faults g.G.E.Ears.ends g.G.E.Ears.faults g.G.E.Ears.unheard g.F.Files.faults c.args.who c.args.request.now found.0 c.read_request-pass.result.1 c.args.row had c.serve_asked.result.0 c.serve_asked.result.1
+    outcome_of g.F.Files.told g.F.Files.faults g.G.Maker.faults g.G.E.Ears.ends g.G.E.Ears.faults g.G.E.Ears.unheard c.args.who c.args.request.now found.0 c.read_request-pass.result.1 c.args.row had c.serve_asked.result.0 c.serve_asked.result.1 c.serve_asked.result.2
     c.into_pass.result c.read_request-pass.result.0 row was is found.1 c.read_request-pass.ensures.leaves c.serve_asked.ensures.came c.serve_asked.ensures.gone
 
 pub returns-clause-now : goal.returns-clause-now
@@ -59,5 +59,5 @@ returns-clause-now g c =
     let was = ap (λ (r : DriverRow g.row.G.Denot). r.store) c.into_parts-list.ensures ∙ sym c.into_pass.ensures in
     let is = ap (λ (r : DriverRow g.row.G.Denot). r.store) c.of-row.ensures ∙ c.new.ensures in
     let found = c.read_request-pass.ensures.found in
-    now_of g.F.Files.told g.G.Maker.faults g.G.E.Ears.ends g.G.E.Ears.faults g.G.E.Ears.unheard g.F.Files.faults c.args.who c.args.request.now found.0 c.read_request-pass.result.1 c.args.row had c.serve_asked.result.0 c.serve_asked.result.1
+    now_of g.F.Files.told g.F.Files.faults g.G.Maker.faults g.G.E.Ears.ends g.G.E.Ears.faults g.G.E.Ears.unheard c.args.who c.args.request.now found.0 c.read_request-pass.result.1 c.args.row had c.serve_asked.result.0 c.serve_asked.result.1 c.serve_asked.result.2
     c.into_pass.result c.read_request-pass.result.0 row was is found.1 c.serve_asked.ensures.came

@@ -1,7 +1,7 @@
 use Rattle.std.proofs.Common.{◌∙◌}
 use Rattle.object_list.specs.Keeping.{meaning}
 use Rattle.driver_lists.proofs.Listed.{has_listed}
-use Rattle.driver_lists.proofs.Silent.{leaves_all}
+use Rattle.driver_cells.proofs.Silent.{leaves_all}
 use Rattle.driver_lists.proofs.listing.list_domains.Goals as goal
 
 pub returns-clause-listed : goal.returns-clause-listed
