@@ -63,9 +63,21 @@ abbrev pub job_number : Option OpKind → ℕ
 job_number None = 0
 job_number (Some kind) = op_number kind
 
+-- the numbers of the phases of migrations; 0 is no phase
+abbrev migration_number : Phase → ℕ
+migration_number phase.MigrateCopy = 9
+migration_number phase.MigrateTake = 10
+migration_number phase.MigrateCancel = 11
+migration_number phase.MigrateLoad = 12
+migration_number phase.Resting = 13
+migration_number phase.MigrateQuit = 14
+migration_number phase.MigrateBack = 15
+migration_number phase.MigrateRun = 16
+migration_number phase.MigrateDrop = 17
+migration_number _ = 0
+
 -- the number of a phase
 abbrev pub phase_number : Phase → ℕ
-phase_number phase.Nothing = 0
 phase_number phase.Make = 1
 phase_number phase.Run = 2
 phase_number phase.Load = 3
@@ -74,15 +86,7 @@ phase_number phase.Poll = 5
 phase_number phase.Take = 6
 phase_number phase.Quit = 7
 phase_number phase.Cancel = 8
-phase_number phase.MigrateCopy = 9
-phase_number phase.MigrateTake = 10
-phase_number phase.MigrateCancel = 11
-phase_number phase.MigrateLoad = 12
-phase_number phase.Resting = 13
-phase_number phase.MigrateQuit = 14
-phase_number phase.MigrateBack = 15
-phase_number phase.MigrateRun = 16
-phase_number phase.MigrateDrop = 17
+phase_number other = migration_number other
 
 -- the number of an image's kind
 abbrev pub image_number : ImageKind → ℕ

@@ -1,10 +1,37 @@
 -- Codes and messages of errors on the wire. Codes below 100 are libvirt's (virErrorNumber of virterror.h);
 -- the messages, and the codes from 201 on, are this project's own.
-use Rattle.std.specs.Prelude.{ℕ, List, codes, take}
+use Rattle.std.specs.Prelude.{ℕ, List, [], codes, take}
 use Rattle.std.specs.Str.Lossy.{utf8_valid_len}
 use Rattle.virt_types.specs.Limits.{most_kept_bytes}
 use Rattle.virt_types.specs.declared.refusal.RefusalCode.{RefusalCode}
 use Rattle.virt_types.specs.declared.refusal.RefusalCode.TheVariants as code
+
+-- the numbers that libvirt has no error for; no error has 0
+abbrev own_number : RefusalCode → ℕ
+own_number code.GuestEnded = 201
+own_number code.MonitorLost = 202
+own_number code.TooManyWaiting = 203
+own_number code.ListFull = 204
+own_number code.NotBuilt = 206
+own_number code.Stalled = 207
+own_number code.NoFreeSlot = 209
+own_number code.EventsLost = 210
+own_number code.CountSpent = 211
+own_number _ = 0
+
+-- the numbers of errors at an object that is there already, or that is not there
+abbrev object_number : RefusalCode → ℕ
+object_number code.DomainExists = 28
+object_number code.NetworkExists = 37
+object_number code.PoolExists = 212
+object_number code.VolumeExists = 213
+object_number code.SnapshotExists = 208
+object_number code.NoDomain = 42
+object_number code.NoNetwork = 43
+object_number code.NoPool = 49
+object_number code.NoVolume = 50
+object_number code.NoSnapshot = 72
+object_number other = own_number other
 
 -- the number of the error
 abbrev pub refusal_number : RefusalCode → ℕ
@@ -13,30 +40,39 @@ refusal_number code.UnknownProcedure = 3
 refusal_number code.InvalidArgument = 8
 refusal_number code.OperationFailed = 9
 refusal_number code.BadDefinition = 27
-refusal_number code.DomainExists = 28
-refusal_number code.NetworkExists = 37
 refusal_number code.StoreFailed = 38
 refusal_number code.MalformedCall = 39
-refusal_number code.NoDomain = 42
-refusal_number code.NoNetwork = 43
-refusal_number code.NoPool = 49
-refusal_number code.NoVolume = 50
 refusal_number code.OperationInvalid = 55
 refusal_number code.OperationTimeout = 68
-refusal_number code.NoSnapshot = 72
 refusal_number code.OperationAborted = 78
-refusal_number code.GuestEnded = 201
-refusal_number code.MonitorLost = 202
-refusal_number code.TooManyWaiting = 203
-refusal_number code.ListFull = 204
-refusal_number code.NotBuilt = 206
-refusal_number code.Stalled = 207
-refusal_number code.SnapshotExists = 208
-refusal_number code.NoFreeSlot = 209
-refusal_number code.EventsLost = 210
-refusal_number code.CountSpent = 211
-refusal_number code.PoolExists = 212
-refusal_number code.VolumeExists = 213
+refusal_number other = object_number other
+
+-- the messages of errors that libvirt has no number for
+abbrev own_message : RefusalCode → List ℕ
+own_message code.GuestEnded = codes "guest ended"
+own_message code.MonitorLost = codes "monitor lost"
+own_message code.TooManyWaiting = codes "too many waiting"
+own_message code.ListFull = codes "list full"
+own_message code.NotBuilt = codes "not built"
+own_message code.Stalled = codes "stalled"
+own_message code.NoFreeSlot = codes "no free slot"
+own_message code.EventsLost = codes "events lost"
+own_message code.CountSpent = codes "count spent"
+own_message _ = []
+
+-- the messages of errors at an object that is there already, or that is not there
+abbrev object_message : RefusalCode → List ℕ
+object_message code.DomainExists = codes "domain exists"
+object_message code.NetworkExists = codes "network exists"
+object_message code.PoolExists = codes "pool exists"
+object_message code.VolumeExists = codes "volume exists"
+object_message code.SnapshotExists = codes "snapshot exists"
+object_message code.NoDomain = codes "no domain"
+object_message code.NoNetwork = codes "no network"
+object_message code.NoPool = codes "no pool"
+object_message code.NoVolume = codes "no volume"
+object_message code.NoSnapshot = codes "no snapshot"
+object_message other = own_message other
 
 -- the message of the error
 abbrev pub refusal_message : RefusalCode → List ℕ
@@ -45,30 +81,12 @@ refusal_message code.UnknownProcedure = codes "unknown procedure"
 refusal_message code.InvalidArgument = codes "invalid argument"
 refusal_message code.OperationFailed = codes "operation failed"
 refusal_message code.BadDefinition = codes "bad definition"
-refusal_message code.DomainExists = codes "domain exists"
-refusal_message code.NetworkExists = codes "network exists"
 refusal_message code.StoreFailed = codes "store failed"
 refusal_message code.MalformedCall = codes "malformed call"
-refusal_message code.NoDomain = codes "no domain"
-refusal_message code.NoNetwork = codes "no network"
-refusal_message code.NoPool = codes "no pool"
-refusal_message code.NoVolume = codes "no volume"
 refusal_message code.OperationInvalid = codes "operation invalid"
 refusal_message code.OperationTimeout = codes "operation timeout"
-refusal_message code.NoSnapshot = codes "no snapshot"
 refusal_message code.OperationAborted = codes "operation aborted"
-refusal_message code.GuestEnded = codes "guest ended"
-refusal_message code.MonitorLost = codes "monitor lost"
-refusal_message code.TooManyWaiting = codes "too many waiting"
-refusal_message code.ListFull = codes "list full"
-refusal_message code.NotBuilt = codes "not built"
-refusal_message code.Stalled = codes "stalled"
-refusal_message code.SnapshotExists = codes "snapshot exists"
-refusal_message code.NoFreeSlot = codes "no free slot"
-refusal_message code.EventsLost = codes "events lost"
-refusal_message code.CountSpent = codes "count spent"
-refusal_message code.PoolExists = codes "pool exists"
-refusal_message code.VolumeExists = codes "volume exists"
+refusal_message other = object_message other
 
 -- what a refusal keeps of a text: the longest front of whole characters within 1,024 bytes
 unfoldable pub kept_cut : List ℕ → List ℕ
