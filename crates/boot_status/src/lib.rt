@@ -7,8 +7,6 @@ mod keeping;
 mod outcome;
 mod reading;
 mod replacing;
-#[cfg(test)]
-mod tests;
 
 pub use comparing::same_status;
 pub use keeping::keep_status;

@@ -50,7 +50,7 @@ fn other_of(map: &DefMap, kind: BookKind, uuid: Uuid, entry: &Entry) -> Option<U
 }
 
 // A file that holds an entry of this object is taken in.
-pub(crate) fn take_entry(
+fn take_entry(
     map: &mut DefMap,
     rows: &mut ListOf<FoundDefinition>,
     kind: BookKind,

@@ -21,8 +21,6 @@ mod report;
 mod spelling;
 mod statuses;
 mod story;
-#[cfg(test)]
-mod tests;
 mod trying;
 mod turns;
 

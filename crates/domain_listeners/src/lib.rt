@@ -7,8 +7,6 @@ mod laws;
 mod listener;
 mod listeners;
 mod taken;
-#[cfg(test)]
-mod tests;
 
 pub use cut::Cut;
 pub use laws::{cuts_are_due, cuts_are_lawful};

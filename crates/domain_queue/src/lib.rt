@@ -4,8 +4,6 @@
 
 mod passes;
 mod queue;
-#[cfg(test)]
-mod tests;
 mod waiting;
 
 pub use queue::Queue;

@@ -9,7 +9,5 @@ mod ends;
 mod operations;
 mod record;
 mod telling;
-#[cfg(test)]
-mod tests;
 
 pub use record::Record;

@@ -24,7 +24,7 @@ fn is_free(kept: &Record) -> bool
 }
 
 // An event is held, unless so many are that no more can be.
-pub(crate) fn hold(held: &mut Vec<HeldEvent>, boot: u64, event: GuestEvent)
+fn hold(held: &mut Vec<HeldEvent>, boot: u64, event: GuestEvent)
     requires { vec_len held.old < vec_capacity held.old }
     ensures items { held.new.items ≡ (if nat_lt (length held.old.items) 64 then held.old.items ++ record { boot = boot; event = event } ∷ [] else held.old.items) }
     ensures capacity { vec_capacity held.new ≡ vec_capacity held.old }

@@ -6,8 +6,6 @@ mod answering;
 mod applying;
 mod beginning;
 mod client_laws;
-#[cfg(test)]
-mod client_tests;
 mod ears;
 mod ending;
 mod ends;
@@ -24,8 +22,6 @@ mod refusing;
 mod resting;
 mod rotating;
 mod taking;
-#[cfg(test)]
-mod tests;
 mod watching;
 
 pub use answering::back;

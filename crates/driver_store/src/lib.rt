@@ -6,8 +6,6 @@ mod again;
 mod fault;
 mod listing;
 mod reading;
-#[cfg(test)]
-mod tests;
 
 pub use fault::DriverFault;
 pub use listing::{open_list, starts_of};

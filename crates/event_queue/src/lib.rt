@@ -3,8 +3,6 @@
 
 mod laws;
 mod step;
-#[cfg(test)]
-mod tests;
 mod watch;
 
 pub use laws::taken_and_pending_are_owed;

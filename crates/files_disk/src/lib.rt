@@ -11,8 +11,6 @@ mod memory;
 mod paths;
 mod putting;
 mod seen;
-#[cfg(test)]
-mod tests;
 
 pub use directory::{DirFiles, MOST_FILE_BYTES};
 pub use failing::{Effect, FailingCall};

@@ -7,8 +7,6 @@ mod found;
 mod opening;
 mod order;
 mod past;
-#[cfg(test)]
-mod tests;
 
 pub use found::{FoundDomain, FoundDomains, FoundFault};
 pub use opening::read_found;

@@ -5,8 +5,6 @@ mod laws;
 mod reading;
 mod spelling;
 mod store;
-#[cfg(test)]
-mod tests;
 
 pub use laws::{
     fields_are_named, holds_one_image, images_are_right, images_read_back, images_stay,

@@ -3,8 +3,6 @@
 
 mod mask;
 mod record;
-#[cfg(test)]
-mod tests;
 mod waiters;
 
 pub use record::{JobRecord, admits, may_begin, may_take_up};

@@ -13,10 +13,6 @@ mod marking;
 mod refusals;
 mod story;
 mod table;
-#[cfg(test)]
-mod tester;
-#[cfg(test)]
-mod tests;
 mod turns;
 
 pub use book::NetBook;

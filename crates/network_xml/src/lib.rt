@@ -8,8 +8,6 @@ mod laws;
 mod network;
 mod network_tree;
 mod subnet;
-#[cfg(test)]
-mod tests;
 
 pub use laws::{filled_network_is_sound, printed_network_reads_back, read_network_is_sound};
 pub use network::{fill, print, read};

@@ -5,5 +5,4 @@ pub mod Tables
 pub mod Chronicles
 pub mod Turning
 pub mod Naming
-pub mod Holdings
 pub mod Openings

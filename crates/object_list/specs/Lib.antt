@@ -4,5 +4,4 @@ pub mod Table
 pub mod Keeping
 pub mod Turns
 pub mod Names
-pub mod Holding
 pub mod Opening

@@ -3,22 +3,14 @@
 
 mod chronicle;
 mod free_slots;
-#[cfg(test)]
-mod holder;
 mod index;
 mod kept;
 mod list;
 mod opening;
-#[cfg(test)]
-mod reference;
 mod row;
 mod slot_name;
 mod story;
 mod table;
-#[cfg(test)]
-mod tests;
-#[cfg(test)]
-mod turn_tests;
 mod turns;
 
 pub use list::ObjectList;

@@ -7,8 +7,6 @@ mod laws;
 pub mod memory;
 mod outside;
 mod pieces;
-#[cfg(test)]
-mod tests;
 mod write;
 
 pub use feed::Feed;

@@ -5,4 +5,3 @@ pub mod Rows
 pub mod Six
 pub mod Joining
 pub mod Closing
-pub mod Still

@@ -10,10 +10,6 @@ mod row;
 mod row_list;
 mod six_rows;
 mod splitting;
-#[cfg(test)]
-mod still;
-#[cfg(test)]
-mod tests;
 
 pub use laws::{all_close, parts_add_up, rows_gather};
 pub use passes::{OtherPasses, Passes};

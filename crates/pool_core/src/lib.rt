@@ -6,10 +6,6 @@ mod chronicle;
 mod kept;
 mod marking;
 mod story;
-#[cfg(test)]
-mod tester;
-#[cfg(test)]
-mod tests;
 mod turns;
 
 pub use book::PoolBook;

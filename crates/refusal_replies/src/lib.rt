@@ -2,7 +2,5 @@
 #![tactic(auto)]
 
 mod room;
-#[cfg(test)]
-mod tests;
 
 pub use room::{ReplyRoom, no_memory};

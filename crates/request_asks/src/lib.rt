@@ -11,8 +11,6 @@ mod naming;
 mod reading;
 mod refusing;
 mod restoring;
-#[cfg(test)]
-mod tests;
 mod words;
 
 pub use asked::{Asked, Listing};

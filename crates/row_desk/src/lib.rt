@@ -10,8 +10,6 @@ mod handed;
 mod laws;
 mod maker;
 mod report;
-#[cfg(test)]
-mod tests;
 
 pub use desk::RowDesk;
 pub use handed::Handed;

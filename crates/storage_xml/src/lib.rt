@@ -4,8 +4,6 @@
 mod laws;
 mod pool;
 mod pool_tree;
-#[cfg(test)]
-mod tests;
 mod volume;
 mod volume_tree;
 

@@ -7,8 +7,6 @@ mod answers;
 mod images;
 mod put;
 mod restoring;
-#[cfg(test)]
-mod tests;
 mod turning;
 
 pub use answering::answer_in;

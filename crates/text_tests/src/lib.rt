@@ -1,5 +1,5 @@
 //! Tests of definition texts from end to end: the grammar, sizes, scripts, faults with their paths,
-//! texts as tools make them, what is filled in and printed. They are apart, so that what uses the
+//! texts as tools make them, what is filled in and printed; networks, pools and volumes too. They are apart, so that what uses the
 //! readers waits for no test.
 #![tactic(auto)]
 
@@ -14,6 +14,8 @@ mod grammar;
 #[cfg(test)]
 mod live;
 #[cfg(test)]
+mod networks;
+#[cfg(test)]
 mod printed;
 #[cfg(test)]
 mod scripts;
@@ -21,6 +23,8 @@ mod scripts;
 mod sizes;
 #[cfg(test)]
 mod snapshots;
+#[cfg(test)]
+mod storage;
 #[cfg(test)]
 mod texts;
 #[cfg(test)]

@@ -10,6 +10,3 @@ mod writer;
 pub use reader::Reader;
 pub use wire_spec::XdrFault;
 pub use writer::Writer;
-
-#[cfg(test)]
-mod tests;

@@ -1,0 +1,157 @@
+// A book of pools whose one user is pass 0.
+ghost use Rattle.pool_spec.specs.declared.book.PoolCall.{PoolCall};
+ghost use Rattle.pool_spec.specs.PoolCalls.{IsStored};
+ghost use Rattle.pool_spec.specs.PoolHistory.{CanCall};
+
+use crate::refusals::spent;
+use pool_core::PoolBook;
+use std::alloc::Global;
+use std::test::Fail;
+use virt_types::{
+    ListOf, Name, NameList, PoolDef, PoolRowList, PoolType, Refusal, Text, Uuid, VolDef,
+};
+
+pub(crate) fn name(alloc: Global, text: &str) -> Result<Name, Fail> {
+    match Name::read(alloc, text.as_bytes()) {
+        Ok(name) => Ok(name),
+        Err(_) => Err("no name".into()),
+    }
+}
+
+fn text(alloc: Global, text: &str) -> Result<Text, Fail> {
+    match Text::copy_of(alloc, text) {
+        Ok(text) => Ok(text),
+        Err(_) => Err("memory".into()),
+    }
+}
+
+/// A pool of so many bytes.
+pub(crate) fn pool(
+    alloc: Global,
+    called: &str,
+    uuid: u128,
+    capacity: u64,
+) -> Result<PoolDef, Fail> {
+    Ok(PoolDef {
+        kind: PoolType::Dir,
+        name: name(alloc, called)?,
+        uuid: Some(Uuid::from_u128(uuid)),
+        capacity,
+        path: text(alloc, "/p")?,
+    })
+}
+
+/// A volume that takes so many bytes.
+pub(crate) fn volume(alloc: Global, called: &str, bytes: u64) -> Result<VolDef, Fail> {
+    Ok(VolDef {
+        name: name(alloc, called)?,
+        capacity: bytes,
+        allocation: bytes,
+        format: text(alloc, "raw")?,
+    })
+}
+
+#[derive(Drop)]
+pub(crate) struct Tester {
+    book: PoolBook,
+    alloc: Global,
+}
+
+impl Tester {
+    pub(crate) fn new(alloc: Global) -> Result<Tester, Fail> {
+        match PoolBook::new(alloc, ListOf::new(alloc)) {
+            Ok(book) => Ok(Tester { book, alloc }),
+            Err(_) => Err("memory".into()),
+        }
+    }
+
+    pub(crate) fn define(&mut self, def: PoolDef) -> Result<(), Refusal> {
+        if self.book.chapter() >= 1 << 62 {
+            return Err(spent(self.alloc));
+        }
+        self.book.may_define(&def)?;
+        self.book.define(def)
+    }
+
+    // Where it may be defined, the store refuses.
+    pub(crate) fn define_refused(&mut self, def: PoolDef) -> Result<(), Refusal> {
+        if self.book.chapter() >= 1 << 62 {
+            return Err(spent(self.alloc));
+        }
+        self.book.may_define(&def)?;
+        refuse(&mut self.book, &def, spent(self.alloc));
+        Ok(())
+    }
+
+    pub(crate) fn undefine(&mut self, uuid: Uuid) -> Result<(), Refusal> {
+        if self.book.chapter() >= 1 << 62 {
+            return Err(spent(self.alloc));
+        }
+        self.book.may_undefine(uuid)?;
+        self.book.undefine(uuid)
+    }
+
+    pub(crate) fn autostart(&mut self, uuid: Uuid, on: bool) -> Result<(), Refusal> {
+        if self.book.chapter() >= 1 << 62 {
+            return Err(spent(self.alloc));
+        }
+        self.book.may_autostart(uuid, on)?;
+        self.book.autostart(uuid, on)
+    }
+
+    pub(crate) fn start(&mut self, uuid: Uuid) -> Result<(), Refusal> {
+        if self.book.chapter() >= 1 << 62 {
+            return Err(spent(self.alloc));
+        }
+        self.book.start(uuid)
+    }
+
+    pub(crate) fn stop(&mut self, uuid: Uuid) -> Result<(), Refusal> {
+        if self.book.chapter() >= 1 << 62 {
+            return Err(spent(self.alloc));
+        }
+        self.book.stop(uuid)
+    }
+
+    pub(crate) fn make_volume(&mut self, uuid: Uuid, def: VolDef) -> Result<(), Refusal> {
+        if self.book.chapter() >= 1 << 62 {
+            return Err(spent(self.alloc));
+        }
+        self.book.make_volume(uuid, def)
+    }
+
+    pub(crate) fn drop_volume(&mut self, uuid: Uuid, name: &Name) -> Result<(), Refusal> {
+        if self.book.chapter() >= 1 << 62 {
+            return Err(spent(self.alloc));
+        }
+        self.book.drop_volume(uuid, name)
+    }
+
+    pub(crate) fn list(&self) -> Result<PoolRowList, Fail> {
+        match self.book.list() {
+            Ok(rows) => Ok(rows),
+            Err(_) => Err("memory".into()),
+        }
+    }
+
+    pub(crate) fn volumes(&self, uuid: Uuid) -> Result<NameList, Refusal> {
+        self.book.volumes(uuid)
+    }
+
+    pub(crate) fn volume(&self, uuid: Uuid, name: &Name) -> Result<VolDef, Refusal> {
+        self.book.volume(uuid, name)
+    }
+
+    pub(crate) fn marks(&self) -> u64 {
+        self.book.marks()
+    }
+}
+
+// The store refused the definition of this pool.
+fn refuse(book: &mut PoolBook, _def: &PoolDef, refusal: Refusal)
+    ghost asked: { PoolCall }
+    requires stored { IsStored asked }
+    requires can { CanCall asked book.old }
+{
+    book.refuse(refusal);
+}

@@ -1,4 +1,0 @@
-use Rattle.def_keeper.proofs.tests.images.read.Given as goal
-
-abbrev pub ghost-read_image : goal.ghost-read_image
-ghost-read_image a = 0

@@ -1,4 +1,0 @@
-use Rattle.def_keeper.proofs.tests.images.write.Given as goal
-
-abbrev pub ghost-write_image : goal.ghost-write_image
-ghost-write_image a = 0

@@ -1,3 +1,0 @@
-mod calls;
-mod faults;
-mod rows;

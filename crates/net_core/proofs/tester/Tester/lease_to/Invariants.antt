@@ -1,4 +1,0 @@
-use Rattle.net_core.proofs.tester.Tester.lease_to.Given as goal
-
-abbrev pub ghost-lease : goal.ghost-lease
-ghost-lease a = 0

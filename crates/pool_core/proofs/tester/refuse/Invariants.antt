@@ -1,4 +1,0 @@
-use Rattle.pool_core.proofs.tester.refuse.Given as goal
-
-abbrev pub ghost-refuse : goal.ghost-refuse
-ghost-refuse g a = (0, g.asked)

@@ -1,0 +1,151 @@
+// What stops leave of changes that a keeper makes, at each operation.
+use crate::changes::{Answer, define, uuid};
+use crate::crashes::{DROPPED_FIRST, THREE_PUTS, is_one_of};
+use crate::failing::failing_so;
+use crate::keepers::TestKeeper;
+use def_keeper::Keeper;
+use def_map::DefMap;
+use files_disk::{Effect, MemFiles};
+use std::alloc::Global;
+use std::test::Fail;
+use store_spec::BookKind;
+use virt_types::NoMemory;
+
+fn keeper(alloc: Global, files: MemFiles) -> TestKeeper {
+    Keeper::adopt(alloc, files, DefMap::new(alloc))
+}
+
+// Which definitions a keeper finds that opens these files; none where it doesn't open.
+fn standing(alloc: Global, files: MemFiles) -> Result<Option<u32>, NoMemory> {
+    let Ok((keeper, _found)) = TestKeeper::open(alloc, files) else {
+        return Ok(None);
+    };
+    let mut found = 0u32;
+    for number in 0..3u8 {
+        if keeper.map().get(BookKind::Domain, uuid(number)).is_some() {
+            found |= 1 << number;
+        }
+    }
+    Ok(Some(found))
+}
+
+// Whether each crash after so many operations leaves one of these sets, and each of them is left.
+fn leaves(alloc: Global, files: &MemFiles, moment: usize, sets: &[u32]) -> Result<bool, NoMemory> {
+    let mut seen = 0u32;
+    for lost in 0..4usize {
+        for torn in [false, true] {
+            let found = standing(alloc, files.image(moment, lost, torn)?)?;
+            if !is_one_of(found, sets, &mut seen) {
+                return Ok(false);
+            }
+        }
+    }
+    Ok(seen.count_ones() as usize == sets.len())
+}
+
+// The first moment at which a crash leaves other sets than these, or the count of operations.
+fn first_other(alloc: Global, files: &MemFiles, rows: &[&[u32]]) -> Result<usize, NoMemory> {
+    for (moment, sets) in rows.iter().enumerate() {
+        if !leaves(alloc, files, moment, sets)? {
+            return Ok(moment);
+        }
+    }
+    Ok(files.operations().len())
+}
+
+#[test]
+fn each_stop_of_three_defines_leaves_the_first_ones(rt: HostRuntime) -> Result<(), Fail> {
+    let alloc = rt.alloc();
+    let mut keeper = keeper(alloc, MemFiles::new(alloc));
+    assert_eq!(rt;
+        define(alloc, &mut keeper, BookKind::Domain, 0, "a")?,
+        Answer::Done
+    );
+    assert_eq!(rt;
+        define(alloc, &mut keeper, BookKind::Domain, 1, "b")?,
+        Answer::Done
+    );
+    assert_eq!(rt;
+        define(alloc, &mut keeper, BookKind::Domain, 2, "c")?,
+        Answer::Done
+    );
+    let (files, _) = keeper.close();
+    assert_eq!(rt; first_other(alloc, &files, &THREE_PUTS)?, 12);
+    Ok(())
+}
+
+fn failing(alloc: Global, number: u64, effect: Effect) -> Result<MemFiles, NoMemory> {
+    Ok(MemFiles::new(alloc).failing(failing_so(alloc, number, effect)?))
+}
+
+#[test]
+fn a_change_in_doubt_is_settled_by_the_next(rt: HostRuntime) -> Result<(), Fail> {
+    let alloc = rt.alloc();
+    let mut keeper = keeper(alloc, failing(alloc, 8, Effect::Nothing)?);
+    assert_eq!(rt;
+        define(alloc, &mut keeper, BookKind::Domain, 0, "a")?,
+        Answer::Done
+    );
+    assert_eq!(rt;
+        define(alloc, &mut keeper, BookKind::Domain, 1, "b")?,
+        Answer::Device
+    );
+    assert!(rt; keeper.map().get(BookKind::Domain, uuid(1)).is_none());
+    assert_eq!(rt;
+        define(alloc, &mut keeper, BookKind::Domain, 2, "c")?,
+        Answer::Done
+    );
+    let (files, _) = keeper.close();
+    assert_eq!(rt; first_other(alloc, &files, &DROPPED_FIRST)?, 13);
+    Ok(())
+}
+
+#[test]
+fn a_fault_in_each_call_is_told_in_that_call_alone(rt: HostRuntime) -> Result<(), Fail> {
+    let alloc = rt.alloc();
+    for number in 1..5u64 {
+        for effect in [Effect::Nothing, Effect::Half, Effect::Whole] {
+            let mut keeper = keeper(alloc, failing(alloc, number, effect)?);
+            assert_eq!(rt;
+                define(alloc, &mut keeper, BookKind::Domain, 0, "a")?,
+                Answer::Device
+            );
+            assert_eq!(rt;
+                define(alloc, &mut keeper, BookKind::Domain, 0, "a")?,
+                Answer::Done
+            );
+            let (files, _) = keeper.close();
+            assert_eq!(rt; standing(alloc, files)?, Some(1));
+        }
+    }
+    Ok(())
+}
+
+#[test]
+fn a_name_of_another_is_refused_and_nothing_is_written(rt: HostRuntime) -> Result<(), Fail> {
+    let alloc = rt.alloc();
+    let mut keeper = keeper(alloc, MemFiles::new(alloc));
+    assert_eq!(rt;
+        define(alloc, &mut keeper, BookKind::Domain, 0, "a")?,
+        Answer::Done
+    );
+    assert_eq!(rt;
+        define(alloc, &mut keeper, BookKind::Domain, 1, "a")?,
+        Answer::Kept
+    );
+    assert_eq!(rt;
+        define(alloc, &mut keeper, BookKind::Domain, 0, "b")?,
+        Answer::Done
+    );
+    assert_eq!(rt;
+        define(alloc, &mut keeper, BookKind::Domain, 1, "a")?,
+        Answer::Done
+    );
+    let (files, _) = keeper.close();
+    assert_eq!(rt;
+        files.operations().len(),
+        12,
+        "the refused one wrote nothing"
+    );
+    Ok(())
+}

@@ -1,0 +1,11 @@
+// Words of four bytes.
+use std::alloc::{AllocError, Global};
+
+/// Words of four bytes, the highest first, as bytes.
+pub(crate) fn bytes_of(alloc: Global, words: &[u32]) -> Result<Vec<u8>, AllocError> {
+    let mut bytes = Vec::new(alloc);
+    for word in words {
+        bytes.extend_from_slice(&word.to_be_bytes())?;
+    }
+    Ok(bytes)
+}
