@@ -1,6 +1,6 @@
 //! Tests of a domain's parts, apart from them: its jobs and refusals, who waits for it, who is registered for its
-//! transitions, its record and its turns. So each of these crates is proved once, and what is built on them waits for no
-//! test.
+//! transitions, its record and its turns. So each of these crates is proved once, and what is built on them waits for
+//! no test.
 #![tactic(auto)]
 
 #[cfg(test)]

@@ -1,6 +1,6 @@
-//! Tests of definition texts from end to end: the grammar, sizes, scripts, faults with their paths,
-//! texts as tools make them, what is filled in and printed; networks, pools and volumes too. They are apart, so that what uses the
-//! readers waits for no test.
+//! Tests of definition texts from end to end: the grammar, sizes, scripts, faults with their paths, texts as tools make
+//! them, what is filled in and printed; networks, pools and volumes too. They are apart, so that what uses the readers
+//! waits for no test.
 #![tactic(auto)]
 
 #[cfg(test)]

@@ -4,7 +4,8 @@ ghost use Rattle.procedure_spec.specs.Calls.{IsCall};
 use crate::words::bytes_of;
 use procedure_spec::{ArgFault, OWN, REMOTE};
 use remote_args::{
-    is_known, read_call, read_error, read_reply, read_served_call, write_call, write_error, write_reply,
+    is_known, read_call, read_error, read_reply, read_served_call, write_call, write_error,
+    write_reply,
 };
 use std::alloc::{AllocError, Global};
 use std::process::Abort;
