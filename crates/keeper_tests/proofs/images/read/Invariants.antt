@@ -1,4 +1,4 @@
-use Rattle.store_tests.proofs.images.read.Given as goal
+use Rattle.keeper_tests.proofs.images.read.Given as goal
 
 abbrev pub ghost-read_image : goal.ghost-read_image
 ghost-read_image a = 0
