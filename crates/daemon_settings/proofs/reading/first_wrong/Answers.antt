@@ -1,0 +1,9 @@
+use Rattle.std.proofs.Common.{rules, tests}
+use Rattle.std.proofs.lemmas.Iterator.Search.{position_from_yields_List}
+use Rattle.std.proofs.lemmas.Iterator.Splits.{YieldsList-from_slice_split}
+use Rattle.daemon_settings.proofs.reading.first_wrong.Goals as goal
+
+pub returns-clause-wrong : goal.returns-clause-wrong
+returns-clause-wrong c = position_from_yields_List _ _ _ _ c.position.ensures.ran
+    (YieldsList-from_slice_split _ _ c.args.bytes.now c.split.ensures.rest c.split.ensures.done c.split.ensures.closure (λ x r q k. search (rules, tests)))
+    (λ x b q k. search (rules, tests))

@@ -1,0 +1,3 @@
+// Configurations as the document has them, and where a line is in no form.
+mod directories;
+mod lines;
