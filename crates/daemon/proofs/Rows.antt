@@ -1,0 +1,98 @@
+-- The rows that a daemon closes its driver with are all of the driver's rows.
+use Rattle.std.proofs.Common.{◌≡◌, ◌∙◌, ◌+◌, ◌++◌, ◌≤◌, ◌^◌, ℕ, List, [], ◌∷◌, Option, arith, ap, length, length-append, map, subst, sym}
+use Rattle.std.specs.List.{All}
+use Rattle.std.proofs.lemmas.List.Elements.{All-cons, All-nil}
+use Rattle.daemon.specs.Six.{all_six}
+use Rattle.daemon.proofs.Keeping.{keeps_itself}
+use Rattle.driver.specs.Cells.{BecomesMany, DriverView, IsRowOf}
+use Rattle.driver_close.specs.Closed.{IsWhole}
+use Rattle.driver_close.specs.OfOpening.{HasCells}
+use Rattle.driver_close.proofs.Fresh.{one_row_is_whole}
+use Rattle.driver_close.proofs.Parts.{split_whole, still_whole}
+use Rattle.files_disk.specs.Telling.{Told}
+use Rattle.held_tasks.specs.OfRows.{DriverRow, IsReadyRow, KeepsParts, parts_of}
+use Rattle.pass_rows.specs.Cutting.{cell_of}
+use Rattle.pass_rows.specs.Rows.{HasRowParts, KeepsPasses}
+use Rattle.row_session.specs.declared.connection.SixRows.{SixRows}
+use Rattle.virt_types.specs.Limits.{most_domains}
+use Rattle.virt_types.specs.declared.request.Request.{Request}
+use Rattle.virt_types.specs.declared.status.Status.{Status}
+
+module _ {G : Type 0} where
+  -- the row of the first passes
+  pub opened_whole : {F : Type 0} (told : F → Told) (files : F) (row : DriverRow G) (starts : List Request) (statuses : List (Option Status)) → HasCells told files row starts statuses → IsWhole (row ∷ [])
+  opened_whole told files row starts statuses cells = one_row_is_whole told cells.domains cells.kept row cells.first
+
+  -- a row that keeps its parts
+  pub one_still_whole : (row now : DriverRow G) → KeepsParts row now → IsWhole (row ∷ []) → IsWhole (now ∷ [])
+  one_still_whole row now keeps whole = still_whole (row ∷ []) (now ∷ []) (keeps, tt) whole
+
+  -- what a daemon keeps of its row, it keeps where the row called the driver
+  pub stands_still : {P Q : Type 0} (d : DriverView) (row now : DriverRow G) → IsRowOf d row × IsReadyRow row × IsWhole (row ∷ []) × P × Q → KeepsParts row now → IsRowOf d now → IsReadyRow now → IsRowOf d now × IsReadyRow now × IsWhole (now ∷ []) × P × Q
+  stands_still d row now (was_own, was_ready, whole, empty, room) keeps own ready = (own, ready, one_still_whole row now keeps whole, empty, room)
+
+  -- the same passes
+  pub passes_keep : (row now : DriverRow G) → KeepsPasses row now → KeepsParts row now
+  passes_keep row now same = record {
+    list = ap (λ (r : DriverRow G). r.list.parts) same;
+    store = ap (λ (r : DriverRow G). r.store.parts) same;
+    domains = ap (λ (r : DriverRow G). map parts_of r.domains) same;
+  }
+
+  pub passes_own : (d : DriverView) (row now : DriverRow G) → KeepsPasses row now → IsRowOf d row → IsRowOf d now
+  passes_own d row now same own = record {
+    list_is = ap (λ (r : DriverRow G). r.list.cell) same ∙ own.list_is;
+    store_is = ap (λ (r : DriverRow G). r.store.cell) same ∙ own.store_is;
+    domains_are = ap (λ (r : DriverRow G). map cell_of r.domains) same ∙ own.domains_are;
+  }
+
+  pub passes_ready : (row now : DriverRow G) → KeepsPasses row now → IsReadyRow row → IsReadyRow now
+  passes_ready row now same ready =
+      let with_another_maker : IsReadyRow (record row { guests = now.guests }) = record { list = ready.list; domains = ready.domains; slots = ready.slots } in
+      subst (λ (r : DriverRow G). IsReadyRow r) (sym same) with_another_maker
+
+  -- a row that was put into an empty list
+  pub put_alone : (before after : List (DriverRow G)) (row : DriverRow G) → before ≡ [] → after ≡ before ++ row ∷ [] → after ≡ row ∷ []
+  put_alone before after row empty put = put ∙ ap (λ (l : List (DriverRow G)). l ++ row ∷ []) empty
+
+  -- what holds of it holds of all that are there
+  pub alone_all : (P : DriverRow G → Type 0) (rows : List (DriverRow G)) (row : DriverRow G) → rows ≡ row ∷ [] → P row → All P rows
+  alone_all P rows row alone holds = subst (λ (l : List (DriverRow G)). All P l) (sym alone) (All-cons P row [] holds (All-nil P))
+
+  -- six rows that were put back, of which the fifth is another
+  pub put_back : (six now : SixRows (DriverRow G)) (then : List (DriverRow G)) → now ≡ record six { fifth = now.fifth } → then ≡ all_six now → then ≡ all_six (record six { fifth = now.fifth })
+  put_back six now then others put = put ∙ ap (λ (s : SixRows (DriverRow G)). all_six s) others
+
+  -- what holds of six rows holds of them once the fifth is another of which it holds
+  six_all : (P : DriverRow G → Type 0) (six : SixRows (DriverRow G)) (now : DriverRow G) → All P (all_six six) → P now → All P (all_six (record six { fifth = now }))
+  six_all P six now all new =
+      let last = six.sixth ∷ [] in
+      let fifth = now ∷ last in
+      let fourth = six.fourth ∷ fifth in
+      let third = six.third ∷ fourth in
+      let second = six.second ∷ third in
+      All-cons P six.first second (all 0 six.first (omega arith))
+      (All-cons P six.second third (all 1 six.first (omega arith))
+      (All-cons P six.third fourth (all 2 six.first (omega arith))
+      (All-cons P six.fourth fifth (all 3 six.first (omega arith))
+      (All-cons P now last new
+      (All-cons P six.sixth [] (all 5 six.first (omega arith)) (All-nil P))))))
+
+  pub put_back_all : (P : DriverRow G → Type 0) (rows then : List (DriverRow G)) (six : SixRows (DriverRow G)) (fifth : DriverRow G)
+      → rows ≡ all_six six → then ≡ all_six (record six { fifth = fifth }) → All P rows → P fifth → All P then
+  put_back_all P rows then six fifth taken put all new =
+      subst (λ (l : List (DriverRow G)). All P l) (sym put) (six_all P six fifth (subst (λ (l : List (DriverRow G)). All P l) taken all) new)
+
+  module _ {F : Type 0} (told : F → Told) (maker : G → ℕ) (row : DriverRow G) (rows : List (DriverRow G)) (many : BecomesMany told maker 6 row rows) where
+    -- six rows are made
+    pub six_long : length rows ≡ 6
+    six_long = ap length many.is_split.rows_are ∙ length-append many.is_split.new _ ∙ many.is_split.count_is
+
+    -- and they are all rows, also where the fifth called the driver
+    pub put_back_whole : (then : List (DriverRow G)) (six : SixRows (DriverRow G)) (fifth : DriverRow G) → rows ≡ all_six six → then ≡ all_six (record six { fifth = fifth })
+        → KeepsParts six.fifth fifth → HasRowParts 6 row → length row.domains ≡ most_domains → IsWhole (row ∷ []) → IsWhole then
+    put_back_whole then six fifth taken put keeps has slots whole =
+        let were : IsWhole (all_six six) = subst (λ (l : List (DriverRow G)). IsWhole l) taken (split_whole told maker 6 row rows many has slots whole) in
+        let are : IsWhole (all_six (record six { fifth = fifth })) = still_whole (all_six six) (all_six (record six { fifth = fifth }))
+        (keeps_itself six.first, (keeps_itself six.second, (keeps_itself six.third, (keeps_itself six.fourth, (keeps, (keeps_itself six.sixth, tt)))))) were in
+        subst (λ (l : List (DriverRow G)). IsWhole l) (sym put) are

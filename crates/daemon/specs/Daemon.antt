@@ -1,0 +1,8 @@
+-- What contracts see of a daemon.
+use Rattle.driver.specs.Cells.{DriverView}
+use Rattle.held_tasks.specs.OfRows.{DriverRow}
+
+-- its driver, and the row of the first passes of its cells
+pub record DaemonView (G : Type 0) : Type 0 where
+  pub driver : DriverView
+  pub row : DriverRow G

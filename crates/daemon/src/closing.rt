@@ -1,0 +1,43 @@
+// The end of a daemon.
+ghost use Rattle.std.specs.Prelude.{◌<◌, length};
+ghost use Rattle.std.specs.List.{All};
+ghost use Rattle.daemon.specs.Closing.{IsEndedWith};
+ghost use Rattle.driver.specs.Cells.{IsRowOf};
+ghost use Rattle.driver_close.specs.Closed.{IsWhole};
+ghost use Rattle.held_tasks.specs.OfRows.{IsReadyRow};
+
+use crate::daemon::DaemonRows;
+use def_keeper::Opening;
+use driver::Driver;
+use driver_close::Books;
+use files_disk::Files;
+use held_tasks::MakerOf;
+use monitor_link::Guests;
+
+/// What is left of a daemon that was closed.
+#[derive(Drop)]
+pub struct Closed<F> {
+    /// The files of its store.
+    pub files: F,
+    /// The histories of its cells.
+    pub books: Books,
+}
+
+/// Closes a driver with all of its rows, for which no cell keeps anything. None exactly where one of their passes has no
+/// ticket left: then it can't be closed.
+pub(crate) fn close<F: Files + Drop, K: Opening, G: Guests + Drop>(
+    driver: Driver<F, K, MakerOf<G>>,
+    rows: DaemonRows<F, K, G>,
+) -> Option<Closed<F>>
+    requires some { 0 < length rows.list }
+    requires own { All (IsRowOf driver) rows.list }
+    requires ready { All IsReadyRow rows.list }
+    requires whole { IsWhole rows.list }
+    ensures { IsEndedWith F.told K.sound rows.list result }
+{
+    if !rows.is_idle() {
+        return None;
+    }
+    let (files, books) = driver.close(rows);
+    Some(Closed { files, books })
+}
