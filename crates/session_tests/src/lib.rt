@@ -1,5 +1,5 @@
-//! Tests of a session over a map of definitions, apart from it, so that what is built on the session
-//! waits for no test.
+//! Tests of sessions over a daemon in memory, apart from the crates that they are of, so that what is built on
+//! those waits for no test.
 #![tactic(auto)]
 
 #[cfg(test)]

@@ -1,12 +1,16 @@
-// A session over bytes in memory.
+// A session of a daemon over files and bytes in memory.
 ghost use Rattle.std.specs.Prelude.{◌<◌};
 
 use crate::gated::gated;
+use daemon::{Daemon, End, Ended};
+use files_disk::MemFiles;
+use guest_model::SimGuests;
 use packet::memory::{MemorySink, MemorySource};
 use packet::{Sink, Source};
-use session::{End, PlainMap, Session};
 use std::alloc::Global;
-use virt_types::{NoMemory, Random};
+use std::marker::Brand;
+use std::sync::Wait;
+use virt_types::{Gate, NoMemory, Random};
 
 /// Words that count up.
 #[derive(Clone, Copy)]
@@ -29,44 +33,70 @@ impl Random for CountedWords {
     }
 }
 
-/// What a session that was given these bytes wrote, how it ended, and how many domains there are then.
+/// A gate that is open.
+struct Open;
+
+impl Gate for Open {
+    fn at(&self, _point: u32) {}
+}
+
+/// What a session that was given these bytes wrote, and how it ended.
 #[derive(Drop)]
 pub(crate) struct Served {
     pub(crate) output: Vec<u8>,
     pub(crate) end: End,
-    pub(crate) domains: usize,
 }
 
-// A session over a new map.
-fn session<K>(alloc: Global, sink: K) -> Session<K, CountedWords> {
-    Session {
-        alloc,
-        map: PlainMap::new(alloc),
-        sink,
-        random: CountedWords { last: 0 },
+// Serves one connection over a store without definitions.
+fn serve_ends<H: Wait + Copy + Send + Sync, S: Source, O: Sink + Drop>(
+    rt: H,
+    alloc: Global,
+    source: &mut S,
+    sink: O,
+) -> Result<(O, End), NoMemory> {
+    let files = MemFiles::new(alloc);
+    let guests = SimGuests::new(rt, alloc);
+    match Daemon::<MemFiles, Brand, SimGuests<H>>::open(alloc, files, guests) {
+        Ok(daemon) => {
+            let mut random = CountedWords { last: 0 };
+            let Ended {
+                sink,
+                end,
+                closed: _,
+            } = daemon.serve(&rt, 1, source, sink, &mut random, &Open);
+            Ok((sink, end))
+        }
+        Err(_) => Err(NoMemory),
     }
 }
 
-/// Serves the bytes over a new map; a read gives at most so many of them.
-pub(crate) fn serve(alloc: Global, input: Vec<u8>, most: usize) -> Result<Served, NoMemory>
+/// Serves the bytes; a read gives at most so many of them.
+pub(crate) fn serve<H: Wait + Copy + Send + Sync>(
+    rt: H,
+    alloc: Global,
+    input: Vec<u8>,
+    most: usize,
+) -> Result<Served, NoMemory>
     requires { 0 < most }
 {
     let mut source = MemorySource::new(input).at_most(most);
-    let (session, end) = session(alloc, MemorySink::new(alloc)).serve_plain(&mut source);
+    let (sink, end) = serve_ends(rt, alloc, &mut source, MemorySink::new(alloc))?;
     Ok(Served {
-        output: Vec::from_slice(alloc, session.sink.bytes())?,
+        output: Vec::from_slice(alloc, sink.bytes())?,
         end,
-        domains: session.map.len(),
     })
 }
 
 /// Serves a client that makes each call once it has the reply to the one before.
-pub(crate) fn serve_in_turn(alloc: Global, input: &[u8]) -> Result<Served, NoMemory> {
+pub(crate) fn serve_in_turn<H: Wait + Copy + Send + Sync>(
+    rt: H,
+    alloc: Global,
+    input: &[u8],
+) -> Result<Served, NoMemory> {
     let (mut source, sink) = gated(alloc, input)?;
-    let (session, end) = session(alloc, sink).serve_plain(&mut source);
+    let (sink, end) = serve_ends(rt, alloc, &mut source, sink)?;
     Ok(Served {
-        output: Vec::from_slice(alloc, session.sink.bytes())?,
+        output: Vec::from_slice(alloc, sink.bytes())?,
         end,
-        domains: session.map.len(),
     })
 }

@@ -1,9 +1,10 @@
 // Rows of calls and their replies: whole, in pieces, and call by call.
 use crate::serving::{Served, serve, serve_in_turn};
 use crate::{hex, rows};
-use session::End;
+use daemon::End;
 use std::alloc::Global;
 use std::process::Abort;
+use std::sync::Wait;
 use std::test::Fail;
 
 fn assert_served(rt: &impl Abort, name: &str, served: &Served, replies: &[u8], end: End) {
@@ -11,8 +12,8 @@ fn assert_served(rt: &impl Abort, name: &str, served: &Served, replies: &[u8], e
     assert!(rt; served.end == end, "at {name}");
 }
 
-fn check(
-    rt: &impl Abort,
+fn check<R: Abort + Wait + Send + Sync>(
+    rt: &R,
     alloc: Global,
     name: &str,
     row: &(&'static str, &'static str),
@@ -20,10 +21,10 @@ fn check(
 ) -> Result<(), Fail> {
     let replies = hex::bytes(alloc, row.1)?;
     for most in [1, 7, 8192] {
-        let served = serve(alloc, hex::bytes(alloc, row.0)?, most)?;
+        let served = serve(rt, alloc, hex::bytes(alloc, row.0)?, most)?;
         assert_served(rt, name, &served, replies.as_slice(), end);
     }
-    let served = serve_in_turn(alloc, hex::bytes(alloc, row.0)?.as_slice())?;
+    let served = serve_in_turn(rt, alloc, hex::bytes(alloc, row.0)?.as_slice())?;
     assert_served(rt, name, &served, replies.as_slice(), end);
     Ok(())
 }

@@ -1,5 +1,4 @@
 pub mod DemoName
 pub mod DemoSound
-pub mod DemoText
-pub mod Ending
+pub mod NoFiles
 pub mod Words

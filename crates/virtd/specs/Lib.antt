@@ -1,3 +1,8 @@
-pub mod Demo
+pub mod Words
 pub mod Handed
+pub mod Outside
+pub mod Status
+pub mod First
+pub mod Serving
+pub mod Demo
 pub mod Top

@@ -1,18 +1,25 @@
 //! The daemon: standard input and output served as one connection.
 #![tactic(auto)]
 
+mod command;
+mod connection;
 mod demo;
+mod first;
 mod handed;
 mod process;
 mod say;
+mod serving;
+mod status;
 #[cfg(test)]
 mod tests;
 mod top;
 mod world;
 
+pub use connection::Connection;
+pub use first::First;
 use process::{Process, SystemWords, without_memory, without_seed, words};
 use std::process::ExitCode;
-pub use top::virtd;
+pub use top::{offline, virtd};
 use virt_types::{Failed, NoMemory};
 pub use world::World;
 
@@ -23,8 +30,11 @@ fn main(rt: HostRuntime) -> ExitCode {
     };
     match SystemWords::new(&rt) {
         Ok(random) => {
-            let mut world = Process::new(&rt, random);
-            ExitCode::from(virtd(rt.alloc(), words.as_slice(), &mut world))
+            let mut world = Process::new(&rt, &rt, random);
+            if let Some(status) = offline(words.as_slice(), &mut world) {
+                return ExitCode::from(status);
+            }
+            ExitCode::from(virtd(&rt, rt.alloc(), words.as_slice(), &mut world))
         }
         Err(Failed) => ExitCode::from(without_seed(&rt, words.as_slice())),
     }
