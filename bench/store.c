@@ -1,5 +1,6 @@
 /* store defines TIMES DIRECTORY: the system calls of a keeper that keeps definitions, and nothing
  * else: a draft is written and synced, renamed, and the directory is synced.
+ * store changes TIMES DIRECTORY: the same, and then each file is removed and the directory is synced.
  * store opens TIMES DIRECTORY PARTS: the system calls of one that opens so many directories in one in
  * turn, so many times: each is listed, its files are read into memory in the order of their names, and
  * it is synced.
@@ -14,17 +15,30 @@
 
 enum { MOST_FILES = 1000, MOST_BYTES = 1024 };
 
-static int put(const char *directory, long number)
+static void name_of(char *name, const char *directory, long number, const char *ending)
 {
-    static const char line[] = "  <memory unit='KiB'>1048576</memory>\n";
     static const char file_name[] = "%s/domain-%08lx-%04lx-%04lx-0000-000000000000.%s";
     unsigned long mixed = number * 0x9e3779b97f4a7c15UL;
     unsigned long high = mixed >> 32, middle = mixed >> 16 & 0xffff, low = mixed & 0xffff;
+
+    snprintf(name, 4096, file_name, directory, high, middle, low, ending);
+}
+
+static int sync_directory(const char *directory)
+{
+    int file = open(directory, O_RDONLY);
+
+    return file < 0 || fsync(file) || close(file);
+}
+
+static int put(const char *directory, long number)
+{
+    static const char line[] = "  <memory unit='KiB'>1048576</memory>\n";
     char draft[4096], name[4096], content[4096];
     int length, file, i;
 
-    snprintf(draft, sizeof draft, file_name, directory, high, middle, low, "tmp");
-    snprintf(name, sizeof name, file_name, directory, high, middle, low, "def");
+    name_of(draft, directory, number, "tmp");
+    name_of(name, directory, number, "def");
     length = snprintf(content, sizeof content,
                       "def 2 autostart=no name=machine%ld\ntitle=\nlength=%zu\n", number,
                       24 * strlen(line));
@@ -37,9 +51,20 @@ static int put(const char *directory, long number)
         return 1;
     if ((file = open(draft, O_RDONLY)) < 0 || fsync(file) || close(file))
         return 1;
-    if (rename(draft, name))
-        return 1;
-    return (file = open(directory, O_RDONLY)) < 0 || fsync(file) || close(file);
+    return rename(draft, name) || sync_directory(directory);
+}
+
+static int drop(const char *directory, long number)
+{
+    char name[4096];
+
+    name_of(name, directory, number, "def");
+    return unlink(name) || sync_directory(directory);
+}
+
+static int change(const char *directory, long number)
+{
+    return put(directory, number) || drop(directory, number);
 }
 
 static int is_definition(const struct dirent *entry)
@@ -69,7 +94,7 @@ static int open_all(const char *directory)
     static char kept[MOST_FILES][MOST_BYTES];
     struct dirent **entries;
     char path[8192];
-    int count = scandir(directory, &entries, is_definition, alphasort), failed, file, i;
+    int count = scandir(directory, &entries, is_definition, alphasort), failed, i;
 
     if (count < 0)
         return 1;
@@ -80,7 +105,7 @@ static int open_all(const char *directory)
         free(entries[i]);
     }
     free(entries);
-    return failed || (file = open(directory, O_RDONLY)) < 0 || fsync(file) || close(file);
+    return failed || sync_directory(directory);
 }
 
 /* The directories are called as their number. */
@@ -101,13 +126,14 @@ int main(int count, char **words)
 {
     struct timespec start, end;
     long times, number, parts = count == 5 ? atol(words[4]) : 0;
+    int changes = count > 1 && !strcmp(words[1], "changes");
 
-    if (count < 4 || strcmp(words[1], parts ? "opens" : "defines"))
+    if (count < 4 || strcmp(words[1], parts ? "opens" : changes ? "changes" : "defines"))
         return 2;
     times = atol(words[2]);
     clock_gettime(CLOCK_MONOTONIC, &start);
     for (number = 0; number < times; number++)
-        if (parts ? open_parts(words[3], parts) : put(words[3], number))
+        if (parts ? open_parts(words[3], parts) : changes ? change(words[3], number) : put(words[3], number))
             return 1;
     clock_gettime(CLOCK_MONOTONIC, &end);
     printf("%ld %lld true\n", times,

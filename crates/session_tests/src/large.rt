@@ -1,7 +1,8 @@
-// Long payloads, and a map that is full.
+// Long payloads.
 use crate::hex;
 use crate::serving::{serve, serve_in_turn};
-use session::End;
+use daemon::End;
+use files_disk::MemFiles;
 use std::alloc::{AllocError, Global};
 use std::process::Abort;
 use std::test::Fail;
@@ -51,58 +52,11 @@ fn long_calls_are_refused_and_the_session_goes_on(rt: HostRuntime) -> Result<(),
     put(alloc, &mut replies, AT_ZERO)?;
     put(alloc, &mut replies, OPENED)?;
     for served in [
-        serve_in_turn(alloc, calls.as_slice())?,
-        serve(alloc, calls, 8192)?,
+        serve_in_turn(&rt, alloc, MemFiles::new(alloc), calls.as_slice())?,
+        serve(&rt, alloc, MemFiles::new(alloc), calls, 8192)?,
     ] {
         assert!(&rt; served.output.as_slice() == replies.as_slice());
         assert!(&rt; served.end == End::Eof);
     }
-    Ok(())
-}
-
-/// A define of the domain `n00` whose identifier ends in 00, but for these four digits.
-const DEFINE: [&str; 3] = [
-    "000000ac 20008086 00000001 0000000b 00000000 00000009 00000000 00000089 3c646f6d 61696e20
-     74797065 3d277165 6d75273e 3c6e616d 653e6e",
-    "3c2f6e61 6d653e3c 75756964 3e313131 31313131 312d3232 32322d34 3333332d 38343434 2d353535
-     35353535 353535",
-    "3c2f7575 69643e3c 6d656d6f 72793e31 3c2f6d65 6d6f7279 3e3c6f73 3e3c7479 70653e68 766d3c2f
-     74797065 3e3c2f6f 733e3c2f 646f6d61 696e3e00 0000",
-];
-
-/// The refusal of one more.
-const LIST_FULL: &str =
-    "00000060 20008086 00000001 0000000b 00000001 00000009 00000001 000000cc 0000000a 00000001
-     00000009 6c697374 2066756c 6c000000 00000002 00000000 00000001 00000002 36340000 00000000
-     00000000 00000000 00000000 00000000";
-
-fn put_digits(bytes: &mut Vec<u8>, number: u8) -> Result<(), AllocError> {
-    bytes.push(b'0' + number / 10 % 10)?;
-    Ok(bytes.push(b'0' + number % 10)?)
-}
-
-fn put_define(alloc: Global, calls: &mut Vec<u8>, number: u8) -> Result<(), AllocError> {
-    put(alloc, calls, DEFINE[0])?;
-    put_digits(calls, number)?;
-    put(alloc, calls, DEFINE[1])?;
-    put_digits(calls, number)?;
-    put(alloc, calls, DEFINE[2])
-}
-
-#[test]
-fn a_map_holds_sixty_four_domains(rt: HostRuntime) -> Result<(), Fail> {
-    let alloc = rt.alloc();
-    let mut calls = Vec::new(alloc);
-    for number in 0..65 {
-        put_define(alloc, &mut calls, number)?;
-    }
-    put_define(alloc, &mut calls, 63)?;
-    put(alloc, &mut calls, OPEN)?;
-    let served = serve_in_turn(alloc, calls.as_slice())?;
-    // 64 references of 0x38 bytes each, the refusal, the one that is there again, and the open
-    assert!(&rt; served.output.len() == 65 * 0x38 + 96 + 0x1c);
-    let full = hex::bytes(alloc, LIST_FULL)?;
-    assert!(&rt; served.output.as_slice()[64 * 0x38..].starts_with(full.as_slice()));
-    assert!(&rt; served.domains == 64);
     Ok(())
 }

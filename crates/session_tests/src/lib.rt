@@ -1,16 +1,26 @@
-//! Tests of a session over a map of definitions, apart from it, so that what is built on the session
-//! waits for no test.
+//! Tests of sessions over a daemon in memory, apart from the crates that they are of, so that what is built on
+//! those waits for no test.
 #![tactic(auto)]
 
+#[cfg(test)]
+mod failing;
+#[cfg(test)]
+mod full;
 #[cfg(test)]
 mod gated;
 #[cfg(test)]
 mod hex;
 #[cfg(test)]
+mod images;
+#[cfg(test)]
 mod large;
+#[cfg(test)]
+mod restarts;
 #[cfg(test)]
 mod rows;
 #[cfg(test)]
 mod serving;
+#[cfg(test)]
+mod stops;
 #[cfg(test)]
 mod worked;

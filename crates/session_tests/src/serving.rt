@@ -1,12 +1,16 @@
-// A session over bytes in memory.
+// A session of a daemon over files and bytes in memory.
 ghost use Rattle.std.specs.Prelude.{◌<◌};
 
 use crate::gated::gated;
+use daemon::{Closed, Daemon, End, Ended};
+use files_disk::MemFiles;
+use guest_model::SimGuests;
 use packet::memory::{MemorySink, MemorySource};
 use packet::{Sink, Source};
-use session::{End, PlainMap, Session};
 use std::alloc::Global;
-use virt_types::{NoMemory, Random};
+use std::marker::Brand;
+use std::sync::Wait;
+use virt_types::{Gate, NoMemory, Random};
 
 /// Words that count up.
 #[derive(Clone, Copy)]
@@ -29,44 +33,86 @@ impl Random for CountedWords {
     }
 }
 
-/// What a session that was given these bytes wrote, how it ended, and how many domains there are then.
+/// A gate that is open.
+struct Open;
+
+impl Gate for Open {
+    fn at(&self, _point: u32) {}
+}
+
+/// What a session that was given these bytes wrote, how it ended, and the files that its daemon left.
 #[derive(Drop)]
 pub(crate) struct Served {
     pub(crate) output: Vec<u8>,
     pub(crate) end: End,
-    pub(crate) domains: usize,
+    pub(crate) files: MemFiles,
 }
 
-// A session over a new map.
-fn session<K>(alloc: Global, sink: K) -> Session<K, CountedWords> {
-    Session {
-        alloc,
-        map: PlainMap::new(alloc),
-        sink,
-        random: CountedWords { last: 0 },
+// The files of a daemon that was closed.
+fn files_of(closed: Option<Closed<MemFiles>>) -> Result<MemFiles, NoMemory> {
+    match closed {
+        Some(Closed { files, books: _ }) => Ok(files),
+        None => Err(NoMemory),
     }
 }
 
-/// Serves the bytes over a new map; a read gives at most so many of them.
-pub(crate) fn serve(alloc: Global, input: Vec<u8>, most: usize) -> Result<Served, NoMemory>
+// Serves one connection of a daemon that is opened on these files.
+fn serve_ends<H: Wait + Copy + Send + Sync, S: Source, O: Sink + Drop>(
+    rt: H,
+    alloc: Global,
+    files: MemFiles,
+    source: &mut S,
+    sink: O,
+) -> Result<(O, End, MemFiles), NoMemory> {
+    let guests = SimGuests::new(rt, alloc);
+    match Daemon::<MemFiles, Brand, SimGuests<H>>::open(alloc, files, guests) {
+        Ok(daemon) => {
+            let mut random = CountedWords { last: 0 };
+            let Ended { sink, end, closed } = daemon.serve(
+                &rt,
+                1,
+                source,
+                sink,
+                &mut random,
+                &Open,
+            );
+            Ok((sink, end, files_of(closed)?))
+        }
+        Err(_) => Err(NoMemory),
+    }
+}
+
+/// Serves the bytes; a read gives at most so many of them.
+pub(crate) fn serve<H: Wait + Copy + Send + Sync>(
+    rt: H,
+    alloc: Global,
+    files: MemFiles,
+    input: Vec<u8>,
+    most: usize,
+) -> Result<Served, NoMemory>
     requires { 0 < most }
 {
     let mut source = MemorySource::new(input).at_most(most);
-    let (session, end) = session(alloc, MemorySink::new(alloc)).serve_plain(&mut source);
+    let (sink, end, files) = serve_ends(rt, alloc, files, &mut source, MemorySink::new(alloc))?;
     Ok(Served {
-        output: Vec::from_slice(alloc, session.sink.bytes())?,
+        output: Vec::from_slice(alloc, sink.bytes())?,
         end,
-        domains: session.map.len(),
+        files,
     })
 }
 
 /// Serves a client that makes each call once it has the reply to the one before.
-pub(crate) fn serve_in_turn(alloc: Global, input: &[u8]) -> Result<Served, NoMemory> {
+pub(crate) fn serve_in_turn<H: Wait + Copy + Send + Sync>(
+    rt: H,
+    alloc: Global,
+    files: MemFiles,
+    input: &[u8],
+) -> Result<Served, NoMemory> {
     let (mut source, sink) = gated(alloc, input)?;
-    let (session, end) = session(alloc, sink).serve_plain(&mut source);
+    let (sink, end, files) = serve_ends(rt, alloc, files, &mut source, sink)?;
     Ok(Served {
-        output: Vec::from_slice(alloc, session.sink.bytes())?,
+        output: Vec::from_slice(alloc, sink.bytes())?,
         end,
-        domains: session.map.len(),
+        files,
     })
 }

@@ -1,9 +1,14 @@
 // Rows of calls and their replies: whole, in pieces, and call by call.
+use crate::hex;
+use crate::rows::{
+    connection, definitions, guests, hotplug, lifecycle, migration, reverts, save, snapshots,
+};
 use crate::serving::{Served, serve, serve_in_turn};
-use crate::{hex, rows};
-use session::End;
+use daemon::End;
+use files_disk::MemFiles;
 use std::alloc::Global;
 use std::process::Abort;
+use std::sync::Wait;
 use std::test::Fail;
 
 fn assert_served(rt: &impl Abort, name: &str, served: &Served, replies: &[u8], end: End) {
@@ -11,60 +16,82 @@ fn assert_served(rt: &impl Abort, name: &str, served: &Served, replies: &[u8], e
     assert!(rt; served.end == end, "at {name}");
 }
 
-fn check(
-    rt: &impl Abort,
+fn check<R: Abort + Wait + Send + Sync>(
+    rt: &R,
     alloc: Global,
     name: &str,
-    row: &(&'static str, &'static str),
+    row: &str,
     end: End,
 ) -> Result<(), Fail> {
-    let replies = hex::bytes(alloc, row.1)?;
+    let replies = hex::replies(alloc, row)?;
     for most in [1, 7, 8192] {
-        let served = serve(alloc, hex::bytes(alloc, row.0)?, most)?;
+        let served = serve(
+            rt,
+            alloc,
+            MemFiles::new(alloc),
+            hex::calls(alloc, row)?,
+            most,
+        )?;
         assert_served(rt, name, &served, replies.as_slice(), end);
     }
-    let served = serve_in_turn(alloc, hex::bytes(alloc, row.0)?.as_slice())?;
+    let calls = hex::calls(alloc, row)?;
+    let served = serve_in_turn(rt, alloc, MemFiles::new(alloc), calls.as_slice())?;
     assert_served(rt, name, &served, replies.as_slice(), end);
     Ok(())
 }
 
-#[test]
-fn each_row_is_answered_as_it_says(rt: HostRuntime) -> Result<(), Fail> {
-    let table = [
-        (
-            "the worked definition, its text and that text again",
-            &rows::THE_WORKED_DEFINITION_ITS_TEXT_AND_THAT_TEXT_AGAIN,
-            End::Eof,
-        ),
-        (
-            "a name and an identifier that are held",
-            &rows::A_NAME_AND_AN_IDENTIFIER_THAT_ARE_HELD,
-            End::Eof,
-        ),
-        (
-            "names by rising name, at most so many",
-            &rows::NAMES_BY_RISING_NAME_AT_MOST_SO_MANY,
-            End::Eof,
-        ),
-        ("lookups", &rows::LOOKUPS, End::Eof),
-        (
-            "texts that have no reading",
-            &rows::TEXTS_THAT_HAVE_NO_READING,
-            End::Eof,
-        ),
-        (
-            "calls that are not served, and one that is",
-            &rows::CALLS_THAT_ARE_NOT_SERVED_AND_ONE_THAT_IS,
-            End::Eof,
-        ),
-        (
-            "a close, and nothing after it",
-            &rows::A_CLOSE_AND_NOTHING_AFTER_IT,
-            End::Closed,
-        ),
-    ];
-    for (name, row, end) in table {
-        check(&rt, rt.alloc(), name, row, end)?;
+fn check_all<R: Abort + Wait + Send + Sync>(
+    rt: &R,
+    alloc: Global,
+    rows: &[(&'static str, &'static str)],
+) -> Result<(), Fail> {
+    for (name, row) in rows {
+        check(rt, alloc, name, row, End::Eof)?;
     }
     Ok(())
+}
+
+#[test]
+fn calls_of_a_connection_are_answered_as_the_rows_say(rt: HostRuntime) -> Result<(), Fail> {
+    let alloc = rt.alloc();
+    check_all(&rt, alloc, &connection::ROWS)?;
+    check(
+        &rt,
+        alloc,
+        "a close and nothing after it",
+        connection::A_CLOSE_AND_NOTHING_AFTER_IT,
+        End::Closed,
+    )
+}
+
+#[test]
+fn domains_are_defined_as_the_rows_say(rt: HostRuntime) -> Result<(), Fail> {
+    check_all(&rt, rt.alloc(), &definitions::ROWS)
+}
+
+#[test]
+fn domains_live_as_the_rows_say(rt: HostRuntime) -> Result<(), Fail> {
+    check_all(&rt, rt.alloc(), &lifecycle::ROWS)?;
+    check_all(&rt, rt.alloc(), &guests::ROWS)
+}
+
+#[test]
+fn devices_come_and_go_as_the_rows_say(rt: HostRuntime) -> Result<(), Fail> {
+    check_all(&rt, rt.alloc(), &hotplug::ROWS)
+}
+
+#[test]
+fn guests_are_saved_as_the_rows_say(rt: HostRuntime) -> Result<(), Fail> {
+    check_all(&rt, rt.alloc(), &save::ROWS)
+}
+
+#[test]
+fn snapshots_are_taken_as_the_rows_say(rt: HostRuntime) -> Result<(), Fail> {
+    check_all(&rt, rt.alloc(), &snapshots::ROWS)?;
+    check_all(&rt, rt.alloc(), &reverts::ROWS)
+}
+
+#[test]
+fn guests_leave_and_come_as_the_rows_say(rt: HostRuntime) -> Result<(), Fail> {
+    check_all(&rt, rt.alloc(), &migration::ROWS)
 }

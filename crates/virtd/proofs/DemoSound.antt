@@ -1,5 +1,5 @@
 -- The domain `demo` is sound, so that its text reads back.
-use Rattle.std.proofs.Common.{◌≡◌, ℕ, ◌≤◌, true, false, List, [], codes, length, Some, Ok, refl, ap, arith}
+use Rattle.std.proofs.Common.{◌≡◌, ℕ, ◌≤◌, true, false, List, [], codes, length, Some, Ok, refl, arith}
 use Rattle.std.specs.Char.{encode_utf8}
 use Rattle.std.specs.Fmt.{digits}
 use Rattle.std.specs.Str.{IsUtf8, chars, is_utf8}
@@ -17,7 +17,7 @@ use Rattle.text_spec.specs.Writable.{IsText}
 use Rattle.text_spec.specs.Written.{in_text, in_value, tree_written, trees_written}
 use Rattle.virt_types.proofs.Names.{place_none}
 use Rattle.virt_types.specs.declared.domain_def.DomainDef.{DomainDef}
-use Rattle.virtd.specs.Demo.{demo_def, demo_uuid}
+use Rattle.virtd.specs.Demo.{demo_def}
 
 name_utf8 : IsUtf8 (codes "demo")
 unfolding is_utf8 chars encode_utf8
@@ -88,7 +88,3 @@ demo_sound = record { values = demo_values; texts = demo_texts; fitting = demo_f
 
 pub demo_back : ReadsAsDomain (text_of demo_def) demo_def → definition_in (text_of demo_def) ≡ Ok demo_def
 demo_back r = rw (r.is_tree, r.is_domain) refl
-
-pub demo_own : (def : DomainDef) → def ≡ demo_def → def.uuid ≡ Some demo_uuid
-unfolding demo_def
-demo_own def is = ap (λ (d : DomainDef). d.uuid) is

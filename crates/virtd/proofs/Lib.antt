@@ -1,5 +1,5 @@
 pub mod DemoName
 pub mod DemoSound
-pub mod DemoText
-pub mod Ending
+pub mod NoFiles
+pub mod Printing
 pub mod Words

@@ -1,15 +1,13 @@
--- One word, that is compared.
-use Rattle.std.proofs.Common.{◌≡◌, ℕ, ◌<◌, ◌≤◌, Bool, List, [], ◌∷◌, map, length, get_or, sym, ap, ◌∙◌, arith}
-use Rattle.std.specs.Prelude.{IsTrue}
-use Rattle.std.specs.Str.{bytes_eq}
-use Rattle.std.proofs.lemmas.Slice.Eq.{bytes_eq-Decides}
+-- Words ask for one thing at most.
+use Rattle.std.proofs.Common.{◌≡◌, List, None, inl, inr}
+use Rattle.daemon_words.specs.Commands.{Asks, Demo, Stdio, Word}
+use Rattle.virtd.specs.Words.{AsksFor, IsDaemon}
 
--- the one word is the wanted one exactly where their bytes compare equal
-pub one_word : {A : Type 0} (f : A → List ℕ) (l : List A) (w : A) (bytes wanted : List ℕ) (b : Bool) → 1 ≤ length l → length l < 2 → w ≡ get_or l 0 w → bytes ≡ f w → b ≡ bytes_eq bytes wanted
-    → (IsTrue b → map f l ≡ wanted ∷ []) × (map f l ≡ wanted ∷ [] → IsTrue b)
-one_word f [] w bytes wanted b long short at is e = absurd (omega arith)
-one_word f (x ∷ y ∷ l) w bytes wanted b long short at is e = absurd (omega arith)
-one_word f (x ∷ []) w bytes wanted b long short at is e = (
-  (λ yes. let k : bytes ≡ wanted = (bytes_eq-Decides bytes wanted).0 (sym e ∙ yes) in ap (λ (z : List ℕ). z ∷ []) (ap f (sym at) ∙ (sym is ∙ k))),
-  (λ same. let k : f x ≡ wanted = cc in e ∙ (bytes_eq-Decides bytes wanted).1 (is ∙ (ap f at ∙ k))),
-)
+-- words that ask for nothing ask for no daemon
+pub none_is_daemon : (words : List Word) → Asks words None → IsDaemon words → ⊥
+none_is_daemon words none (inl demo) = none Demo demo.0 demo.1
+none_is_daemon words none (inr (directory, stdio)) = none (Stdio directory) stdio.0 stdio.1
+
+-- words name one directory at most
+pub one_directory : (words : List Word) (a b : Word) → AsksFor words (Stdio a) → AsksFor words (Stdio b) → a ≡ b
+one_directory words a b first second = let x = first.1 in let y = second.1 in cc (x, y)

@@ -1,14 +1,12 @@
 -- The one domain of `virtd demo`.
 use Rattle.std.specs.Prelude.{ℕ, List, [], ◌∷◌, codes, Some, None}
-use Rattle.session_spec.specs.Definitions.{Definitions}
+use Rattle.session_spec.specs.DefinitionText.{text_of}
 use Rattle.virt_types.specs.declared.domain_def.CrashAction.TheVariants as crash
 use Rattle.virt_types.specs.declared.domain_def.DomainDef.{DomainDef}
 use Rattle.virt_types.specs.declared.domain_def.DomainType.TheVariants as type
 use Rattle.virt_types.specs.declared.domain_def.LifecycleAction.TheVariants as action
-
--- the words by which it is served
-abbrev pub demo_words : List (List ℕ)
-demo_words = codes "demo" ∷ []
+use Rattle.virt_types.specs.declared.request.Request.{Request}
+use Rattle.virt_types.specs.declared.request.Request.TheVariants as request
 
 -- 00000000-0000-4000-8000-000000000001
 abbrev pub demo_uuid : List ℕ
@@ -40,6 +38,6 @@ demo_def = record {
   memballoon = None;
 }
 
--- the map that is served
-abbrev pub demo_map : Definitions
-demo_map = (demo_uuid, demo_def) ∷ []
+-- what the daemon is asked for it, before it serves anybody
+abbrev pub demo_requests : List Request
+demo_requests = request.DomainDefineXml (text_of demo_def) ∷ []

@@ -1,3 +1,10 @@
-pub mod Demo
+pub mod Words
 pub mod Handed
+pub mod Outside
+pub mod Status
+pub mod First
+pub mod Serving
+pub mod Demo
+pub mod Printing
+pub mod Offline
 pub mod Top

@@ -1,13 +1,15 @@
 // The one domain of `virtd demo`.
-ghost use Rattle.std.specs.Prelude.{◌≡◌, codes, IfOk};
-ghost use Rattle.virtd.specs.Demo.{demo_def, demo_map, demo_uuid};
+ghost use Rattle.std.specs.Prelude.{◌≡◌, codes, IfOk, Ok};
+ghost use Rattle.session_spec.specs.DefinitionText.{definition_in, text_of};
+ghost use Rattle.virtd.specs.Demo.{demo_def, demo_requests, demo_uuid};
 
-use session::PlainMap;
+use def_keeper::Opening;
+use definition_print::print_domain;
 use std::alloc::Global;
 use text_laws::printed_domain_reads_back;
 use virt_types::{
     CrashAction, DomainDef, DomainType, LifecycleAction, ListOf, Name, NoMemory, OrNoMemory, Os,
-    Script, Text, Uuid,
+    Request, RequestList, Script, Text, Uuid,
 };
 
 /// 00000000-0000-4000-8000-000000000001
@@ -73,17 +75,31 @@ fn define_demo(alloc: Global, name: Name, system: Text, script: Text) -> DomainD
     }
 }
 
-/// The map with the domain `demo` alone.
-pub(crate) fn demo_domains(alloc: Global) -> Result<PlainMap, NoMemory>
-    ensures { IfOk result (λ map. map ≡ demo_map) }
+// The text of that definition reads as that very domain.
+fn demo_reads_back()
+    ensures { definition_in (text_of demo_def) ≡ Ok demo_def }
 {
+    printed_domain_reads_back();
+}
+
+/// The request that defines the domain `demo`.
+pub(crate) fn define_request(alloc: Global) -> Result<RequestList, NoMemory>
+    ensures { IfOk result (λ requests. requests ≡ demo_requests) }
+{
+    demo_reads_back();
     let name = demo_name(alloc)?;
     let system = Text::copy_of(alloc, "hvm")?;
     let script = Text::copy_of(alloc, "")?;
     let def = define_demo(alloc, name, system, script);
-    let _name = def.name.as_bytes();
-    printed_domain_reads_back();
-    let mut map = PlainMap::new(alloc);
-    map.put(demo_uuid_bytes(), def)?;
-    Ok(map)
+    let xml = print_domain(alloc, &def)?;
+    let mut requests = ListOf::new(alloc);
+    requests.push(Request::DomainDefineXml { xml })?;
+    Ok(requests)
+}
+
+/// What is taken for true of a store in memory: all that it promises.
+pub(crate) struct InMemory;
+
+impl Opening for InMemory {
+    ghost sound = { Unit {0} };
 }

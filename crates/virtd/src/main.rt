@@ -1,15 +1,24 @@
 //! The daemon: standard input and output served as one connection.
 #![tactic(auto)]
 
+mod at_once;
+mod connection;
 mod demo;
+mod first;
 mod handed;
+mod print;
 mod process;
 mod say;
+mod serving;
+mod status;
 #[cfg(test)]
 mod tests;
 mod top;
 mod world;
 
+pub use at_once::offline;
+pub use connection::Connection;
+pub use first::First;
 use process::{Process, SystemWords, without_memory, without_seed, words};
 use std::process::ExitCode;
 pub use top::virtd;
@@ -23,8 +32,11 @@ fn main(rt: HostRuntime) -> ExitCode {
     };
     match SystemWords::new(&rt) {
         Ok(random) => {
-            let mut world = Process::new(&rt, random);
-            ExitCode::from(virtd(rt.alloc(), words.as_slice(), &mut world))
+            let mut world = Process::new(&rt, &rt, random);
+            if let Some(status) = offline(words.as_slice(), &mut world) {
+                return ExitCode::from(status);
+            }
+            ExitCode::from(virtd(&rt, rt.alloc(), words.as_slice(), &mut world))
         }
         Err(Failed) => ExitCode::from(without_seed(&rt, words.as_slice())),
     }

@@ -1,20 +1,27 @@
 // The process as the world: its words, and its standard input, output and error. These few lines
 // are trusted: no clause says what the system gives or takes.
-ghost use Rattle.std.specs.Prelude.{◌≡◌, ◌≢◌, ◌↔◌, map};
+ghost use Rattle.std.specs.Prelude.{◌≡◌, ◌⊎◌, ◌↔◌, IfOk, None, map};
 ghost use Rattle.std.specs.String.{string_bytes};
-ghost use Rattle.virtd.specs.Demo.{demo_words};
+ghost use Rattle.daemon_words.specs.Commands.{Asks};
 
+use crate::connection::Connection;
 use crate::handed::HandedOver;
-use crate::top::{LINK, OUT_OF_MEMORY, USAGE, is_demo};
+use crate::status::{LINK, OUT_OF_MEMORY, USAGE};
 use crate::world::World;
+use daemon::Books;
+use daemon_words::read_words;
+use files_disk::{DirFiles, MemFiles};
+use guest_model::SimGuests;
 use packet::{Sink, Source};
 use rand::make_rng;
 use rand::rngs::StdRng;
 use rand_core::{Rng, SeedableRng};
 use std::env;
 use std::io::{ErrorKind, Read, Write};
+use std::marker::Brand;
 use std::rt::{Stderr, Stdin, Stdout};
-use virt_types::{Failed, NoMemory, Random};
+use std::sync::Wait;
+use virt_types::{Failed, Fault, Gate, NoMemory, Random, Text};
 
 /// Standard input, with the number of its faults. It reports no bytes.
 #[derive(Drop)]
@@ -99,60 +106,133 @@ impl Random for SystemWords {
     }
 }
 
-/// The process.
+/// A place where no session is held up.
 #[derive(Drop)]
-pub(crate) struct Process {
-    input: Stdin,
-    output: Stdout,
-    error: Stderr,
-    words: SystemWords,
-    made: HandedOver<(StandardInput, StandardOutput, SystemWords)>,
-    back: HandedOver<(StandardInput, StandardOutput, SystemWords)>,
+pub(crate) struct Open;
+
+impl Gate for Open {
+    fn at(&self, _point: u32) {}
 }
 
-impl Process {
-    pub(crate) fn new(rt: &HostRuntime, words: SystemWords) -> Process {
+/// A connection of standard input and output.
+type StandardConnection = Connection<StandardInput, StandardOutput, SystemWords>;
+
+/// The process.
+#[derive(Drop)]
+pub(crate) struct Process<'a, H> {
+    rt: &'a HostRuntime,
+    waits: H,
+    error: Stderr,
+    words: SystemWords,
+    made: HandedOver<StandardConnection>,
+    back: HandedOver<StandardConnection>,
+    opened: HandedOver<(Text, DirFiles)>,
+    closed: HandedOver<DirFiles>,
+    kept: HandedOver<Books>,
+}
+
+impl<'a, H> Process<'a, H> {
+    /// The process, whose guests wait for their locks by this handle.
+    pub(crate) fn new(rt: &'a HostRuntime, waits: H, words: SystemWords) -> Process<'a, H> {
         Process {
-            input: rt.stdin(),
-            output: rt.stdout(),
+            rt,
+            waits,
             error: rt.stderr(),
             words,
             made: HandedOver::none(),
             back: HandedOver::none(),
+            opened: HandedOver::none(),
+            closed: HandedOver::none(),
+            kept: HandedOver::none(),
         }
     }
 }
 
-impl World for Process {
+// The files of a directory, which is not looked at before the first call, and its path.
+fn opened(rt: &HostRuntime, directory: &str) -> Result<(Text, DirFiles), NoMemory>
+    ensures { IfOk result (λ opened. opened.0 ≡ directory.now) }
+{
+    let files = DirFiles::new(rt, directory)?;
+    Ok((Text::copy_of(rt.alloc(), directory)?, files))
+}
+
+impl<'a, H: Wait + Copy + Send + Sync> World for Process<'a, H> {
     type S = StandardInput;
 
     type K = StandardOutput;
 
     type R = SystemWords;
 
-    ghost made = { λ p. p.made };
+    type F = DirFiles;
 
-    ghost back = { λ p. p.back };
+    type O = Brand;
 
-    fn connection(&mut self) -> (StandardInput, StandardOutput, SystemWords) {
-        let connection = (
-            StandardInput {
-                stream: self.input,
+    type G = SimGuests<H>;
+
+    type T = Open;
+
+    // That a directory can't be had is seen as its files are first asked for something, and counted there.
+    ghost given = { λ p. record {
+      made = p.made;
+      back = p.back;
+      opened = p.opened;
+      closed = p.closed;
+      kept = p.kept;
+      faults = 0;
+    } };
+
+    fn connection(&mut self) -> StandardConnection {
+        let connection = Connection {
+            source: StandardInput {
+                stream: self.rt.stdin(),
                 faults: 0,
             },
-            StandardOutput {
-                stream: self.output,
+            sink: StandardOutput {
+                stream: self.rt.stdout(),
                 faults: 0,
             },
-            self.words.another(),
-        );
+            random: self.words.another(),
+        };
         self.made.add(&connection);
         connection
     }
 
     fn ended(&mut self, source: StandardInput, sink: StandardOutput, random: SystemWords) {
-        let connection = (source, sink, random);
-        self.back.add(&connection);
+        self.back.add(&Connection {
+            source,
+            sink,
+            random,
+        });
+    }
+
+    fn files(&mut self, directory: &str) -> Result<DirFiles, Fault> {
+        match opened(self.rt, directory) {
+            Ok(opened) => {
+                self.opened.add(&opened);
+                Ok(opened.1)
+            }
+            Err(NoMemory) => Err(Fault::NoMemory),
+        }
+    }
+
+    fn closed(&mut self, files: DirFiles) {
+        self.closed.add(&files);
+    }
+
+    fn memory(&mut self) -> MemFiles {
+        MemFiles::new(self.rt.alloc())
+    }
+
+    fn guests(&mut self) -> SimGuests<H> {
+        SimGuests::new(self.waits, self.rt.alloc())
+    }
+
+    fn gate(&mut self) -> Open {
+        Open
+    }
+
+    fn kept(&mut self, books: Books) {
+        self.kept.add(&books);
     }
 
     fn say(&mut self, line: &[u8]) {
@@ -183,17 +263,21 @@ fn say(rt: &HostRuntime, line: &[u8]) {
     let _ = error.write_all(b"\n");
 }
 
-/// Answers words where the system gives no seed: wrong words are still usage, and nothing is served.
+/// Answers words where the system gives no seed: those of no command are still usage, and nothing is done.
 pub(crate) fn without_seed(rt: &HostRuntime, words: &[String]) -> u8
-    ensures usage { (result ≡ 2) ↔ (map string_bytes words.now ≢ demo_words) }
-    ensures link { map string_bytes words.now ≡ demo_words → result ≡ 5 }
+    ensures usage { (result ≡ 2) ↔ Asks (map string_bytes words.now) None }
+    ensures link { (result ≡ 2) ⊎ (result ≡ 5) }
 {
-    if is_demo(words) {
-        say(rt, b"virtd: link");
-        return LINK;
+    match read_words(words) {
+        Some(_) => {
+            say(rt, b"virtd: link");
+            LINK
+        }
+        None => {
+            say(rt, b"virtd: usage");
+            USAGE
+        }
     }
-    say(rt, b"virtd: usage");
-    USAGE
 }
 
 /// There was no memory for the words.

@@ -1,4 +1,5 @@
 // The program over a world in memory.
+mod directories;
 mod faults;
 mod hex;
 mod memory_world;

@@ -5,6 +5,7 @@ use super::rows::{DEMO, LOOK_UP_DEMO, LOOK_UP_NONE, NO_DOMAIN, OPEN, OPENED, joi
 use packet::memory::Failing;
 use std::alloc::{AllocError, Global};
 use std::process::Abort;
+use std::sync::Wait;
 use std::test::Fail;
 
 /// Three calls, of 36 bytes each.
@@ -28,16 +29,21 @@ fn check(rt: &impl Abort, shown: &Shown, status: u8, line: &str, output: &[u8]) 
 }
 
 // The input alone, and after a call, which has its reply.
-fn check_input(
-    rt: &impl Abort,
+fn check_input<R: Abort + Wait + Send + Sync>(
+    rt: &R,
     alloc: Global,
     input: &'static str,
     status: u8,
     line: &str,
 ) -> Result<(), AllocError> {
-    let shown = demo(alloc, hex::bytes(alloc, input)?.as_slice(), sound())?;
+    let shown = demo(rt, alloc, hex::bytes(alloc, input)?.as_slice(), sound())?;
     check(rt, &shown, status, line, &[]);
-    let shown = demo(alloc, joined(alloc, &[OPEN, input])?.as_slice(), sound())?;
+    let shown = demo(
+        rt,
+        alloc,
+        joined(alloc, &[OPEN, input])?.as_slice(),
+        sound(),
+    )?;
     check(
         rt,
         &shown,
@@ -92,8 +98,8 @@ fn it_does_not_matter_how_the_input_is_cut(rt: HostRuntime) -> Result<(), Fail> 
     let alloc = rt.alloc();
     let input = joined(alloc, &CALLS)?;
     let replies = first_replies(alloc, 3)?;
-    for most in 1..=108usize {
-        let shown = demo(alloc, input.as_slice(), cutting(most, 5))?;
+    for most in [1, 2, 3, 5, 7, 35, 36, 37, 71, 72, 73, 107, 108usize] {
+        let shown = demo(&rt, alloc, input.as_slice(), cutting(most, 5))?;
         check(&rt, &shown, 0, "", replies.as_slice());
     }
     Ok(())
@@ -104,12 +110,17 @@ fn a_read_that_fails_leaves_the_replies_before_it(rt: HostRuntime) -> Result<(),
     let alloc = rt.alloc();
     let input = joined(alloc, &CALLS)?;
     // 108 reads of one byte, and one that finds the end
-    for read in 1..=109u64 {
-        let shown = demo(alloc, input.as_slice(), reading(1, Failing::Once(read)))?;
+    for read in [1, 2, 36, 37, 38, 72, 73, 108, 109u64] {
+        let shown = demo(
+            &rt,
+            alloc,
+            input.as_slice(),
+            reading(1, Failing::Once(read)),
+        )?;
         let whole = first_replies(alloc, ((read - 1) / 36) as usize)?;
         check(&rt, &shown, 5, "virtd: link\n", whole.as_slice());
     }
-    let shown = demo(alloc, input.as_slice(), reading(1, Failing::Once(110)))?;
+    let shown = demo(&rt, alloc, input.as_slice(), reading(1, Failing::Once(110)))?;
     check(&rt, &shown, 0, "", first_replies(alloc, 3)?.as_slice());
     Ok(())
 }
@@ -121,6 +132,7 @@ fn a_write_that_fails_leaves_the_replies_before_it(rt: HostRuntime) -> Result<()
     // one write for each reply
     for write in 1..=3u64 {
         let shown = demo(
+            &rt,
             alloc,
             input.as_slice(),
             writing(usize::MAX, Failing::Once(write)),
@@ -129,6 +141,7 @@ fn a_write_that_fails_leaves_the_replies_before_it(rt: HostRuntime) -> Result<()
         check(&rt, &shown, 5, "virtd: link\n", whole.as_slice());
     }
     let shown = demo(
+        &rt,
         alloc,
         input.as_slice(),
         writing(usize::MAX, Failing::Once(4)),
@@ -142,8 +155,13 @@ fn writes_of_five_bytes_leave_a_front_of_the_replies(rt: HostRuntime) -> Result<
     let alloc = rt.alloc();
     let input = joined(alloc, &CALLS)?;
     let replies = first_replies(alloc, 3)?;
-    for write in 1..=36u64 {
-        let shown = demo(alloc, input.as_slice(), writing(5, Failing::From(write)))?;
+    for write in [1, 6, 7, 8, 18, 36u64] {
+        let shown = demo(
+            &rt,
+            alloc,
+            input.as_slice(),
+            writing(5, Failing::From(write)),
+        )?;
         assert_eq!(rt; shown.status, 5, "at {write}");
         assert!(rt; shown.has_put_a_front(replies.as_slice()), "at {write}");
     }
@@ -159,7 +177,7 @@ fn the_longest_packet_is_served(rt: HostRuntime) -> Result<(), Fail> {
     )?;
     input.resize(4_194_304, 0)?;
     input.extend_from_slice(hex::bytes(alloc, OPEN)?.as_slice())?;
-    let shown = demo(alloc, input.as_slice(), sound())?;
+    let shown = demo(&rt, alloc, input.as_slice(), sound())?;
     let refused = "00000064 20008086 00000001 00000017 00000001 00000002 00000001
         00000027 0000000a 00000001 0000000e 6d616c66 6f726d65 64206361 6c6c0000 00000002 00000000
         00000001 00000004 61742034 00000000 00000000 00000000 00000000 00000000";
@@ -183,7 +201,7 @@ fn a_long_name_is_kept_up_to_a_whole_character(rt: HostRuntime) -> Result<(), Fa
     )?;
     input.resize(1055, b'a')?;
     input.extend_from_slice(hex::bytes(alloc, "c3a9 000000")?.as_slice())?;
-    let shown = demo(alloc, input.as_slice(), sound())?;
+    let shown = demo(&rt, alloc, input.as_slice(), sound())?;
     // 72 bytes, 1,023 letters and a byte of padding
     let mut refused = hex::bytes(
         alloc,

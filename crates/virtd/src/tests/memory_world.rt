@@ -1,12 +1,19 @@
-// A world in memory, whose two ends are cut and fail as a test says.
+// A world in memory, whose two ends are cut and fail as a test says, and whose directory is in memory too.
 ghost use Rattle.std.specs.Prelude.{◌<◌};
 
+use crate::at_once::offline;
+use crate::connection::Connection;
 use crate::handed::HandedOver;
 use crate::top::virtd;
 use crate::world::World;
+use daemon::Books;
+use files_disk::MemFiles;
+use guest_model::SimGuests;
 use packet::memory::{Failing, MemorySink, MemorySource};
 use std::alloc::{AllocError, Global};
-use virt_types::Random;
+use std::marker::Brand;
+use std::sync::Wait;
+use virt_types::{Fault, Gate, Random, Text};
 
 /// How the two ends behave.
 #[derive(Clone, Copy)]
@@ -81,47 +88,120 @@ impl Random for CountedWords {
     }
 }
 
+/// A gate that is open.
 #[derive(Drop)]
-struct MemoryWorld {
-    alloc: Global,
-    input: Vec<u8>,
-    ends: Ends,
-    output: Option<Vec<u8>>,
-    said: Vec<u8>,
-    made: HandedOver<(MemorySource, MemorySink, CountedWords)>,
-    back: HandedOver<(MemorySource, MemorySink, CountedWords)>,
+struct Open;
+
+impl Gate for Open {
+    fn at(&self, _point: u32) {}
 }
 
-impl World for MemoryWorld {
+type MemoryConnection = Connection<MemorySource, MemorySink, CountedWords>;
+
+#[derive(Drop)]
+struct MemoryWorld<H> {
+    alloc: Global,
+    waits: H,
+    input: Vec<u8>,
+    ends: Ends,
+    directory: Option<MemFiles>,
+    output: Option<Vec<u8>>,
+    said: Vec<u8>,
+    books: Option<Books>,
+    faults: u64,
+    made: HandedOver<MemoryConnection>,
+    back: HandedOver<MemoryConnection>,
+    opened: HandedOver<(Text, MemFiles)>,
+    closed: HandedOver<MemFiles>,
+    kept: HandedOver<Books>,
+}
+
+impl<H: Wait + Copy + Send + Sync> World for MemoryWorld<H> {
     type S = MemorySource;
 
     type K = MemorySink;
 
     type R = CountedWords;
 
-    ghost made = { λ w. w.made };
+    type F = MemFiles;
 
-    ghost back = { λ w. w.back };
+    type O = Brand;
 
-    fn connection(&mut self) -> (MemorySource, MemorySink, CountedWords) {
+    type G = SimGuests<H>;
+
+    type T = Open;
+
+    ghost given = { λ w. record {
+      made = w.made;
+      back = w.back;
+      opened = w.opened;
+      closed = w.closed;
+      kept = w.kept;
+      faults = w.faults;
+    } };
+
+    fn connection(&mut self) -> MemoryConnection {
         let input = std::mem::replace(&mut self.input, Vec::new(self.alloc));
-        let connection = (
-            MemorySource::new(input)
+        let connection = Connection {
+            source: MemorySource::new(input)
                 .at_most(self.ends.read_most)
                 .failing(self.ends.reads),
-            MemorySink::new(self.alloc)
+            sink: MemorySink::new(self.alloc)
                 .at_most(self.ends.write_most)
                 .failing(self.ends.writes),
-            CountedWords { last: 0 },
-        );
+            random: CountedWords { last: 0 },
+        };
         self.made.add(&connection);
         connection
     }
 
     fn ended(&mut self, source: MemorySource, sink: MemorySink, random: CountedWords) {
-        let connection = (source, sink, random);
-        self.back.add(&connection);
-        self.output = Vec::from_slice(self.alloc, connection.1.bytes()).ok();
+        self.output = Vec::from_slice(self.alloc, sink.bytes()).ok();
+        self.back.add(&Connection {
+            source,
+            sink,
+            random,
+        });
+    }
+
+    fn files(&mut self, directory: &str) -> Result<MemFiles, Fault> {
+        let path = match Text::copy_of(self.alloc, directory) {
+            Ok(path) => path,
+            Err(_) => return Err(Fault::NoMemory),
+        };
+        match self.directory.take() {
+            Some(files) => {
+                let opened = (path, files);
+                self.opened.add(&opened);
+                Ok(opened.1)
+            }
+            None => {
+                self.faults = self.faults.saturating_add(1);
+                Err(Fault::Failed)
+            }
+        }
+    }
+
+    fn closed(&mut self, files: MemFiles) {
+        self.closed.add(&files);
+        self.directory = Some(files);
+    }
+
+    fn memory(&mut self) -> MemFiles {
+        MemFiles::new(self.alloc)
+    }
+
+    fn guests(&mut self) -> SimGuests<H> {
+        SimGuests::new(self.waits, self.alloc)
+    }
+
+    fn gate(&mut self) -> Open {
+        Open
+    }
+
+    fn kept(&mut self, books: Books) {
+        self.kept.add(&books);
+        self.books = Some(books);
     }
 
     fn say(&mut self, line: &[u8]) {
@@ -137,6 +217,10 @@ pub(super) struct Shown {
     /// What was written, where the two ends were made.
     pub(super) output: Option<Vec<u8>>,
     pub(super) said: Vec<u8>,
+    /// The files of the directory, where they were given back.
+    pub(super) directory: Option<MemFiles>,
+    /// The histories of the driver, where it was closed.
+    pub(super) books: Option<Books>,
 }
 
 impl Shown {
@@ -157,10 +241,12 @@ impl Shown {
     }
 }
 
-/// Runs the program with these words.
-pub(super) fn run(
+/// Runs the program with these words, over a directory of these files.
+pub(super) fn run_over<H: Wait + Copy + Send + Sync>(
+    rt: H,
     alloc: Global,
     words: &[&'static str],
+    directory: Option<MemFiles>,
     input: &[u8],
     ends: Ends,
 ) -> Result<Shown, AllocError> {
@@ -170,22 +256,50 @@ pub(super) fn run(
     }
     let mut world = MemoryWorld {
         alloc,
+        waits: rt,
         input: Vec::from_slice(alloc, input)?,
         ends,
+        directory,
         output: None,
         said: Vec::new(alloc),
+        books: None,
+        faults: 0,
         made: HandedOver::none(),
         back: HandedOver::none(),
+        opened: HandedOver::none(),
+        closed: HandedOver::none(),
+        kept: HandedOver::none(),
     };
-    let status = virtd(alloc, given.as_slice(), &mut world);
+    let status = match offline(given.as_slice(), &mut world) {
+        Some(status) => status,
+        None => virtd(&rt, alloc, given.as_slice(), &mut world),
+    };
     Ok(Shown {
         status,
         output: world.output,
         said: world.said,
+        directory: world.directory,
+        books: world.books,
     })
 }
 
+/// Runs the program with these words, without a directory.
+pub(super) fn run<H: Wait + Copy + Send + Sync>(
+    rt: H,
+    alloc: Global,
+    words: &[&'static str],
+    input: &[u8],
+    ends: Ends,
+) -> Result<Shown, AllocError> {
+    run_over(rt, alloc, words, None, input, ends)
+}
+
 /// Runs `virtd demo`.
-pub(super) fn demo(alloc: Global, input: &[u8], ends: Ends) -> Result<Shown, AllocError> {
-    run(alloc, &["demo"], input, ends)
+pub(super) fn demo<H: Wait + Copy + Send + Sync>(
+    rt: H,
+    alloc: Global,
+    input: &[u8],
+    ends: Ends,
+) -> Result<Shown, AllocError> {
+    run(rt, alloc, &["demo"], input, ends)
 }

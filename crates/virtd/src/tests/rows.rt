@@ -3,6 +3,7 @@ use super::hex;
 use super::memory_world::{demo, sound};
 use std::alloc::{AllocError, Global};
 use std::process::Abort;
+use std::sync::Wait;
 use std::test::Fail;
 
 pub(super) const OPEN: &str =
@@ -54,6 +55,8 @@ const REPLY: &str = "0000001c 20008086 00000001 00000001 00000001 00000001 00000
 
 const PING: &str = "0000001c 6b656570 00000001 00000001 00000002 00000000 00000000";
 
+const PONG: &str = "0000001c 6b656570 00000001 00000002 00000002 00000000 00000000";
+
 pub(super) fn joined(alloc: Global, rows: &[&'static str]) -> Result<Vec<u8>, AllocError> {
     let mut all = Vec::new(alloc);
     for row in rows {
@@ -62,13 +65,13 @@ pub(super) fn joined(alloc: Global, rows: &[&'static str]) -> Result<Vec<u8>, Al
     Ok(all)
 }
 
-fn check(
-    rt: &impl Abort,
+fn check<R: Abort + Wait + Send + Sync>(
+    rt: &R,
     alloc: Global,
     calls: &[&'static str],
     replies: &[&'static str],
 ) -> Result<(), AllocError> {
-    let shown = demo(alloc, joined(alloc, calls)?.as_slice(), sound())?;
+    let shown = demo(rt, alloc, joined(alloc, calls)?.as_slice(), sound())?;
     let wanted = joined(alloc, replies)?;
     assert!(rt; shown.has_put(wanted.as_slice()), "at {calls:?}");
     assert_eq!(rt; shown.status, 0, "at {calls:?}");
@@ -93,12 +96,12 @@ fn calls_are_answered_in_order(rt: HostRuntime) -> Result<(), Fail> {
     )?;
     check(&rt, alloc, &[CLOSE], &[CLOSED])?;
     check(&rt, alloc, &[CLOSE, OPEN], &[CLOSED])?;
-    check(&rt, alloc, &[REPLY, PING], &[])?;
+    check(&rt, alloc, &[REPLY, PING], &[PONG])?;
     check(
         &rt,
         alloc,
         &[OPEN, PING, LOOK_UP_DEMO, REPLY, LOOK_UP_NONE],
-        &[OPENED, DEMO, NO_DOMAIN],
+        &[OPENED, PONG, DEMO, NO_DOMAIN],
     )?;
     Ok(())
 }

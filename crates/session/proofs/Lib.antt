@@ -1,9 +1,0 @@
-pub mod Answering
-pub mod Apart
-pub mod Complete
-pub mod Courses
-pub mod Entries
-pub mod Fits
-pub mod Known
-pub mod Saying
-pub mod Told

@@ -1,4 +1,0 @@
-use Rattle.session.proofs.define.filled.Goals as goal
-
-pub returns : goal.returns
-returns g c = c.fill_domain.ensures

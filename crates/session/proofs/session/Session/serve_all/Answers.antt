@@ -1,5 +1,0 @@
-use Rattle.session.proofs.Courses.{ends_at_once}
-use Rattle.session.proofs.session.Session.serve_all.Goals as goal
-
-pub returns-in-Err-clause-course : goal.returns-in-Err-clause-course
-returns-in-Err-clause-course g c = ends_at_once _ _ _

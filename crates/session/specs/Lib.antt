@@ -1,4 +1,0 @@
-pub mod Left
-pub mod Plans
-pub mod Rising
-pub mod Steps

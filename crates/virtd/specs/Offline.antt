@@ -1,0 +1,12 @@
+-- What the program does for words that nobody waits for.
+use Rattle.std.specs.Prelude.{◌≡◌, ℕ, List, Option, Result}
+use Rattle.daemon_words.specs.Listing.{command_list}
+use Rattle.virt_types.specs.declared.memory.Failed.{Failed}
+use Rattle.virtd.specs.Outside.{Outside}
+use Rattle.virtd.specs.Printing.{Prints, printed}
+use Rattle.virtd.specs.declared.connection.Connection.{Connection}
+
+module _ {S K R F : Type 0} (held : K → Option (List ℕ)) (sink_faults : K → ℕ) where
+  -- the daemon's commands are printed
+  abbrev pub Lists : Outside (Connection S K R) F → Outside (Connection S K R) F → ℕ → Type 0
+  Lists was is code = (result : Result (Unit {0}) Failed) × Prints held sink_faults command_list was is result × (code ≡ printed 0 result)
