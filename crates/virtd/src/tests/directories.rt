@@ -146,7 +146,7 @@ fn what_ran_is_said(rt: HostRuntime) -> Result<(), Fail> {
     let alloc = rt.alloc();
     let files = directory(
         alloc,
-        &[(STATUS, "run 1 boot=7 state=1 op=0 phase=0 name=b")],
+        &[(STATUS, "run 1 boot=7 state=1 op=0 phase=0 name=b\n")],
     )?;
     let shown = stdio(&rt, alloc, files, &[])?;
     check(&rt, &shown, 0, "was running b boot 7\n");
