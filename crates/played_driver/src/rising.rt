@@ -5,13 +5,13 @@ use virt_types::Random;
 
 /// Words that rise by one, for what definitions lack.
 #[derive(Drop)]
-pub(crate) struct Rising {
+pub struct Rising {
     next: u64,
 }
 
 impl Rising {
     /// The first one is this.
-    pub(crate) fn from(first: u64) -> Rising {
+    pub fn from(first: u64) -> Rising {
         Rising { next: first }
     }
 }

@@ -1,0 +1,9 @@
+//! A driver with the row of one activity that calls it, for stories and benches.
+#![tactic(auto)]
+
+mod closing;
+mod played;
+mod rising;
+
+pub use played::PlayedDriver;
+pub use rising::Rising;
