@@ -2,7 +2,8 @@
 use crate::requests::Requests;
 use guest_model::SimGuests;
 use no_files::NoFiles;
-use played_driver::{PlayedDriver, Rising};
+use played_driver::PlayedDriver;
+use rising_words::Rising;
 use row_desk::MakerOf;
 use std::alloc::Global;
 use std::io;

@@ -1,11 +1,11 @@
 // What is told of a driver that was closed: what happened in each slot, and whether what is stored there is what its file says.
-use crate::filed::{count_definitions, is_filed};
 use domain_history::Chronicle;
 use domain_spec::Mark;
 use driver_close::Books;
 use files_disk::Files;
 use history_spec::Stamp;
 use std::alloc::Global;
+use story_files::{count_definitions, is_filed};
 use story_rows::{Row, put_judged};
 use virt_types::{Domain, DomainDef, NoMemory, State, Transition};
 

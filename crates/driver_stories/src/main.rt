@@ -5,7 +5,6 @@
 
 mod asking;
 mod ending;
-mod filed;
 mod found;
 mod hosts;
 mod on_domain;

@@ -3,7 +3,5 @@
 
 mod closing;
 mod played;
-mod rising;
 
 pub use played::PlayedDriver;
-pub use rising::Rising;

@@ -44,7 +44,7 @@ fn says(
 }
 
 /// Whether the file of this domain holds this definition and flag.
-pub(crate) fn is_filed<F: Files>(
+pub fn is_filed<F: Files>(
     alloc: Global,
     files: &mut F,
     uuid: Uuid,
@@ -59,7 +59,7 @@ pub(crate) fn is_filed<F: Files>(
 }
 
 /// How many files are named as definitions are.
-pub(crate) fn count_definitions<F: Files>(files: &mut F) -> Result<u64, NoMemory> {
+pub fn count_definitions<F: Files>(files: &mut F) -> Result<u64, NoMemory> {
     let names = match files.list() {
         Ok(names) => names,
         Err(fault) => return Err(lost(fault)),
