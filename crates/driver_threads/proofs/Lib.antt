@@ -1,0 +1,5 @@
+pub mod Crossing
+pub mod Given
+pub mod Shared
+pub mod Turning
+pub mod Whole
