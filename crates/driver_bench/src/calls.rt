@@ -117,7 +117,7 @@ pub(crate) fn rounds<H: Wait + Copy + Send + Sync>(
     round: Round,
     times: u64,
 ) -> Option<()> {
-    let asked = Requests::new(alloc).ok()?;
+    let asked = Requests::new(alloc, 0).ok()?;
     let driver = started(rt, alloc, &asked)?;
     play_many(rt, driver, &asked, round, times)?;
     Some(())
@@ -129,7 +129,7 @@ pub(crate) fn grow<H: Wait + Copy + Send + Sync + Clock + Print>(
     alloc: Global,
     each: u64,
 ) -> io::Result<Option<()>> {
-    let Ok(asked) = Requests::new(alloc) else {
+    let Ok(asked) = Requests::new(alloc, 0) else {
         return Ok(None);
     };
     let Some(mut driver) = started(rt, alloc, &asked) else {
