@@ -1,4 +1,5 @@
 pub mod Going
+pub mod Known
 pub mod Lasting
 pub mod Running
 pub mod Streams

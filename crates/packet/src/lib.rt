@@ -7,10 +7,12 @@ mod laws;
 pub mod memory;
 mod outside;
 mod pieces;
+mod put;
 mod write;
 
 pub use feed::Feed;
 pub use outside::{Sink, Source};
+pub use put::put_all;
 pub use wire_spec::{
     BadPacket, CALL, ERROR, HEADER_LENGTH, Header, MESSAGE, MOST_BYTES, OK, Packet, REPLY,
 };

@@ -10,7 +10,7 @@ use Rattle.row_session.specs.declared.say.Stop.{Stop}
 use Rattle.row_session.specs.declared.say.Stop.TheVariants as stop
 use Rattle.row_session.specs.Steps.{AreAnswered, Closes, EndsPiece, Going, PieceDone, PieceEnds, SaysOne, ServesFront, Stopped, StopsAt, StopsOne, end_at}
 use Rattle.row_session.proofs.Answering.{all_append, all_back, all_front, answered_append, answered_none, closes_last, last_more, log-append, open_append}
-use Rattle.row_session.proofs.Known.{Appends-none, Appends-then, Consumes-kept, Consumes-none, Consumes-then}
+use Rattle.packet.proofs.Known.{Appends-none, Appends-then, Consumes-kept, Consumes-none, Consumes-then}
 use Rattle.service_spec.specs.Activities.{Activity, Hand}
 use Rattle.service_spec.specs.Calls.{Runs}
 use Rattle.service_spec.specs.Course.{Course}

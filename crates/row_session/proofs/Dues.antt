@@ -12,7 +12,7 @@ use Rattle.row_session.specs.declared.say.Stop.TheVariants as stop
 use Rattle.row_session.specs.Steps.{AreAnswered, IsPut, IsPutInPart, IsPutShort, SaysOne, StopsAt, StopsOne, has_closed}
 use Rattle.row_session.specs.Telling.{IsToldTo}
 use Rattle.row_session.proofs.Closing.{same_close}
-use Rattle.row_session.proofs.Known.{Appends-none}
+use Rattle.packet.proofs.Known.{Appends-none}
 use Rattle.service_spec.specs.Activities.{Activity, Hand}
 use Rattle.service_spec.specs.Calls.{Runs, RunsAll}
 use Rattle.service_spec.specs.Keepalive.{is_ping, pong}

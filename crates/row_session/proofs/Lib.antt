@@ -1,4 +1,3 @@
-pub mod Known
 pub mod Fits
 pub mod Closing
 pub mod Unserved

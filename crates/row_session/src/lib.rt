@@ -6,7 +6,6 @@ mod calls;
 mod connection;
 mod loops;
 mod pong;
-mod put;
 mod reading;
 mod refuse;
 mod running;

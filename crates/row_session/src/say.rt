@@ -9,10 +9,9 @@ ghost use Rattle.wire_spec.specs.declared.message.TheConstants.{CALL};
 
 use crate::calls::{Calls, Runner};
 use crate::pong::{is_ping, write_pong};
-use crate::put::put_all;
 use crate::running::Told;
 use crate::write::write;
-use packet::{CALL, Packet, Sink};
+use packet::{CALL, Packet, Sink, put_all};
 use service_spec::Service;
 use std::sync::Wait;
 use virt_types::{Failed, Gate, NoMemory, Random};

@@ -16,7 +16,8 @@ use Rattle.rpc_client.specs.Inflow.{Gets, Hears, Inflow, IsOver, Passes, Stops, 
 use Rattle.rpc_client.specs.Messages.{is_event, is_reply}
 use Rattle.rpc_client.specs.declared.fault.ClientFault.{ClientFault}
 use Rattle.rpc_client.specs.declared.fault.ClientFault.TheVariants as fault
-use Rattle.rpc_client.proofs.Known.{Consumes-none, Consumes-then, rose_before}
+use Rattle.packet.proofs.Known.{Consumes-none, Consumes-then}
+use Rattle.rpc_client.proofs.Known.{rose_before}
 
 each_append : (P : Packet → Type 0) (ps qs : List Packet) → AllByRecursion P ps → AllByRecursion P qs → AllByRecursion P (ps ++ qs)
 each_append P [] qs h k = k

@@ -8,7 +8,6 @@ mod fault;
 mod inlet;
 mod kind;
 mod note;
-mod put;
 #[cfg(test)]
 mod tests;
 

@@ -1,7 +1,7 @@
 use Rattle.std.proofs.Common.{◌<◌, length, arith, inl, inr}
 use Rattle.row_session.proofs.Counting.{going_count}
 use Rattle.row_session.proofs.Courses.{going_ends, going_fails, going_more, going_none, going_over}
-use Rattle.row_session.proofs.Known.{Consumes-none}
+use Rattle.packet.proofs.Known.{Consumes-none}
 use Rattle.row_session.proofs.calls.Calls.serve_pieces.Goals as goal
 
 pub loop-taken-init : goal.loop-taken-init

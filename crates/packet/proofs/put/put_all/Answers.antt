@@ -1,7 +1,7 @@
 use Rattle.std.proofs.Common.{arith}
 use Rattle.std.proofs.Math.Seq.{take-add}
-use Rattle.row_session.proofs.Known.{Appends-then}
-use Rattle.row_session.proofs.put.put_all.Goals as goal
+use Rattle.packet.proofs.Known.{Appends-then}
+use Rattle.packet.proofs.put.put_all.Goals as goal
 
 pub loop-sent-preserved : goal.loop-sent-preserved
 loop-sent-preserved g c =

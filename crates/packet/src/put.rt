@@ -3,11 +3,11 @@ ghost use Rattle.std.specs.Prelude.{◌≡◌, ◌<◌, ℕ, take, length, OnOk,
 ghost use Rattle.std.specs.Io.KnownBytes.{Appends};
 ghost use Rattle.outside_spec.specs.Faults.{HasCause};
 
-use packet::Sink;
+use crate::outside::Sink;
 use virt_types::Failed;
 
-/// Puts all the bytes, piece by piece as the sink takes them.
-pub(crate) fn put_all<K: Sink>(sink: &mut K, bytes: &[u8]) -> Result<(), Failed>
+/// Puts all the bytes, piece by piece as the sink takes them. After an `Err` it took a front of them, and not all.
+pub fn put_all<K: Sink>(sink: &mut K, bytes: &[u8]) -> Result<(), Failed>
     ensures ok { OnOk result (Appends (K.held sink.old) (K.held sink.new) bytes.now) }
     ensures err { OnErr result ((n : ℕ) × (n < length bytes.now)
         × Appends (K.held sink.old) (K.held sink.new) (take n bytes.now)) }
