@@ -28,6 +28,7 @@ settings_or (Some at) sessions = Err (record { line = at + 1 })
 unfoldable pub settings_in : List ℕ → Result Settings BadLine
 settings_in bytes = settings_or (wrong_in (lines_of bytes)) (last_sessions (lines_of bytes))
 
+-- the configuration's file
 abbrev pub file_name : List ℕ
 file_name = codes "virtd.conf"
 

@@ -4,6 +4,7 @@ use Rattle.std.specs.Str.{byte}
 use Rattle.daemon_words.specs.declared.command.DaemonCommand.{DaemonCommand}
 use Rattle.daemon_words.specs.declared.command.DaemonCommand.TheVariants as command
 
+-- a word, by its bytes
 abbrev pub Word : Type 0
 Word = List ℕ
 

@@ -12,9 +12,11 @@ pub record Activity (W : Type 0) : Type 0 where
   pub at_hand : Hand W
   pub next : Who
 
+-- what is at hand with this row, after these words
 abbrev pub hand : {W : Type 0} → W → Option (List ℕ) → Hand W
 hand row drawn = record { row = row; drawn = drawn }
 
+-- an activity with this at hand, whose next call is that one
 abbrev pub activity : {W : Type 0} → W → Option (List ℕ) → Who → Activity W
 activity row drawn next = record { at_hand = hand row drawn; next = next }
 

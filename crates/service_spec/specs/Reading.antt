@@ -10,6 +10,7 @@ use Rattle.virt_types.specs.declared.request.Request.{Request}
 use Rattle.wire_spec.specs.declared.message.Header.{Header}
 
 module _ (serves : Procedure → Bool) where
+  -- a call of this procedure is read: a close, and what the service serves
   abbrev pub is_read : Procedure → Bool
   is_read procedure.ConnectClose = true
   is_read other = serves other

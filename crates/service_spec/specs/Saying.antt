@@ -23,9 +23,11 @@ pub data Due : Type 0 where
   AReply : Packet → Due
   APong : Due
 
+-- what is due to a packet: a reply to a call, a PONG to a PING, nothing to any other
 abbrev pub due_to : Packet → List Due
 due_to p = if p.header.kind == CALL then AReply p ∷ [] else (if is_ping p.header then APong ∷ [] else [])
 
+-- what is due to packets, in their order
 abbrev pub all_due : List Packet → List Due
 all_due packets = flat_map due_to packets
 
@@ -34,6 +36,7 @@ abbrev pub gives : Said → List Due
 gives (Replied a) = AReply a.call ∷ []
 gives Ponged = APong ∷ []
 
+-- what messages give, in their order
 abbrev pub all_given : List Said → List Due
 all_given log = flat_map gives log
 
@@ -50,6 +53,7 @@ log_bytes log = flat_map (λ s. spelling (message s)) log
 abbrev pub AreWhole : List Said → Type 0
 AreWhole log = AllByRecursion (λ s. IsPacket (message s)) log
 
+-- the answer that a message is, where it is one
 abbrev pub answers_in : Said → List Answer
 answers_in (Replied a) = a ∷ []
 answers_in Ponged = []
