@@ -199,17 +199,20 @@ module _ (d : Directory) (all : List (List ℕ)) (i : ℕ) (n bytes : List ℕ) 
   by_name k uuid name finding.Damaged named (is, same) = (
     knows_same d (take i all) n old now same
         (λ l other word of. let both = one_named n bytes k l uuid other name word named (with_bytes d n bytes l other word content of) in subst (λ (key : List ℕ). IsSome (at old key)) (λ j. key_of (both.0 j) (both.1 j)) is) s,
-    λ l other word of. let both = one_named n bytes k l uuid other name word named of in
-        subst (λ (w : List ℕ). IsNamedBefore d n l w) both.1 (subst (λ (m : BookKind). IsNamedBefore d n m name) both.0 (old_name k name is)),
+    (
+      says_so n bytes k uuid name named,
+      λ l other word of. let both = one_named n bytes k l uuid other name word named of in
+          subst (λ (w : List ℕ). IsNamedBefore d n l w) both.1 (subst (λ (m : BookKind). IsNamedBefore d n m name) both.0 (old_name k name is)),
+    ),
   )
   by_name k uuid name (finding.Ran word boot) named f = absurd f
   by_name k uuid name finding.Unread named f = absurd f
 
-  by_bytes : (found : Finding) → Judges n bytes old now found → Knows d (take i all ++ n ∷ []) now × IsFinding d n bytes found
-  by_bytes found (inl (k, uuid, name, named, f)) = by_name k uuid name found named f
-  by_bytes found (inr (is, same, none)) = (
+  by_bytes : (found : Finding) → IsDefinitionName n → Judges n bytes old now found → Knows d (take i all ++ n ∷ []) now × IsFinding d n bytes found
+  by_bytes found says (inl (k, uuid, name, named, f)) = by_name k uuid name found named f
+  by_bytes found says (inr (is, same, none)) = (
     knows_same d (take i all) n old now same (λ l other word of. absurd (none l other word (with_bytes d n bytes l other word content of))) s,
-    subst (λ (f : Finding). IsFinding d n bytes f) (sym is) (λ l other word of. absurd (none l other word of)),
+    subst (λ (f : Finding). IsFinding d n bytes f) (sym is) (says, λ l other word of. absurd (none l other word of)),
   )
 
 judged_step : (d : Directory) (all : List (List ℕ)) (i : ℕ) (n : List ℕ) (old now : Names) (before after : List Report) → Lists d all → IsInOrder all → i < length all → n ≡ get_or all i n
@@ -221,7 +224,7 @@ judged_step d all i n old now before after lists sorted within here cut j (inl (
   reported = reported_pass IsDefinitionName d (take i all) n before after why reports j.reported;
 }
 judged_step d all i n old now before after lists sorted within here cut j (inr (bytes, found, says, content, judges, reports)) =
-    let both = by_bytes d all i n bytes old now lists sorted within here cut content j.names found judges in
+    let both = by_bytes d all i n bytes old now lists sorted within here cut content j.names found says judges in
     record {
       names = both.0;
       reported = reported_one IsDefinitionName d (take i all) n bytes found before after says content both.1 (λ m is. before_this d all i n m lists sorted within here cut is) reports j.reported;
@@ -251,11 +254,11 @@ abbrev pub StatusesAt : Told → List (List ℕ) → List Report → List Report
 StatusesAt None before start reports = Unit {0}
 StatusesAt (Some os) before start reports = ReportedAfter (directory os) before start reports
 
-tells_finding : (d : Directory) (n bytes : List ℕ) (found : Finding) → TellsFound n bytes found → IsFinding d n bytes found
-tells_finding d n bytes (finding.Ok k name uuid) is = absurd is
-tells_finding d n bytes finding.Damaged is = absurd is
-tells_finding d n bytes (finding.Ran name boot) is = is
-tells_finding d n bytes finding.Unread is = is
+tells_finding : (d : Directory) (n bytes : List ℕ) (found : Finding) → IsStatusName n → TellsFound n bytes found → IsFinding d n bytes found
+tells_finding d n bytes (finding.Ok k name uuid) says is = absurd is
+tells_finding d n bytes finding.Damaged says is = absurd is
+tells_finding d n bytes (finding.Ran name boot) says is = is
+tells_finding d n bytes finding.Unread says is = (says, is)
 
 status_step : (d : Directory) (all : List (List ℕ)) (i : ℕ) (n : List ℕ) (start before after : List Report) → ((m : List ℕ) → is_listed m (take i all) ≡ true → ComesBefore m n) → ReportedAfter d (take i all) start before
     → Adds IsStatusName (λ bytes found. TellsFound n bytes found) (Unit {0}) d n before after → ReportedAfter d (take i all ++ n ∷ []) start after
@@ -269,7 +272,7 @@ status_step d all i n start before after earlier r (inr (bytes, found, says, con
     record {
       more = r.more ++ last ∷ [];
       is = reports ∙ ap (λ (l : List Report). l ++ last ∷ []) r.is ∙ append_assoc start r.more (last ∷ []);
-      reported = reported_one IsStatusName d (take i all) n bytes found r.more (r.more ++ last ∷ []) says content (tells_finding d n bytes found tells) earlier refl r.reported;
+      reported = reported_one IsStatusName d (take i all) n bytes found r.more (r.more ++ last ∷ []) says content (tells_finding d n bytes found says tells) earlier refl r.reported;
     }
 
 pub statuses_first : (told : Told) (start : List Report) → StatusesAt told [] start start

@@ -20,6 +20,7 @@ PutsDraft draft name content old new (Ok done) = new ≡ all_more old (drafting_
 PutsDraft draft name content old new (Err fault.Failed) = HasBegun (drafting_of draft name content) old new ⊎ ((bytes : List ℕ) × (new ≡ more old (op.Write draft bytes)))
 PutsDraft draft name content old new (Err fault.NoMemory) = (n : ℕ) × (n ≤ 1) × (new ≡ all_more old (take n (drafting_of draft name content)))
 
+-- the status file of a boot is written, by its draft
 abbrev pub PutsStatus : Status → Told → Told → Result (Unit {0}) Fault → Type 0
 PutsStatus s old new result = PutsDraft (status_draft s.uuid) (status_name s.uuid) (status_bytes s) old new result
 

@@ -24,6 +24,7 @@ pub record IsNamedSo (file bytes : List ℕ) (k : BookKind) (uuid name : List �
   pub holds : IsDefinitionFile version entry bytes
   pub same_name : entry.name ≡ name
 
+-- the same of a file of a directory
 abbrev pub IsDefinitionOf : Directory → List ℕ → BookKind → List ℕ → List ℕ → Type 0
 IsDefinitionOf d file k uuid name = (bytes : List ℕ) × (d file ≡ Some bytes) × IsNamedSo file bytes k uuid name
 
@@ -35,17 +36,20 @@ IsNamedBefore d file k name = (earlier : List ℕ) × (uuid : List ℕ) × Comes
 abbrev pub TellsOf : List ℕ → List ℕ → List ℕ → ℕ → Type 0
 TellsOf file bytes name boot = (s : Status) × IsStatusFile file bytes s × (s.name ≡ name) × (s.boot ≡ boot)
 
--- what a file of these bytes is found to be: a definition whose name no earlier file of its kind has; no such one; a
--- boot that was live; or a status file that reports nothing
+-- what a file of these bytes is found to be: a definition whose name no earlier file of its kind has; a definition's file
+-- that is no such one; a boot that was live; or a status file that reports nothing
 abbrev pub IsFinding : Directory → List ℕ → List ℕ → Finding → Type 0
 IsFinding d file bytes (finding.Ok k name uuid) = IsNamedSo file bytes k uuid name × (IsNamedBefore d file k name → ⊥)
-IsFinding d file bytes finding.Damaged = (k : BookKind) (uuid name : List ℕ) → IsNamedSo file bytes k uuid name → IsNamedBefore d file k name
+IsFinding d file bytes finding.Damaged = IsDefinitionName file
+    × ((k : BookKind) (uuid name : List ℕ) → IsNamedSo file bytes k uuid name → IsNamedBefore d file k name)
 IsFinding d file bytes (finding.Ran name boot) = TellsOf file bytes name boot
-IsFinding d file bytes finding.Unread = TellsStatus file bytes None
+IsFinding d file bytes finding.Unread = IsStatusName file × TellsStatus file bytes None
 
+-- a file of a directory is what it is reported to be
 abbrev pub IsReport : Directory → Report → Type 0
 IsReport d r = (bytes : List ℕ) × (d r.file ≡ Some bytes) × IsFinding d r.file bytes r.found
 
+-- the names of the files that are reported
 abbrev pub files_of : List Report → List (List ℕ)
 files_of reports = map (λ r. r.file) reports
 

@@ -25,6 +25,7 @@ pub record HasOther (k : BookKind) (uuid name : List ℕ) (map : Definitions) (o
   pub same_name : entry.name ≡ name
   pub apart : other ≡ uuid → ⊥
 
+-- the object of another identifier that has the name, if there is one
 abbrev pub IsOtherOf : BookKind → List ℕ → List ℕ → Definitions → Option (List ℕ) → Type 0
 IsOtherOf k uuid name map None = IsFree k uuid name map
 IsOtherOf k uuid name map (Some other) = HasOther k uuid name map other
@@ -35,6 +36,7 @@ IsTwice k uuid name map (or.Fault (fault.TwoOfOneName l one two)) = (l ≡ k) ×
 IsTwice k uuid name map (or.Fault other) = ⊥
 IsTwice k uuid name map or.NoMemory = Unit {0}
 
+-- the file of this name is no definition
 abbrev pub IsNoneFault : List ℕ → OrNoMemory OpenFault → Type 0
 IsNoneFault name (or.Fault (fault.NotADefinition file)) = file ≡ name
 IsNoneFault name (or.Fault other) = ⊥
@@ -77,6 +79,7 @@ FindsIn d name old new rows_before rows =
     (((IsDefinitionName name → ⊥) ⊎ (d name ≡ None)) × Passes old new rows_before rows)
     ⊎ ((bytes : List ℕ) × (d name ≡ Some bytes) × Takes name bytes old new rows_before rows)
 
+-- the same of a store that tells its operations
 abbrev pub Finds : Told → List ℕ → Definitions → Definitions → List FoundDefinition → List FoundDefinition → Type 0
 Finds None name old new rows_before rows = Unit {0}
 Finds (Some os) name old new rows_before rows = FindsIn (directory os) name old new rows_before rows
@@ -109,5 +112,6 @@ pub record IsFirstIn (told : Told) (names : List (List ℕ)) (f : OrNoMemory Ope
   pub before : HasFoundAt told (take at names) map rows
   pub wrong : IsWrongAt told name map f
 
+-- the first fault among the files with these names
 abbrev pub IsFirstOf : Told → List (List ℕ) → OrNoMemory OpenFault → Type 0
 IsFirstOf told names f = IsFirstIn told names f

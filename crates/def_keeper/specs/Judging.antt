@@ -46,11 +46,13 @@ Adds Says Is Stays d file before now =
     (((Says file → ⊥) ⊎ (d file ≡ None)) × Stays × (now ≡ before))
     ⊎ ((bytes : List ℕ) × (found : Finding) × Says file × (d file ≡ Some bytes) × Is bytes found × (now ≡ before ++ record { file = file; found = found } ∷ []))
 
+-- the next file is reported where it is a definition's, of a store that tells its operations
 abbrev pub AddsDefinition : Told → List ℕ → Names → Names → List Report → List Report → Type 0
 AddsDefinition None file old new before now = Unit {0}
 AddsDefinition (Some os) file old new before now =
     Adds IsDefinitionName (λ bytes found. Judges file bytes old new found) (new ≡ old) (directory os) file before now
 
+-- the same of status files
 abbrev pub AddsStatus : Told → List ℕ → List Report → List Report → Type 0
 AddsStatus None file before now = Unit {0}
 AddsStatus (Some os) file before now = Adds IsStatusName (λ bytes found. TellsFound file bytes found) (Unit {0}) (directory os) file before now
@@ -60,6 +62,7 @@ abbrev pub HasDefinitionsAt : Told → List Report → Type 0
 HasDefinitionsAt None now = Unit {0}
 HasDefinitionsAt (Some os) now = AreReports IsDefinitionName (directory os) now
 
+-- all status files are reported, after what was before
 abbrev pub HasStatusesAt : Told → List Report → List Report → Type 0
 HasStatusesAt None before now = Unit {0}
 HasStatusesAt (Some os) before now = (more : List Report) × (now ≡ before ++ more) × AreReports IsStatusName (directory os) more

@@ -8,6 +8,7 @@ use Rattle.def_keeper.specs.declared.mark.StoreAction.{StoreAction}
 use Rattle.def_keeper.specs.declared.mark.StoreAction.TheVariants as action
 use Rattle.def_keeper.specs.declared.mark.StoreMark.{StoreMark}
 
+-- the history of a store
 abbrev pub StoreHistory : Type 0
 StoreHistory = History StoreBase StoreMark
 

@@ -38,6 +38,7 @@ pub record HasOpened (os now : List Operation) (map : Definitions) (f : Found) :
   pub removed : (n : List ℕ) → IsStatusName n → directory now n ≡ None
   pub settled : AreSure os → IsSettled now map
 
+-- the same of a store that tells its operations
 abbrev pub IsOpened : Told → Told → Definitions → Found → Type 0
 IsOpened None new map f = Unit {0}
 IsOpened (Some os) new map f = (now : List Operation) × (new ≡ Some now) × HasOpened os now map f

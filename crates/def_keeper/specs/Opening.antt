@@ -30,6 +30,7 @@ IsInOrder names = IsSorted (slice_cmp nat_cmp) names
 abbrev pub AreRising : List (List ℕ) → Type 0
 AreRising names = IsStrictlySortedBy (slice_cmp nat_cmp) names
 
+-- the order of the files' names, by their bytes
 abbrev pub ComesBefore : List ℕ → List ℕ → Type 0
 ComesBefore one other = slice_cmp nat_cmp one other ≡ Less
 
@@ -106,6 +107,7 @@ IsFaultOf d fault.Device = Unit {0}
 IsFaultOf d (fault.NotADefinition file) = IsFirstBad d file
 IsFaultOf d (fault.TwoOfOneName k one two) = IsFirstTwice d k one two
 
+-- the same of a store that tells its operations
 abbrev pub IsFaultAt : Told → OpenFault → Type 0
 IsFaultAt None f = Unit {0}
 IsFaultAt (Some os) f = IsFaultOf (directory os) f

@@ -45,6 +45,7 @@ pub record IsReports (d : Directory) (statuses : List (Option Status)) : Type 0 
   pub all : (n bytes : List ℕ) → IsStatusName n → d n ≡ Some bytes → Contains files n
   pub told : AreReported d files statuses
 
+-- the same of a store that tells its operations
 abbrev pub HasReportedAt : Told → List (List ℕ) → List (Option Status) → Type 0
 HasReportedAt None names statuses = Unit {0}
 HasReportedAt (Some os) names statuses = HasReported names (directory os) statuses
@@ -54,6 +55,7 @@ abbrev pub Reports : Directory → List ℕ → List (Option Status) → List (O
 Reports d name old new = (((IsStatusName name → ⊥) ⊎ (d name ≡ None)) × (new ≡ old))
     ⊎ ((bytes : List ℕ) × (s : Option Status) × IsStatusName name × (d name ≡ Some bytes) × TellsStatus name bytes s × (new ≡ old ++ s ∷ []))
 
+-- the same of a store that tells its operations
 abbrev pub ReportsAt : Told → List ℕ → List (Option Status) → List (Option Status) → Type 0
 ReportsAt None name old new = Unit {0}
 ReportsAt (Some os) name old new = Reports (directory os) name old new
@@ -71,6 +73,7 @@ pub record HasRemoved (names : List (List ℕ)) (os now : List Operation) : Type
   pub gone : (n : List ℕ) → is_listed n names ≡ true → IsStatusName n → directory now n ≡ None
   pub absent : (n : List ℕ) → directory os n ≡ None → directory now n ≡ None
 
+-- the same of a store that tells its operations
 abbrev pub HasRemovedAt : Told → List (List ℕ) → Told → Type 0
 HasRemovedAt None names new = new ≡ None
 HasRemovedAt (Some os) names new = (now : List Operation) × (new ≡ Some now) × HasRemoved names os now

@@ -9,6 +9,7 @@ use Rattle.def_keeper.specs.Chapters.{moment_of}
 use Rattle.def_keeper.specs.Keeper.{Keeping}
 use Rattle.def_map.specs.Map.{no_rows}
 
+-- what a keeper's history, its next chapter and its marks mean
 abbrev pub meaning : {F : Type 0} → (F → Told) → Meaning (Keeping F) StoreBase StoreMark (Unit {0})
 meaning told = record {
   history = λ k. k.history;
