@@ -4,6 +4,7 @@ use Rattle.virt_types.specs.declared.run_state.DomainState.{DomainState}
 use Rattle.virt_types.specs.declared.run_state.DomainState.TheVariants as run
 use Rattle.virt_types.specs.declared.value.DomainRow.{DomainRow}
 
+-- the state is that of a domain which does not run
 abbrev pub is_shut_off : DomainState → Bool
 is_shut_off run.ShutOff = true
 is_shut_off other = false

@@ -14,6 +14,7 @@ use Rattle.found_domains.specs.declared.found.FoundDomain.{FoundDomain}
 abbrev pub found_cell : FoundDomain → Celled
 found_cell d = new_cell (Some d.definition) d.autostart
 
+-- a slot without a domain
 abbrev pub vacant_cell : Celled
 vacant_cell = new_cell None false
 

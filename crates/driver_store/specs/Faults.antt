@@ -17,6 +17,7 @@ of_open opening.Device = fault.Device
 of_open (opening.NotADefinition file) = fault.NotADefinition file
 of_open (opening.TwoOfOneName k one two) = fault.TwoOfOneName k one two
 
+-- the same, or there was no memory
 abbrev pub of_opening : OrNoMemory OpenFault → OrNoMemory DriverFault
 of_opening (or.Fault f) = or.Fault (of_open f)
 of_opening or.NoMemory = or.NoMemory
@@ -26,6 +27,7 @@ abbrev pub of_store : BookKind → StoreFault → DriverFault
 of_store k store.Device = fault.Device
 of_store k (store.NameKept one two) = fault.TwoOfOneName k one two
 
+-- the same, or there was no memory
 abbrev pub of_change : BookKind → OrNoMemory StoreFault → OrNoMemory DriverFault
 of_change k (or.Fault f) = or.Fault (of_store k f)
 of_change k or.NoMemory = or.NoMemory
@@ -35,6 +37,7 @@ abbrev pub of_bad : FoundFault → DriverFault
 of_bad (found.BadText file) = fault.BadText file
 of_bad (found.TooMany file) = fault.TooMany file
 
+-- the same, or there was no memory
 abbrev pub of_found : OrNoMemory FoundFault → OrNoMemory DriverFault
 of_found (or.Fault f) = or.Fault (of_bad f)
 of_found or.NoMemory = or.NoMemory

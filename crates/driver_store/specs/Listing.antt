@@ -25,5 +25,6 @@ to_start d = request.OnDomain (record { name = name_of d; uuid = d.uuid; id = ne
 abbrev pub start_of : FoundDomain → List Request
 start_of d = if d.autostart then to_start d ∷ [] else []
 
+-- the requests of all that are to be started
 unfoldable pub starts_of : List FoundDomain → List Request
 starts_of ds = flat_map start_of ds

@@ -60,6 +60,7 @@ abbrev pub domains_of : Option Given → List FoundDomain
 domains_of None = []
 domains_of (Some g) = g.domains
 
+-- the domains whose definitions were found
 unfoldable pub domains_in : Definitions → List FoundDefinition → List FoundDomain
 domains_in m fs = flat_map (λ f. domains_of (given m f)) fs
 
@@ -68,6 +69,7 @@ abbrev pub again_of : Option Given → List Change
 again_of None = []
 again_of (Some g) = g.again
 
+-- the changes for all of these files
 unfoldable pub again_in : Definitions → List FoundDefinition → List Change
 again_in m fs = flat_map (λ f. again_of (given m f)) fs
 

@@ -69,6 +69,7 @@ pub record IsList (before after : KnownRow) (front : Front) (found : List (Optio
 abbrev pub row_of : Domain → DomainRow
 row_of d = record { domain = reference_of d; state = state_in d.live }
 
+-- the rows of the domains that there are
 abbrev pub rows_of : List (Option Domain) → List DomainRow
 rows_of [] = []
 rows_of (None ∷ ds) = rows_of ds

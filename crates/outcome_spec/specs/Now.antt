@@ -38,5 +38,6 @@ IsNow after true (cell.Domain slot) front = (pass : DomainPass) → pass_of afte
 IsNow after true cell.Store front = front ≡ front_of after.store.seen
 IsNow after read name front = Unit {0}
 
+-- a read is answered at a place that the returned row has seen
 abbrev pub ReadsNow : KnownRow → Request → Outcome → Type 0
 ReadsNow after asked o = IsNow after (is_read asked) o.cell o.front

@@ -77,5 +77,6 @@ RestsOn before after asked other front said = ⊥
 abbrev pub IsStopped : KnownRow → Reply → Type 0
 IsStopped after said = (why : Refusal) × (said ≡ reply.No why) × (IsSpent after why ⊎ (why ≡ no_memory))
 
+-- a request comes to this: its reply rests on a place of a history, or the row is spent or memory was short
 abbrev pub HasOutcome : KnownRow → KnownRow → Request → Outcome → Type 0
 HasOutcome before after asked o = RestsOn before after asked o.cell o.front o.reply ⊎ IsStopped after o.reply

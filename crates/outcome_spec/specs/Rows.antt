@@ -19,6 +19,7 @@ pub record Known (B M : Type 0) : Type 0 where
   pub mine : List (ℕ × M)
   pub spent : Bool
 
+-- what a pass of a domain knows
 abbrev pub DomainPass : Type 0
 DomainPass = Known Base (Mark ℕ)
 

@@ -8,6 +8,7 @@ use Rattle.turn_cell.specs.Passes.{Passed, IsCutOff}
 use Rattle.pass_rows.specs.Cutting.{cell_of, fewer, HasParts}
 use Rattle.pass_rows.specs.Resting.{IsIdle}
 
+-- a row: a pass of the list, one of the store, one of the domain in each slot, and what makes guests
 pub record RowView (L S D G : Type 0) : Type 0 where
   pub list : L
   pub store : S

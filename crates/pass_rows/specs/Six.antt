@@ -1,6 +1,7 @@
 -- Six rows.
 use Rattle.std.specs.Prelude.{List, [], ◌∷◌}
 
+-- the six rows of a connection
 pub record Six (R : Type 0) : Type 0 where
   pub first : R
   pub second : R

@@ -36,6 +36,7 @@ module _ {W : Type 0} (serves : Procedure → Bool) (Called : Who → Request �
     pub rest : RunsAll serves Called last others end
     pub apart : AreApart (known first.at_hand.row) (known then.at_hand.row) (known later.at_hand.row) (known last.at_hand.row)
 
+  -- no two calls of a row rest on one mark
   abbrev pub CallsAreApart : Type 0
   CallsAreApart = (known : W → KnownRow) → ShowsOutcomes known Called → (start end : Activity W) (front between others : List Answer) (one other : Answer)
       → RunsAll serves Called start (front ++ one ∷ (between ++ other ∷ others)) end → RunApart known start end front between others one other
