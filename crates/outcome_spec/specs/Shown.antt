@@ -7,7 +7,7 @@ use Rattle.procedure_spec.specs.declared.table.Row.{Row}
 use Rattle.procedure_spec.specs.Procedures.{row_of}
 use Rattle.session_spec.specs.DefinitionText.{definition_in}
 use Rattle.session_spec.specs.Refused.{refusal}
-use Rattle.session_spec.specs.Served.{passed}
+use Rattle.session_spec.specs.Bounds.{passed}
 use Rattle.domain_requests.specs.declared.task.Parsed.{Parsed}
 use Rattle.virt_types.specs.declared.domain_def.DomainDef.{DomainDef}
 use Rattle.virt_types.specs.Name.{bad_place}
@@ -58,6 +58,7 @@ abbrev pub name_shown : List ℕ → Option ℕ → Option Refusal
 name_shown text None = None
 name_shown text (Some at) = Some (refusal code.InvalidArgument text)
 
+-- why a text is refused by what it says
 abbrev pub parse_shown : Result Parsed Refusal → Option Refusal
 parse_shown (Ok p) = None
 parse_shown (Err why) = Some why

@@ -11,7 +11,7 @@ use Rattle.procedure_spec.specs.Requests.{procedure_of}
 use Rattle.outcome_spec.specs.Shown.{IsShown, is_built, is_built_of_domain, number_shown, or_else, parse_shown, shown_by, text_shown}
 use Rattle.session_spec.specs.DefinitionText.{definition_in}
 use Rattle.session_spec.specs.Refused.{refusal}
-use Rattle.session_spec.specs.Served.{passed}
+use Rattle.session_spec.specs.Bounds.{passed}
 use Rattle.slot_holds.specs.declared.Hold.TheVariants as hold
 use Rattle.virt_types.specs.Memory.{FailsUnlessNoMemory}
 use Rattle.virt_types.specs.declared.call.Call.TheVariants as call

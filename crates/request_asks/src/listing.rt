@@ -1,6 +1,6 @@
 // Requests that list names.
 ghost use Rattle.std.specs.Prelude.{◌≡◌, []};
-ghost use Rattle.session_spec.specs.Served.{passed};
+ghost use Rattle.session_spec.specs.Bounds.{passed};
 ghost use Rattle.virt_types.specs.declared.request.Request.TheVariants as request;
 ghost use Rattle.request_asks.specs.Said.{IsSaid};
 

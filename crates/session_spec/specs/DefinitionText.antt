@@ -16,10 +16,12 @@ abbrev pub of_tree : Result DomainDef DefFault → Result DomainDef (List ℕ)
 of_tree (Ok def) = Ok def
 of_tree (Err bad) = Err bad.path
 
+-- the same of a text that was read as a tree, or not
 abbrev pub of_text : Result Tree TextFault → Result DomainDef (List ℕ)
 of_text (Ok tree) = of_tree (domain_read tree)
 of_text (Err bad) = Err (at_place bad.at)
 
+-- the same of a text
 abbrev pub definition_in : List ℕ → Result DomainDef (List ℕ)
 definition_in text = of_text (read_of text)
 

@@ -1,8 +1,6 @@
-//! What a session over a map of definitions answers, and what its whole course is: the definitions.
+//! What a session refuses and replies, and what its end says: the definitions.
 #![tactic(auto)]
 
 mod end;
-mod limits;
 
 pub use end::End;
-pub use limits::MOST_DEFINITIONS;

@@ -3,7 +3,7 @@ use Rattle.std.specs.Fmt.{signed_decimal}
 use Rattle.std.proofs.lemmas.Int.{to_z-of_z}
 use Rattle.domain_requests.specs.Requests.{Fails}
 use Rattle.session_spec.specs.Refused.{refusal}
-use Rattle.session_spec.specs.Served.{passed}
+use Rattle.session_spec.specs.Bounds.{passed}
 use Rattle.virt_types.specs.declared.refusal.RefusalCode.TheVariants as code
 use Rattle.virt_types.specs.declared.request.Request.TheVariants as request
 use Rattle.request_asks.specs.Said.{IsSaid}
