@@ -6,5 +6,6 @@ pub mod First
 pub mod Serving
 pub mod Demo
 pub mod Printing
+pub mod Checks
 pub mod Offline
 pub mod Top

@@ -2,6 +2,7 @@
 #![tactic(auto)]
 
 mod at_once;
+mod checking;
 mod connection;
 mod demo;
 mod first;
@@ -33,7 +34,7 @@ fn main(rt: HostRuntime) -> ExitCode {
     match SystemWords::new(&rt) {
         Ok(random) => {
             let mut world = Process::new(&rt, &rt, random);
-            if let Some(status) = offline(words.as_slice(), &mut world) {
+            if let Some(status) = offline(rt.alloc(), words.as_slice(), &mut world) {
                 return ExitCode::from(status);
             }
             ExitCode::from(virtd(&rt, rt.alloc(), words.as_slice(), &mut world))

@@ -77,6 +77,13 @@ fn word_of(kind: BookKind) -> &'static str {
     }
 }
 
+/// A file of the store is damaged.
+pub(crate) fn say_damaged<W: World>(alloc: Global, world: &mut W, file: &str)
+    ensures { W.given world.new ≡ W.given world.old }
+{
+    say_line(world, format!(in alloc; "virtd: damaged {file}"));
+}
+
 /// Why a daemon is not opened.
 pub(crate) fn say_fault<W: World>(alloc: Global, world: &mut W, fault: &OrNoMemory<DriverFault>)
     ensures { W.given world.new ≡ W.given world.old }
@@ -86,8 +93,7 @@ pub(crate) fn say_fault<W: World>(alloc: Global, world: &mut W, fault: &OrNoMemo
         OrNoMemory::Fault(DriverFault::NotADefinition { file })
         | OrNoMemory::Fault(DriverFault::BadText { file })
         | OrNoMemory::Fault(DriverFault::TooMany { file }) => {
-            let file = file.as_str();
-            say_line(world, format!(in alloc; "virtd: damaged {file}"));
+            say_damaged(alloc, world, file.as_str());
         }
         OrNoMemory::Fault(DriverFault::TwoOfOneName { kind, one: _, two }) => {
             let word = word_of(*kind);

@@ -1,4 +1,5 @@
 // The program over a world in memory.
+mod checks;
 mod directories;
 mod faults;
 mod hex;

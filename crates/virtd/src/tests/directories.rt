@@ -9,20 +9,23 @@ use std::sync::Wait;
 use std::test::Fail;
 use virt_types::{NoMemory, Text};
 
-const FIRST: &str = "domain-01010101-0101-0101-0101-010101010101.def";
+pub(super) const FIRST: &str = "domain-01010101-0101-0101-0101-010101010101.def";
 
-const SECOND: &str = "domain-02020202-0202-0202-0202-020202020202.def";
+pub(super) const SECOND: &str = "domain-02020202-0202-0202-0202-020202020202.def";
 
-const STATUS: &str = "run-01010101-0101-0101-0101-010101010101.sta";
+pub(super) const STATUS: &str = "run-01010101-0101-0101-0101-010101010101.sta";
+
+/// What a status file says of a boot of `b` that was live.
+pub(super) const RAN: &str = "run 1 boot=7 state=1 op=0 phase=0 name=b\n";
 
 /// Definitions of `b`, which is started with the daemon, and of `a` and another `b`, which are not.
-const B: &str = "def 2 autostart=yes name=b
+pub(super) const B: &str = "def 2 autostart=yes name=b
 title=
 length=135
 <domain type='qemu'><name>b</name><uuid>01010101-0101-0101-0101-010101010101</uuid>\
 <memory>1</memory><os><type>hvm</type></os></domain>";
 
-const A: &str = "def 2 autostart=no name=a
+pub(super) const A: &str = "def 2 autostart=no name=a
 title=
 length=135
 <domain type='qemu'><name>a</name><uuid>02020202-0202-0202-0202-020202020202</uuid>\
@@ -72,12 +75,26 @@ fn put(alloc: Global, files: &mut MemFiles, name: &str, content: &str) -> Result
     Err(NoMemory)
 }
 
-fn directory(alloc: Global, rows: &[(&'static str, &'static str)]) -> Result<MemFiles, NoMemory> {
+/// Files with these names and contents.
+pub(super) fn directory(
+    alloc: Global,
+    rows: &[(&'static str, &'static str)],
+) -> Result<MemFiles, NoMemory> {
     let mut files = MemFiles::new(alloc);
     for (name, content) in rows {
         put(alloc, &mut files, name, content)?;
     }
     Ok(files)
+}
+
+/// No files, of which the call of this number fails.
+pub(super) fn failing_at(alloc: Global, number: u64) -> Result<MemFiles, AllocError> {
+    let mut failing = Vec::new(alloc);
+    failing.push(FailingCall {
+        number,
+        effect: Effect::Nothing,
+    })?;
+    Ok(MemFiles::new(alloc).failing(failing))
 }
 
 fn serve<R: Abort + Wait + Send + Sync>(
@@ -144,10 +161,7 @@ fn a_restart_has_what_was_defined(rt: HostRuntime) -> Result<(), Fail> {
 #[test]
 fn what_ran_is_said(rt: HostRuntime) -> Result<(), Fail> {
     let alloc = rt.alloc();
-    let files = directory(
-        alloc,
-        &[(STATUS, "run 1 boot=7 state=1 op=0 phase=0 name=b\n")],
-    )?;
+    let files = directory(alloc, &[(STATUS, RAN)])?;
     let shown = stdio(&rt, alloc, files, &[])?;
     check(&rt, &shown, 0, "was running b boot 7\n");
     Ok(())
@@ -212,13 +226,7 @@ fn two_files_of_one_name_are_damaged(rt: HostRuntime) -> Result<(), Fail> {
 fn calls_that_fail_are_the_store(rt: HostRuntime) -> Result<(), Fail> {
     let alloc = rt.alloc();
     for number in [1, 2] {
-        let mut failing = Vec::new(alloc);
-        failing.push(FailingCall {
-            number,
-            effect: Effect::Nothing,
-        })?;
-        let files = directory(alloc, &[])?.failing(failing);
-        let shown = stdio(&rt, alloc, files, &[OPEN])?;
+        let shown = stdio(&rt, alloc, failing_at(alloc, number)?, &[OPEN])?;
         check(&rt, &shown, 4, "virtd: store\n");
         assert!(rt; shown.output.is_none());
     }

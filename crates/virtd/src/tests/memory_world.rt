@@ -270,7 +270,7 @@ pub(super) fn run_over<H: Wait + Copy + Send + Sync>(
         closed: HandedOver::none(),
         kept: HandedOver::none(),
     };
-    let status = match offline(given.as_slice(), &mut world) {
+    let status = match offline(alloc, given.as_slice(), &mut world) {
         Some(status) => status,
         None => virtd(&rt, alloc, given.as_slice(), &mut world),
     };

@@ -37,6 +37,8 @@ fn other_words_are_usage(rt: HostRuntime) -> Result<(), Fail> {
     check(&rt, alloc, &["stdio", "-d"])?;
     check(&rt, alloc, &["stdio", "d", "e"])?;
     check(&rt, alloc, &["check"])?;
+    check(&rt, alloc, &["check", "-d"])?;
+    check(&rt, alloc, &["check", "d", "e"])?;
     Ok(())
 }
 
