@@ -37,6 +37,7 @@ use Rattle.pass_rows.specs.contracts.row.RowOf
 use Rattle.row_desk.proofs.maker.MakerOf.TheSendSync as maker
 use Rattle.row_desk.specs.contracts.maker.MakerOf
 use Rattle.row_desk.specs.contracts.maker.MakerOfMaker.TheImpl as maker_of
+use Rattle.row_desk.specs.declared.maker.Maker as making
 use Rattle.std.proofs.alloc.Global.TheSendSync as global
 use Rattle.std.proofs.Crossing.{Vec-sync}
 use Rattle.std.proofs.option.Option.TheSendSync as option
@@ -45,6 +46,7 @@ use Rattle.std.specs.contracts.collections.LinkedList
 use Rattle.std.specs.contracts.impls.GlobalAllocator.TheImpl as heap
 use Rattle.std.specs.contracts.option.Option
 use Rattle.turn_cell.proofs.cell.TurnCell.TheSendSync as cell
+use Rattle.turn_cell.specs.declared.kept.Kept as kept
 use Rattle.virt_types.proofs.list.ListOf.TheSendSync as list_of
 use Rattle.virt_types.proofs.request.Request.TheSendSync as request
 use Rattle.virt_types.proofs.status.Status.TheSendSync as status
@@ -67,20 +69,28 @@ module _ (F K G M E Z : RattleType) (f : files.Ghosts F.Denot) (k : opening.Ghos
   abbrev Listed : RattleType → RattleType
   Listed T = LinkedList.the_row T Global.the_row heap.ghosts
 
+  -- what the cell of the store keeps, and that of a domain
+  abbrev stores : kept.Ghosts Storing.Denot StoreBase.the_row.Denot StoreMark.the_row.Denot unit.Denot
+  stores = storing.ghosts F K f storing.no_dict k storing.no_dict
+
+  abbrev turns : kept.Ghosts Celled.Denot Base.the_row.Denot (Mark.the_row u64).Denot Share.the_row.Denot
+  turns = domain.ghosts M E Z m domain.no_dict e domain.no_dict z domain.no_dict domain.no_dict domain.no_dict domain.no_dict
+
   keeper_send : IsSend Storing
   keeper_send = keeper.the_send F K f k sf
 
   pub row_send : IsSend (RowOf.the_row ObjectList.the_row Storing Celled Making (Listed (Option.the_row Entry.the_row)) ListMark.the_row (Listed u64) StoreBase.the_row StoreMark.the_row unit Base.the_row (Mark.the_row u64) Share.the_row
-      listing.ghosts (storing.ghosts F K f storing.no_dict k storing.no_dict) (domain.ghosts M E Z m domain.no_dict e domain.no_dict z domain.no_dict domain.no_dict domain.no_dict domain.no_dict))
-  row_send = row.the_send ObjectList.the_row Storing Celled Making _ _ _ _ _ _ _ _ _ _ _ _ object_list.the_send keeper_send (cell_send M E Z sm se sz) (maker.the_send G M E Z sg)
+      listing.ghosts stores turns)
+  row_send = row.the_send ObjectList.the_row Storing Celled Making (Listed (Option.the_row Entry.the_row)) ListMark.the_row (Listed u64) StoreBase.the_row StoreMark.the_row unit Base.the_row (Mark.the_row u64) Share.the_row
+      listing.ghosts stores turns object_list.the_send keeper_send (cell_send M E Z sm se sz) (maker.the_send G M E Z sg)
 
-  abbrev makes : _
+  abbrev makes : making.Ghosts Making.Denot M.Denot E.Denot Z.Denot
   makes = maker_of.ghosts G M E Z g maker_of.no_dict m maker_of.no_dict e maker_of.no_dict z maker_of.no_dict maker_of.no_dict maker_of.no_dict maker_of.no_dict
 
   cells_field_sync : IsSync (Cells.the_field F K M E Z f k m e z).row
   cells_field_sync = struct_sync (struct.shape (Cells.the_type F K M E Z f k m e z)) (
-    cell.the_sync ObjectList.the_row _ _ _ _ object_list.the_send,
-    (cell.the_sync Storing _ _ _ _ keeper_send, (Vec-sync (DomainObj.the_row M E Z m e z) (object_sync M E Z m e z sm se sz), tt)),
+    cell.the_sync ObjectList.the_row (Listed (Option.the_row Entry.the_row)) ListMark.the_row (Listed u64) listing.ghosts object_list.the_send,
+    (cell.the_sync Storing StoreBase.the_row StoreMark.the_row unit stores keeper_send, (Vec-sync (DomainObj.the_row M E Z m e z) (object_sync M E Z m e z sm se sz), tt)),
   )
 
   pub driver_sync : IsSync (Driver.the_row F K Making M E Z f k makes m e z)
