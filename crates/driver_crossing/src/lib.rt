@@ -1,0 +1,28 @@
+//! What of a driver may go to another thread, and what threads may share. Its types hold trees of snapshots, which reach
+//! themselves, so this is shown type by type here, and not anew wherever a driver meets threads.
+#![tactic(auto)]
+
+use def_keeper::Opening;
+use driver::Driver;
+use driver_cells::Row;
+use files_disk::Files;
+use monitor_link::Guests;
+use row_desk::MakerOf;
+
+fn crosses<T: Send>() {}
+
+fn is_shared<T: Sync>() {}
+
+/// A row may go to another thread, where the files and the maker of guests may. It does nothing.
+pub fn row_crosses<F: Files + Drop + Send, K: Opening + Send + Sync, G: Guests + Drop + Send>() {
+    crosses::<Row<F, K, G::M, G::E, G::Z, MakerOf<G>>>();
+}
+
+/// Threads may share a driver, where the files and the maker of guests may go to another thread. It does nothing.
+pub fn driver_is_shared<
+    F: Files + Drop + Send,
+    K: Opening + Send + Sync,
+    G: Guests + Drop + Send,
+>() {
+    is_shared::<Driver<F, K, MakerOf<G>>>();
+}
