@@ -11,7 +11,7 @@ use store_check::{Checked, check_store, status_of};
 use virt_types::{Fault, Text};
 
 // Says which file is damaged, if one is.
-fn say_damage<W: World>(alloc: Global, world: &mut W, damaged: &Option<Text>)
+fn say_first_damaged<W: World>(alloc: Global, world: &mut W, damaged: &Option<Text>)
     ensures { W.given world.new ≡ W.given world.old }
 {
     if let Some(file) = damaged {
@@ -28,7 +28,7 @@ fn report<W: World>(alloc: Global, world: &mut W, checked: &Result<Checked, Faul
         Ok(found) => {
             let put = print(world, found.text.as_bytes());
             if put.is_ok() {
-                say_damage(alloc, world, &found.damaged);
+                say_first_damaged(alloc, world, &found.damaged);
             }
             status_once_printed(world, code, put)
         }
