@@ -25,6 +25,8 @@ use Rattle.driver.specs.contracts.the_driver.Driver.TheInside as driver
 use Rattle.driver_cells.specs.contracts.cells.Cells
 use Rattle.driver_crossing.proofs.Shared.{room_sync}
 use Rattle.files_disk.specs.declared.files.Files as files
+use Rattle.held_tasks.proofs.counting.CountingMaker.TheSendSync as counting
+use Rattle.held_tasks.specs.contracts.counting.CountingMaker
 use Rattle.monitor_link.specs.declared.link.Ears as ears
 use Rattle.monitor_link.specs.declared.link.Guests as guests
 use Rattle.monitor_link.specs.declared.link.Killer as killer
@@ -65,6 +67,10 @@ module _ (F K G M E Z : RattleType) (f : files.Ghosts F.Denot) (k : opening.Ghos
   abbrev Making : RattleType
   Making = MakerOf.the_row G M E Z
 
+  -- what makes guests for a row, with its count
+  abbrev Counting : RattleType
+  Counting = CountingMaker.the_row Making
+
   -- lists that marks of the list of domains speak of
   abbrev Listed : RattleType → RattleType
   Listed T = LinkedList.the_row T Global.the_row heap.ghosts
@@ -79,10 +85,10 @@ module _ (F K G M E Z : RattleType) (f : files.Ghosts F.Denot) (k : opening.Ghos
   keeper_send : IsSend Storing
   keeper_send = keeper.the_send F K f k sf
 
-  pub row_send : IsSend (RowOf.the_row ObjectList.the_row Storing Celled Making (Listed (Option.the_row Entry.the_row)) ListMark.the_row (Listed u64) StoreBase.the_row StoreMark.the_row unit Base.the_row (Mark.the_row u64) Share.the_row
+  pub row_send : IsSend (RowOf.the_row ObjectList.the_row Storing Celled Counting (Listed (Option.the_row Entry.the_row)) ListMark.the_row (Listed u64) StoreBase.the_row StoreMark.the_row unit Base.the_row (Mark.the_row u64) Share.the_row
       listing.ghosts stores turns)
-  row_send = row.the_send ObjectList.the_row Storing Celled Making (Listed (Option.the_row Entry.the_row)) ListMark.the_row (Listed u64) StoreBase.the_row StoreMark.the_row unit Base.the_row (Mark.the_row u64) Share.the_row
-      listing.ghosts stores turns object_list.the_send keeper_send (cell_send M E Z sm se sz) (maker.the_send G M E Z sg)
+  row_send = row.the_send ObjectList.the_row Storing Celled Counting (Listed (Option.the_row Entry.the_row)) ListMark.the_row (Listed u64) StoreBase.the_row StoreMark.the_row unit Base.the_row (Mark.the_row u64) Share.the_row
+      listing.ghosts stores turns object_list.the_send keeper_send (cell_send M E Z sm se sz) (counting.the_send Making (maker.the_send G M E Z sg))
 
   abbrev makes : making.Ghosts Making.Denot M.Denot E.Denot Z.Denot
   makes = maker_of.ghosts G M E Z g maker_of.no_dict m maker_of.no_dict e maker_of.no_dict z maker_of.no_dict maker_of.no_dict maker_of.no_dict maker_of.no_dict

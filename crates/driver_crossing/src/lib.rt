@@ -3,8 +3,7 @@
 #![tactic(auto)]
 
 use def_keeper::Opening;
-use driver::Driver;
-use driver_cells::Row;
+use driver::{Driver, Row};
 use files_disk::Files;
 use monitor_link::Guests;
 use row_desk::MakerOf;
