@@ -65,10 +65,10 @@ module _ {G : Type 0} where
   module _ {F E : Type 0} (told : F → Told) (maker : G → ℕ) (ends faults : E → ℕ) (unheard : E → Option (List GuestEvent)) (store_faults : F → ℕ) where
     -- what the outcome names is what the reply rests on
     pub answers : (who : Who) (r : Request) (words : List ℕ) (a : Asked) (before had after : DriverRow G) (o : Outcome) → had ≡ record before { store = had.store } → IsFound before.store had.store words r a
-        → Leaves told store_faults (restored_from r) a before.store had.store → CameTo told maker ends faults unheard who a had after o → HasGone (known_row had) (known_row after) → HasOutcome (known_row before) (known_row after) r o
+        → Leaves told store_faults (restored_from r) a before.store had.store → CameTo told maker ends faults unheard store_faults who a had after o → HasGone (known_row had) (known_row after) → HasOutcome (known_row before) (known_row after) r o
     answers who r words (asked.Task hold t) before had after o row found leaves came gone =
         tasks_answer (known_row before) (known_row had) (known_row after) r (call_of hold) t o (finds before had words r hold t row found)
-        (outcome told maker ends faults unheard who (call_of hold) t had after o came) gone
+        (outcome told store_faults maker ends faults unheard who (call_of hold) t had after o came) gone
     answers who r words (asked.List listing) before had after o row found leaves came gone =
         subst (λ (b : DriverRow G). HasOutcome (known_row b) (known_row after) r o)
         (unchanged told store_faults before had r (asked.List listing) row (reads_no_image (asked.List listing) r found.asks) leaves)
@@ -89,10 +89,10 @@ module _ {G : Type 0} where
 
     -- a request that reads has read what the row has seen when it comes back
     pub reads : (who : Who) (r : Request) (words : List ℕ) (a : Asked) (before had after : DriverRow G) (o : Outcome) → had ≡ record before { store = had.store } → IsFound before.store had.store words r a
-        → CameTo told maker ends faults unheard who a had after o → ReadsNow (known_row after) r o
+        → CameTo told maker ends faults unheard store_faults who a had after o → ReadsNow (known_row after) r o
     reads who r words (asked.Task hold t) before had after o row found came =
         queries_now (known_row before) (known_row had) (known_row after) r (call_of hold) t o (finds before had words r hold t row found)
-        (now told maker ends faults unheard who (call_of hold) t had after o came)
+        (now told store_faults maker ends faults unheard who (call_of hold) t had after o came)
     reads who r words (asked.List listing) before had after o row found came =
         subst (λ (q : Request). ReadsNow (known_row after) q o) (sym (asks_for listing r found.asks)) came.now
     reads who r words asked.Connection before had after o row found came = now_nowhere (known_row after) r o (ap (λ (x : Outcome). x.cell) came.is)

@@ -22,7 +22,7 @@ module _ {G : Type 0} where
 
   module _ {F E : Type 0} (told : F → Told) (maker : G → ℕ) (ends faults : E → ℕ) (unheard : E → Option (List GuestEvent)) (store_faults : F → ℕ) where
     pub called : (who : Who) (r : Request) (words : List ℕ) (a : Asked) (before had after : DriverRow G) (o : Outcome) (p q : StorePass) → had ≡ record before { store = had.store } → before.store ≡ p → had.store ≡ q
-        → IsFound p q words r a → Leaves told store_faults (restored_from r) a p q → CameTo told maker ends faults unheard who a had after o → HasCalled told maker ends faults unheard store_faults who r words before after o
+        → IsFound p q words r a → Leaves told store_faults (restored_from r) a p q → CameTo told maker ends faults unheard store_faults who a had after o → HasCalled told maker ends faults unheard store_faults who r words before after o
     called who r words a before had after o p q row was is found leaves came = record {
       asked = a;
       had = had;
@@ -34,7 +34,7 @@ module _ {G : Type 0} where
 
     -- the outcome rests on what it names
     pub outcome_of : (who : Who) (r : Request) (words : List ℕ) (a : Asked) (before had after : DriverRow G) (o : Outcome) (p q : StorePass) → had ≡ record before { store = had.store } → before.store ≡ p → had.store ≡ q
-        → IsFound p q words r a → Leaves told store_faults (restored_from r) a p q → CameTo told maker ends faults unheard who a had after o → HasGone (known_row had) (known_row after) → HasOutcome (known_row before) (known_row after) r o
+        → IsFound p q words r a → Leaves told store_faults (restored_from r) a p q → CameTo told maker ends faults unheard store_faults who a had after o → HasGone (known_row had) (known_row after) → HasOutcome (known_row before) (known_row after) r o
     outcome_of who r words a before had after o p q row was is found leaves came gone =
         answers told maker ends faults unheard store_faults who r words a before had after o row
         (subst (λ (x : StorePass × StorePass). IsFound x.0 x.1 words r a) (λ i. (sym was i, sym is i)) found)
@@ -42,7 +42,7 @@ module _ {G : Type 0} where
 
     -- and a read is of what the row has seen
     pub now_of : (who : Who) (r : Request) (words : List ℕ) (a : Asked) (before had after : DriverRow G) (o : Outcome) (p q : StorePass) → had ≡ record before { store = had.store } → before.store ≡ p → had.store ≡ q
-        → IsFound p q words r a → CameTo told maker ends faults unheard who a had after o → ReadsNow (known_row after) r o
+        → IsFound p q words r a → CameTo told maker ends faults unheard store_faults who a had after o → ReadsNow (known_row after) r o
     now_of who r words a before had after o p q row was is found came =
         reads told maker ends faults unheard store_faults who r words a before had after o row
         (subst (λ (x : StorePass × StorePass). IsFound x.0 x.1 words r a) (λ i. (sym was i, sym is i)) found) came

@@ -62,14 +62,14 @@ module _ {G : Type 0} where
 
   module _ {F E : Type 0} (told : F → Told) (maker : G → ℕ) (ends faults : E → ℕ) (unheard : E → Option (List GuestEvent)) where
     -- what was done of what was asked
-    abbrev pub CameTo : Who → Asked → DriverRow G → DriverRow G → Outcome → Type 0
-    CameTo who (asked.Task hold t) before after o = HasServedHeld told maker ends faults unheard who (call_of hold) t before after o
-    CameTo who (asked.List listing) before after o = HasListed listing before after o
-    CameTo who asked.Connection before after o = IsAnswered (of_nobody (reply.Ok value.Nothing)) before after o
-    CameTo who (asked.Refused why) before after o = IsAnswered (of_nobody (reply.No why)) before after o
-    CameTo who (asked.NotRestored why front) before after o = IsAnswered (of_store front (reply.No why)) before after o
-    CameTo who asked.NoMemory before after o = IsAnswered (of_nobody no_memory_reply) before after o
-    CameTo who asked.Spent before after o = HasRunOut before after o
+    abbrev pub CameTo : (F → ℕ) → Who → Asked → DriverRow G → DriverRow G → Outcome → Type 0
+    CameTo store_faults who (asked.Task hold t) before after o = HasServedHeld told store_faults maker ends faults unheard who (call_of hold) t before after o
+    CameTo store_faults who (asked.List listing) before after o = HasListed listing before after o
+    CameTo store_faults who asked.Connection before after o = IsAnswered (of_nobody (reply.Ok value.Nothing)) before after o
+    CameTo store_faults who (asked.Refused why) before after o = IsAnswered (of_nobody (reply.No why)) before after o
+    CameTo store_faults who (asked.NotRestored why front) before after o = IsAnswered (of_store front (reply.No why)) before after o
+    CameTo store_faults who asked.NoMemory before after o = IsAnswered (of_nobody no_memory_reply) before after o
+    CameTo store_faults who asked.Spent before after o = HasRunOut before after o
 
     -- with these words drawn for what a text lacks, it was found out what the request asks, for which at most the row's pass of
     -- the store took a turn; and then that was done
@@ -79,4 +79,4 @@ module _ {G : Type 0} where
       pub row : had ≡ record before { store = had.store }
       pub found : IsFound before.store had.store words r asked
       pub leaves : Leaves told store_faults (restored_from r) asked before.store had.store
-      pub came : CameTo who asked had after o
+      pub came : CameTo store_faults who asked had after o

@@ -3,7 +3,10 @@
 #![tactic(auto)]
 
 mod answers;
+mod row_list;
 mod serving;
 mod the_driver;
 
+pub use held_tasks::{Row, take_unkept};
+pub use row_list::RowList;
 pub use the_driver::Driver;

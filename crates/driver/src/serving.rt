@@ -52,7 +52,7 @@ fn serve_asked<R: Wait, G: Maker, F: Files + Drop, K: Opening>(
 ) -> (Row<F, K, G::M, G::E, G::Z, G>, Outcome)
     requires own { IsOf cells.now.list cells.now.store cells.now.domains.items row }
     requires ready { IsReadyRow row }
-    ensures came { CameTo F.told G.faults G.E.ends G.E.faults G.E.unheard who asked row result.0 result.1 }
+    ensures came { CameTo F.told G.faults G.E.ends G.E.faults G.E.unheard F.faults who asked row result.0 result.1 }
     ensures gone { HasGone (known_row row) (known_row result.0) }
     ensures parts { KeepsParts row result.0 }
     ensures own { IsOf cells.now.list cells.now.store cells.now.domains.items result.0 }

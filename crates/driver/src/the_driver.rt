@@ -12,13 +12,12 @@ ghost use Rattle.virt_types.specs.Drawn.{IsMadeOfDrawn};
 ghost use Rattle.driver.specs.Called.{HasCalled};
 ghost use Rattle.driver.specs.Cells.{BecomesMany, IsIdleRow, IsRowOf};
 
+use crate::row_list::RowList;
 use crate::serving::serve;
 use def_keeper::Opening;
-use driver_close::{
-    Books, DriverFault, HistoryRoom, Opened, RowList, close_cells, more, open_cells,
-};
+use driver_close::{Books, DriverFault, HistoryRoom, Opened, close_cells, more, open_cells};
 use files_disk::Files;
-use held_tasks::{Cells, Maker, MakerOf, Outcome, Row};
+use held_tasks::{Cells, CountingMaker, Maker, MakerOf, Outcome, Row};
 use monitor_link::Guests;
 use std::alloc::Global;
 use std::marker::Model;
@@ -62,13 +61,16 @@ impl<F: Files + Drop, K: Opening, G: Maker> Driver<F, K, G> {
         ensures ok { IfOk result (λ made. HasCells F.told files made.1 made.0.starts made.0.statuses) }
         ensures own { IfOk result (λ made. IsRowOf made.0 made.1) }
         ensures ready { IfOk result (λ made. IsReadyRow made.1) }
-        ensures maker { IfOk result (λ made. made.1.guests ≡ guests) }
+        ensures maker { IfOk result (λ made. made.1.guests ≡ record { maker = guests; unkept = 0 }) }
         ensures err { IfErr result (λ e. IsUnopened F.told F.faults K.sound files e.2 e.0) }
         ensures back { IfErr result (λ e. e.1 ≡ guests) }
     {
-        let opened = match open_cells(alloc, files, guests) {
+        let opened = match open_cells(alloc, files, CountingMaker::new(guests)) {
             Ok(opened) => opened,
-            Err(refused) => return Err(refused),
+            Err((files, guests, fault)) => {
+                let CountingMaker { maker, unkept: _ } = guests;
+                return Err((files, maker, fault));
+            }
         };
         let Opened {
             cells,
@@ -104,6 +106,10 @@ impl<F: Files + Drop, K: Opening, G: Maker> Driver<F, K, G> {
     /// Serves a request by a row: a domain's calls and reads, lists, and what a connection asks. The outcome says what the
     /// reply rests on. Its texts are filled in with words from `random`. It may wait for the turns of others, for a guest and
     /// for the store; while it asks one of these, it has no turn of a domain.
+    ///
+    /// Where a call began or ended a boot, or changed the state, the operation or the phase of a domain whose boot is live, the
+    /// status file of the domain is written or removed before the row comes back. A fault there is counted in the row
+    /// (`take_unkept`); the outcome does not depend on it.
     ///
     /// Networks, pools and registrations are not served: they are refused (206).
     pub fn call<R: Wait, D: Random>(
@@ -148,7 +154,7 @@ impl<F: Files + Drop, K: Opening, G: Guests + Drop> Driver<F, K, MakerOf<G>> {
         ensures ready { IfOk result (λ all. All IsReadyRow all.list) }
         ensures idle { IfOk result (λ all. IsIdleRow F.told row → All (IsIdleRow F.told) all.list) }
         ensures passes { IfErr result (λ e. KeepsPasses row e.0) }
-        ensures failed { IfErr result (λ e. G.faults row.guests.guests ≤ G.faults e.0.guests.guests) }
+        ensures failed { IfErr result (λ e. G.faults row.guests.maker.guests ≤ G.faults e.0.guests.maker.guests) }
     {
         more(self.alloc, &self.cells, row, rows)
     }

@@ -8,6 +8,8 @@ mod on_domain;
 mod played;
 mod rising;
 mod story;
+#[cfg(test)]
+mod tests;
 mod texts;
 mod told;
 mod words;

@@ -3,8 +3,9 @@ ghost use Rattle.std.specs.Prelude.{◌≡◌};
 ghost use Rattle.def_keeper.specs.Opened.{IsSureAt};
 
 use def_keeper::Opening;
-use driver::Driver;
-use driver_cells::Row;
+#[cfg(test)]
+use driver::take_unkept;
+use driver::{Driver, Row};
 use files_disk::Files;
 use outcome_spec::Outcome;
 use row_desk::Maker;
@@ -53,5 +54,15 @@ impl<F: Files + Drop, K: Opening, G: Maker + Drop> PlayedDriver<F, K, G> {
         let PlayedDriver { driver, row } = self;
         let (row, outcome) = driver.call(rt, row, who, request, random);
         (PlayedDriver { driver, row }, outcome)
+    }
+}
+
+#[cfg(test)]
+impl<F: Files + Drop, K: Opening, G: Maker> PlayedDriver<F, K, G> {
+    /// Takes the count of the statuses of boots that the calls by the row could not keep.
+    pub(crate) fn take_unkept(self) -> (PlayedDriver<F, K, G>, u64) {
+        let PlayedDriver { driver, row } = self;
+        let (row, unkept) = take_unkept(row);
+        (PlayedDriver { driver, row }, unkept)
     }
 }

@@ -1,4 +1,6 @@
 pub mod Lists
+pub mod Reading
+pub mod Statuses
 pub mod Rows
 pub mod Results
 pub mod Running

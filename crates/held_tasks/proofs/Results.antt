@@ -22,12 +22,14 @@ use Rattle.virt_types.specs.declared.caller.CellName.TheVariants as cell
 use Rattle.virt_types.specs.declared.caller.Front.{Front}
 use Rattle.virt_types.specs.declared.memory.OrNoMemory.{OrNoMemory}
 use Rattle.virt_types.specs.declared.memory.OrNoMemory.TheVariants as or
+use Rattle.held_tasks.specs.Counting.{DriverRow}
 use Rattle.held_tasks.specs.Course.{HasServedHeld, IsServed, IsServedIn, RestsAt}
-use Rattle.driver_cells.specs.Known.{DriverRow, known, known_row}
+use Rattle.driver_cells.specs.Known.{known, known_row}
 use Rattle.driver_cells.proofs.Stopping.{no_room, ran_out, stopped}
 use Rattle.held_tasks.specs.Outcomes.{HasTaskOutcome, IsGivenIn, IsRefused, TaskRestsOn, is_query}
 use Rattle.held_tasks.proofs.Lists.{stands_in}
 use Rattle.held_tasks.proofs.Rows.{let_go_later}
+use Rattle.held_tasks.proofs.Statuses.{answers_over, now_over}
 
 -- ---- marks of the list
 
@@ -121,26 +123,27 @@ module _ {G : Type 0} where
   pass_in : (row : DriverRow G) (first : List DomainPass) (one : DomainPass) (rest : List DomainPass) (slot : ℕ) → length first ≡ slot → row.domains ≡ first ++ one ∷ rest → pass_of (known_row row) slot ≡ Some (known one)
   pass_in row first one rest slot at is = ap (λ (l : List DomainPass). slice_get (map known l) slot) is ∙ stands_in known first one rest slot at
 
-  module _ {F E : Type 0} (told : F → Told) (maker : G → ℕ) (ends faults : E → ℕ) (unheard : E → Option (List GuestEvent)) where
-    served_outcome : (who : Who) (held : ListCall) (t : Task) (before after : DriverRow G) (o : Outcome) → IsServed told maker ends faults unheard who held t before after o → HasTaskOutcome (known_row before) (known_row after) held t o
+  module _ {F E : Type 0} (told : F → Told) (stores : F → ℕ) (maker : G → ℕ) (ends faults : E → ℕ) (unheard : E → Option (List GuestEvent)) where
+    served_outcome : (who : Who) (held : ListCall) (t : Task) (before after : DriverRow G) (o : Outcome) → IsServed told stores maker ends faults unheard who held t before after o → HasTaskOutcome (known_row before) (known_row after) held t o
     served_outcome who held t before after o s =
-        let h : IsServedIn told maker ends faults unheard who t s.slot s.had after o = s.serves in
+        let h : IsServedIn told stores maker ends faults unheard who t s.slot s.had after o = s.serves in
         let on : IsLater level (known s.had.list) (known after.list) = let_go_later s.slot h.seen.front h.seen.occupied s.had.list after.list h.lets_go in
         let was : before.domains ≡ h.domains.first ++ h.old ∷ h.domains.rest = sym (ap (λ (r : DriverRow G). r.domains) s.rest) ∙ h.domains.was in
         answered before after held t s.slot h.old h.new h.place o
         (slot_stays held s.slot before.list s.had.list after.list (slot_left held s.slot s.at before.list s.had.list s.holds) on)
-        (pass_in before h.domains.first h.old h.domains.rest s.slot h.domains.in_slot was) (pass_in after h.domains.first h.new h.domains.rest s.slot h.domains.in_slot h.domains.is) h.rests h.serves.tasked.answers
+        (pass_in before h.domains.first h.old h.domains.rest s.slot h.domains.in_slot was) (pass_in after h.domains.first h.new h.domains.rest s.slot h.domains.in_slot h.domains.is) h.rests
+        (answers_over t h.old h.first h.last h.new h.reports.was h.reports.is h.place o.reply h.reports.looks h.reports.looks_again h.serves.tasked.answers)
 
     -- the outcome rests on what it names
-    pub outcome : (who : Who) (held : ListCall) (t : Task) (before after : DriverRow G) (o : Outcome) → HasServedHeld told maker ends faults unheard who held t before after o → HasTaskOutcome (known_row before) (known_row after) held t o
+    pub outcome : (who : Who) (held : ListCall) (t : Task) (before after : DriverRow G) (o : Outcome) → HasServedHeld told stores maker ends faults unheard who held t before after o → HasTaskOutcome (known_row before) (known_row after) held t o
     outcome who held t before after o (inl s) = served_outcome who held t before after o s
     outcome who held t before after o (inr (inl u)) = unlisted_outcome before after held t o u.why u.holds u.tells u.name
     outcome who held t before after o (inr (inr out)) = inr (inl (ran_out (known_row after) o.reply (out_spent before after out.spent) out.tells))
 
     -- a query read what its pass has seen
-    pub now : (who : Who) (held : ListCall) (t : Task) (before after : DriverRow G) (o : Outcome) → HasServedHeld told maker ends faults unheard who held t before after o → IsNow (known_row after) (is_query t) o.cell o.front
+    pub now : (who : Who) (held : ListCall) (t : Task) (before after : DriverRow G) (o : Outcome) → HasServedHeld told stores maker ends faults unheard who held t before after o → IsNow (known_row after) (is_query t) o.cell o.front
     now who held t before after o (inl s) =
-        let h : IsServedIn told maker ends faults unheard who t s.slot s.had after o = s.serves in
-        task_now (known_row after) s.slot t (known h.new) h.place o (pass_in after h.domains.first h.new h.domains.rest s.slot h.domains.in_slot h.domains.is) h.rests h.serves.tasked.reads_now
+        let h : IsServedIn told stores maker ends faults unheard who t s.slot s.had after o = s.serves in
+        task_now (known_row after) s.slot t (known h.new) h.place o (pass_in after h.domains.first h.new h.domains.rest s.slot h.domains.in_slot h.domains.is) h.rests (now_over t h.last h.new h.reports.is h.place h.reports.looks_again h.serves.tasked.reads_now)
     now who held t before after o (inr (inl u)) = subst (λ (c : CellName). IsNow (known_row after) (is_query t) c o.front) (sym u.name) (at_no_domain (known_row after) (is_query t) o.front).0
     now who held t before after o (inr (inr out)) = subst (λ (c : CellName). IsNow (known_row after) (is_query t) c o.front) (sym out.name) (at_no_domain (known_row after) (is_query t) o.front).1

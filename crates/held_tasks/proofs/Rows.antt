@@ -20,12 +20,14 @@ use Rattle.row_desk.specs.Views.{StorePass}
 use Rattle.virt_types.specs.declared.ask.GuestEvent.{GuestEvent}
 use Rattle.virt_types.specs.declared.caller.Front.{Front}
 use Rattle.virt_types.specs.declared.memory.OrNoMemory.{OrNoMemory}
+use Rattle.held_tasks.specs.Counting.{DriverRow}
 use Rattle.held_tasks.specs.Course.{HasServedHeld, IsServedIn, ListGoes}
-use Rattle.driver_cells.specs.Known.{DriverRow, known, known_row}
+use Rattle.driver_cells.specs.Known.{known, known_row}
 use Rattle.driver_cells.specs.Parts.{KeepsParts, parts_of}
 use Rattle.driver_cells.specs.Ready.{HoldsNoSlot, IsReadyRow, KeepsNothing}
 use Rattle.list_holds.specs.Released.{LetsGo}
 use Rattle.held_tasks.proofs.Lists.{all_at, one_of, same_length, same_map}
+use Rattle.held_tasks.proofs.Statuses.{over_keeps, over_later, saw_first, saw_last, store_went}
 use Rattle.driver_cells.proofs.OfOutcomes.{level_stays}
 use Rattle.driver_cells.proofs.Going.{are_later, are_same}
 use Rattle.driver_cells.proofs.Parts.{parts_through}
@@ -150,35 +152,40 @@ module _ {G : Type 0} where
   out_ready before after (inl (spent, same)) ready = subst IsReadyRow (sym same) ready
   out_ready before after (inr is) ready = ready_by_list before after (inl (ap (λ (p : ListPassed). p.spent) (spent_now before after is))) (as_list before after (record before.list { spent = true }) is) ready
 
-  module _ {F E : Type 0} (told : F → Told) (maker : G → ℕ) (ends faults : E → ℕ) (unheard : E → Option (List GuestEvent)) where
-    served_gone : (who : Who) (t : Task) (slot : ℕ) (had after : DriverRow G) (o : Outcome) → IsServedIn told maker ends faults unheard who t slot had after o → HasGone (known_row had) (known_row after)
+  module _ {F E : Type 0} (told : F → Told) (stores : F → ℕ) (maker : G → ℕ) (ends faults : E → ℕ) (unheard : E → Option (List GuestEvent)) where
+    served_gone : (who : Who) (t : Task) (slot : ℕ) (had after : DriverRow G) (o : Outcome) → IsServedIn told stores maker ends faults unheard who t slot had after o → HasGone (known_row had) (known_row after)
     served_gone who t slot had after o h = record {
       list = let_go_later slot h.seen.front h.seen.occupied had.list after.list h.lets_go;
-      store = store_later told h.serves.report had.store after.store h.serves.served;
-      domains = are_later had.domains after.domains h.domains.first h.domains.rest h.old h.new h.domains.was h.domains.is h.serves.tasked.later;
+      store = later_through level level_stays (known had.store) (known h.mid) (known after.store) (store_later told h.serves.report had.store h.mid h.serves.served) (store_went h.reports).later;
+      domains = are_later had.domains after.domains h.domains.first h.domains.rest h.old h.new h.domains.was h.domains.is
+          (over_later h.old h.first h.last h.new (saw_first h.reports) h.serves.tasked.later (saw_last h.reports));
     }
 
-    served_of : (list store : TableId) (domains : List TableId) (who : Who) (t : Task) (slot : ℕ) (had after : DriverRow G) (o : Outcome) → IsServedIn told maker ends faults unheard who t slot had after o → IsOf list store domains had → IsOf list store domains after
+    served_of : (list store : TableId) (domains : List TableId) (who : Who) (t : Task) (slot : ℕ) (had after : DriverRow G) (o : Outcome) → IsServedIn told stores maker ends faults unheard who t slot had after o → IsOf list store domains had → IsOf list store domains after
     served_of list store domains who t slot had after o h own = record {
       list_is = let_go_cell slot h.seen.front h.seen.occupied had.list after.list h.lets_go ∙ own.list_is;
-      store_is = store_cell told h.serves.report had.store after.store h.serves.served ∙ own.store_is;
+      store_is = (store_went h.reports).cell ∙ (store_cell told h.serves.report had.store h.mid h.serves.served ∙ own.store_is);
       domains_are = ap (λ (l : List DomainPass). map cell_of l) h.domains.is
-          ∙ (same_map cell_of h.domains.first h.old h.new h.domains.rest h.serves.tasked.same.cell
+          ∙ (same_map cell_of h.domains.first h.old h.new h.domains.rest
+          ((saw_last h.reports).same.cell ∙ (h.serves.tasked.same.cell ∙ (saw_first h.reports).same.cell))
           ∙ (ap (λ (l : List DomainPass). map cell_of l) (sym h.domains.was) ∙ own.domains_are));
     }
 
-    served_parts : (who : Who) (t : Task) (slot : ℕ) (had after : DriverRow G) (o : Outcome) → IsServedIn told maker ends faults unheard who t slot had after o → KeepsParts had after
+    served_parts : (who : Who) (t : Task) (slot : ℕ) (had after : DriverRow G) (o : Outcome) → IsServedIn told stores maker ends faults unheard who t slot had after o → KeepsParts had after
     served_parts who t slot had after o h = record {
       list = let_go_parts slot h.seen.front h.seen.occupied had.list after.list h.lets_go;
-      store = store_parts told h.serves.report had.store after.store h.serves.served;
+      store = (store_went h.reports).parts ∙ store_parts told h.serves.report had.store h.mid h.serves.served;
       domains = ap (λ (l : List DomainPass). map parts_of l) h.domains.is
-          ∙ (same_map parts_of h.domains.first h.old h.new h.domains.rest h.serves.tasked.same.parts ∙ ap (λ (l : List DomainPass). map parts_of l) (sym h.domains.was));
+          ∙ (same_map parts_of h.domains.first h.old h.new h.domains.rest
+          ((saw_last h.reports).same.parts ∙ (h.serves.tasked.same.parts ∙ (saw_first h.reports).same.parts)) ∙ ap (λ (l : List DomainPass). map parts_of l) (sym h.domains.was));
     }
 
-    served_domains : (who : Who) (t : Task) (slot : ℕ) (had after : DriverRow G) (o : Outcome) → IsServedIn told maker ends faults unheard who t slot had after o → All KeepsNothing had.domains → All KeepsNothing after.domains
+    served_domains : (who : Who) (t : Task) (slot : ℕ) (had after : DriverRow G) (o : Outcome) → IsServedIn told stores maker ends faults unheard who t slot had after o → All KeepsNothing had.domains → All KeepsNothing after.domains
     served_domains who t slot had after o h all =
         let before : All KeepsNothing (h.domains.first ++ h.old ∷ h.domains.rest) = subst (λ (l : List DomainPass). All KeepsNothing l) h.domains.was all in
-        let new : KeepsNothing h.new = keeps_none h.old h.new h.serves.tasked.later.spent h.serves.tasked.keeps (one_of KeepsNothing h.domains.first h.old h.domains.rest before) in
+        let new : KeepsNothing h.new = keeps_none h.old h.new
+        (over_later h.old h.first h.last h.new (saw_first h.reports) h.serves.tasked.later (saw_last h.reports)).spent
+        (over_keeps h.old h.first h.last h.new (saw_first h.reports) h.serves.tasked.later (saw_last h.reports) h.serves.tasked.keeps) (one_of KeepsNothing h.domains.first h.old h.domains.rest before) in
         subst (λ (l : List DomainPass). All KeepsNothing l) (sym h.domains.is) (all_at KeepsNothing h.domains.first h.old h.new h.domains.rest before new)
 
     gone_on : (before had after : DriverRow G) → IsLater level (known before.list) (known had.list) → ListGoes before had → HasGone (known_row had) (known_row after) → HasGone (known_row before) (known_row after)
@@ -189,14 +196,14 @@ module _ {G : Type 0} where
     }
 
     -- the row went on
-    pub gone : (who : Who) (held : ListCall) (t : Task) (before after : DriverRow G) (o : Outcome) → HasServedHeld told maker ends faults unheard who held t before after o → HasGone (known_row before) (known_row after)
+    pub gone : (who : Who) (held : ListCall) (t : Task) (before after : DriverRow G) (o : Outcome) → HasServedHeld told stores maker ends faults unheard who held t before after o → HasGone (known_row before) (known_row after)
     gone who held t before after o (inl s) =
         gone_on before s.had after (held_later held (Ok s.slot) s.at before.list s.had.list s.holds) s.rest (served_gone who t s.slot s.had after o s.serves)
     gone who held t before after o (inr (inl u)) = goes_by_list before after (held_later held (Err u.why) o.front before.list after.list u.holds) u.rest
     gone who held t before after o (inr (inr out)) = out_gone before after out.spent
 
     -- it is of the same cells
-    pub is_of : (list store : TableId) (domains : List TableId) (who : Who) (held : ListCall) (t : Task) (before after : DriverRow G) (o : Outcome) → HasServedHeld told maker ends faults unheard who held t before after o
+    pub is_of : (list store : TableId) (domains : List TableId) (who : Who) (held : ListCall) (t : Task) (before after : DriverRow G) (o : Outcome) → HasServedHeld told stores maker ends faults unheard who held t before after o
         → IsOf list store domains before → IsOf list store domains after
     is_of list store domains who held t before after o (inl s) own =
         served_of list store domains who t s.slot s.had after o s.serves (of_by_list list store domains before s.had s.holds.asked.went.same.cell s.rest own)
@@ -204,18 +211,18 @@ module _ {G : Type 0} where
     is_of list store domains who held t before after o (inr (inr out)) own = out_of list store domains before after out.spent own
 
     -- its passes have the parts that they had
-    pub keeps_parts : (who : Who) (held : ListCall) (t : Task) (before after : DriverRow G) (o : Outcome) → HasServedHeld told maker ends faults unheard who held t before after o → KeepsParts before after
+    pub keeps_parts : (who : Who) (held : ListCall) (t : Task) (before after : DriverRow G) (o : Outcome) → HasServedHeld told stores maker ends faults unheard who held t before after o → KeepsParts before after
     keeps_parts who held t before after o (inl s) =
         parts_through before s.had after (parts_by_list before s.had s.holds.asked.went.same.parts s.rest) (served_parts who t s.slot s.had after o s.serves)
     keeps_parts who held t before after o (inr (inl u)) = parts_by_list before after u.holds.asked.went.same.parts u.rest
     keeps_parts who held t before after o (inr (inr out)) = out_parts before after out.spent
 
-    served_slots : (who : Who) (t : Task) (slot : ℕ) (had after : DriverRow G) (o : Outcome) → IsServedIn told maker ends faults unheard who t slot had after o → length after.domains ≡ length had.domains
+    served_slots : (who : Who) (t : Task) (slot : ℕ) (had after : DriverRow G) (o : Outcome) → IsServedIn told stores maker ends faults unheard who t slot had after o → length after.domains ≡ length had.domains
     served_slots who t slot had after o h =
         ap (λ (l : List DomainPass). length l) h.domains.is ∙ (same_length h.domains.first h.old h.new h.domains.rest ∙ ap (λ (l : List DomainPass). length l) (sym h.domains.was))
 
     -- it is ready again
-    pub is_ready : (who : Who) (held : ListCall) (t : Task) (before after : DriverRow G) (o : Outcome) → HasServedHeld told maker ends faults unheard who held t before after o → IsReadyRow before → IsReadyRow after
+    pub is_ready : (who : Who) (held : ListCall) (t : Task) (before after : DriverRow G) (o : Outcome) → HasServedHeld told stores maker ends faults unheard who held t before after o → IsReadyRow before → IsReadyRow after
     is_ready who held t before after o (inl s) ready = record {
       list = let_go_free s.slot s.serves.seen.front s.serves.seen.occupied before.list s.had.list after.list s.holds.asked.share.1 (none_held before.list s.holds.fresh ready.list) s.serves.lets_go;
       domains = served_domains who t s.slot s.had after o s.serves (subst (λ (l : List DomainPass). All KeepsNothing l) (sym (ap (λ (r : DriverRow G). r.domains) s.rest)) ready.domains);

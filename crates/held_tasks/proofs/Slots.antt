@@ -16,17 +16,19 @@ use Rattle.row_desk.specs.Views.{StorePass}
 use Rattle.virt_types.specs.declared.ask.GuestEvent.{GuestEvent}
 use Rattle.virt_types.specs.declared.caller.Front.{Front}
 use Rattle.list_holds.specs.Released.{LetsGo}
-use Rattle.driver_cells.specs.Known.{DriverRow}
+use Rattle.held_tasks.specs.Counting.{DriverRow}
+use Rattle.held_tasks.specs.declared.counting.CountingMaker.{CountingMaker}
 use Rattle.held_tasks.specs.Course.{IsServedIn, RestsAt}
 use Rattle.held_tasks.specs.Holding.{HoldsSlot}
 use Rattle.held_tasks.specs.Running.{HasServedTask}
+use Rattle.held_tasks.specs.Statuses.{HasReported}
 use Rattle.held_tasks.proofs.Lists.{one_of, value_in}
 
 -- the row of these parts
-abbrev pub row_with : {G : Type 0} → ListPassed → StorePass → List DomainPass → G → DriverRow G
+abbrev pub row_with : {G : Type 0} → ListPassed → StorePass → List DomainPass → CountingMaker G → DriverRow G
 row_with list store domains guests = record { list = list; store = store; domains = domains; guests = guests }
 
-module _ {G : Type 0} (slot : ℕ) (list store : TableId) (cells : List TableId) (row : DriverRow G) (can : HoldsSlot slot list store cells row) (l : ListPassed) (s : StorePass) (domains : List DomainPass) (guests : G) (is : row ≡ row_with l s domains guests) where
+module _ {G : Type 0} (slot : ℕ) (list store : TableId) (cells : List TableId) (row : DriverRow G) (can : HoldsSlot slot list store cells row) (l : ListPassed) (s : StorePass) (domains : List DomainPass) (guests : CountingMaker G) (is : row ≡ row_with l s domains guests) where
   pub slot_in : slot < length domains
   slot_in = subst (λ (r : DriverRow G). slot < length r.domains) is can.within
 
@@ -65,20 +67,24 @@ pub keeps_empty : (old new : DomainPass) → (new.spent ≡ false → new.share 
 keeps_empty old new keeps free fresh = keeps fresh ∙ free
 
 -- all of it
-module _ {F E G : Type 0} (told : F → Told) (maker : G → ℕ) (ends faults : E → ℕ) (unheard : E → Option (List GuestEvent)) where
-  pub served_in : (who : Who) (t : Task) (slot : ℕ) (row after : DriverRow G) (o : Outcome) (l l' : ListPassed) (s s' : StorePass) (domains domains' first rest : List DomainPass) (old new : DomainPass) (guests guests' : G)
-      (r : Reply) (place : Option Front) (seen : Seen) → row ≡ row_with l s domains guests → domains ≡ first ++ old ∷ rest → length first ≡ slot
-      → HasServedTask told ends faults unheard who t s s' (maker guests) (maker guests') old new r place seen → LetsGo slot seen.front seen.occupied l l' → domains' ≡ first ++ new ∷ rest → after ≡ row_with l' s' domains' guests'
-      → o.reply ≡ r → RestsAt slot place o → IsServedIn told maker ends faults unheard who t slot row after o
-  served_in who t slot row after o l l' s s' domains domains' first rest old new guests guests' r place seen is was at serves goes put made says rests =
-      let base : IsServedIn told maker ends faults unheard who t slot (row_with l s domains guests) (row_with l' s' domains' guests') o = record {
+module _ {F E G : Type 0} (told : F → Told) (stores : F → ℕ) (maker : G → ℕ) (ends faults : E → ℕ) (unheard : E → Option (List GuestEvent)) where
+  pub served_in : (who : Who) (t : Task) (slot : ℕ) (row after : DriverRow G) (o : Outcome) (l l' : ListPassed) (s mid s' : StorePass) (domains domains' before rest : List DomainPass) (old first last new : DomainPass)
+      (guests guests' : CountingMaker G) (r : Reply) (place : Option Front) (seen : Seen) → row ≡ row_with l s domains guests → domains ≡ before ++ old ∷ rest → length before ≡ slot
+      → HasServedTask told ends faults unheard who t s mid (maker guests.maker) (maker guests'.maker) first last r place seen → HasReported told stores t old first last new mid s' guests.unkept guests'.unkept
+      → LetsGo slot seen.front seen.occupied l l' → domains' ≡ before ++ new ∷ rest → after ≡ row_with l' s' domains' guests' → o.reply ≡ r → RestsAt slot place o → IsServedIn told stores maker ends faults unheard who t slot row after o
+  served_in who t slot row after o l l' s mid s' domains domains' before rest old first last new guests guests' r place seen from there at serves reports goes put made says rests =
+      let base : IsServedIn told stores maker ends faults unheard who t slot (row_with l s domains guests) (row_with l' s' domains' guests') o = record {
         old = old;
+        first = first;
+        last = last;
         new = new;
+        mid = mid;
         place = place;
         seen = seen;
-        domains = record { first = first; rest = rest; was = was; is = put; in_slot = at };
-        serves = subst (λ (x : Reply). HasServedTask told ends faults unheard who t s s' (maker guests) (maker guests') old new x place seen) (sym says) serves;
+        domains = record { first = before; rest = rest; was = there; is = put; in_slot = at };
+        serves = subst (λ (x : Reply). HasServedTask told ends faults unheard who t s mid (maker guests.maker) (maker guests'.maker) first last x place seen) (sym says) serves;
+        reports = reports;
         lets_go = goes;
         rests = rests;
       } in
-      subst (λ (x : DriverRow G × DriverRow G). IsServedIn told maker ends faults unheard who t slot x.0 x.1 o) (λ i. (sym is i, sym made i)) base
+      subst (λ (x : DriverRow G × DriverRow G). IsServedIn told stores maker ends faults unheard who t slot x.0 x.1 o) (λ i. (sym from i, sym made i)) base

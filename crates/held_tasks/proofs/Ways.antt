@@ -26,7 +26,8 @@ use Rattle.virt_types.specs.declared.caller.CellName.TheVariants as cell
 use Rattle.virt_types.specs.declared.caller.Front.{Front}
 use Rattle.virt_types.specs.declared.memory.OrNoMemory.{OrNoMemory}
 use Rattle.held_tasks.specs.Course.{HasServedHeld, IsServedIn}
-use Rattle.driver_cells.specs.Known.{DriverRow}
+use Rattle.held_tasks.specs.Counting.{DriverRow}
+use Rattle.held_tasks.specs.declared.counting.CountingMaker.{CountingMaker}
 use Rattle.driver_cells.specs.Ready.{IsReadyRow}
 use Rattle.driver_cells.proofs.Idle.{has_spent}
 use Rattle.held_tasks.specs.Holding.{HoldsSlot}
@@ -90,9 +91,9 @@ still_idle held why at before after h idle = record { fresh = h.asked.went.spent
 
 -- ---- each way
 
-module _ {F E G : Type 0} (told : F → Told) (maker : G → ℕ) (ends faults : E → ℕ) (unheard : E → Option (List GuestEvent)) (who : Who) (held : ListCall) (t : Task) where
-  pub with_slot : (slot : ℕ) (at : Front) (before mid after : DriverRow G) (had : ListPassed) (o : Outcome) → HasHeld held (Ok slot) at before.list had → mid ≡ record before { list = had } → IsServedIn told maker ends faults unheard who t slot mid after o
-      → HasServedHeld told maker ends faults unheard who held t before after o
+module _ {F E G : Type 0} (told : F → Told) (stores : F → ℕ) (maker : G → ℕ) (ends faults : E → ℕ) (unheard : E → Option (List GuestEvent)) (who : Who) (held : ListCall) (t : Task) where
+  pub with_slot : (slot : ℕ) (at : Front) (before mid after : DriverRow G) (had : ListPassed) (o : Outcome) → HasHeld held (Ok slot) at before.list had → mid ≡ record before { list = had } → IsServedIn told stores maker ends faults unheard who t slot mid after o
+      → HasServedHeld told stores maker ends faults unheard who held t before after o
   with_slot slot at before mid after had o holds is serves = inl (record {
     slot = slot;
     at = at;
@@ -103,7 +104,7 @@ module _ {F E G : Type 0} (told : F → Told) (maker : G → ℕ) (ends faults :
   })
 
   pub without_slot : (why : OrNoMemory ListFault) (before after : DriverRow G) (now : ListPassed) (o : Outcome) → HasHeld held (Err why) o.front before.list now → after ≡ record before { list = now } → TellsFault held why o.reply → o.cell ≡ cell.List
-      → HasServedHeld told maker ends faults unheard who held t before after o
+      → HasServedHeld told stores maker ends faults unheard who held t before after o
   without_slot why before after now o holds is tells name = inr (inl (record {
     why = why;
     holds = subst (λ (p : ListPassed). HasHeld held (Err why) o.front before.list p) (sym (ap (λ (r : DriverRow G). r.list) is)) holds;
@@ -112,11 +113,11 @@ module _ {F E G : Type 0} (told : F → Told) (maker : G → ℕ) (ends faults :
     name = name;
   }))
 
-  pub without_ticket : (before after : DriverRow G) (o : Outcome) → after ≡ record before { list = record before.list { spent = true } } → TellsSpent o.reply → o.cell ≡ cell.Nowhere → HasServedHeld told maker ends faults unheard who held t before after o
+  pub without_ticket : (before after : DriverRow G) (o : Outcome) → after ≡ record before { list = record before.list { spent = true } } → TellsSpent o.reply → o.cell ≡ cell.Nowhere → HasServedHeld told stores maker ends faults unheard who held t before after o
   without_ticket before after o is tells name = inr (inr (record { spent = inr is; tells = tells; name = name }))
 
   pub without_idle : (before after : DriverRow G) (o : Outcome) → IsReadyRow before → (IsIdleRow list_meaning (store_meaning told) meaning before → ⊥) → after ≡ before → TellsSpent o.reply → o.cell ≡ cell.Nowhere
-      → HasServedHeld told maker ends faults unheard who held t before after o
+      → HasServedHeld told stores maker ends faults unheard who held t before after o
   without_idle before after o ready busy is tells name = inr (inr (record { spent = inl (has_spent told before ready busy, is); tells = tells; name = name }))
 
 -- ---- whether the row was idle
@@ -131,7 +132,7 @@ was_not true e h p = cc
 
 -- ---- a row whose pass of the list took a turn
 
-module _ {G : Type 0} (held : ListCall) (slot : ℕ) (at : Front) (answer : Result ℕ (OrNoMemory ListFault)) (before had now l : ListPassed) (s : StorePass) (domains : List DomainPass) (guests : G) (row mid : DriverRow G)
+module _ {G : Type 0} (held : ListCall) (slot : ℕ) (at : Front) (answer : Result ℕ (OrNoMemory ListFault)) (before had now l : ListPassed) (s : StorePass) (domains : List DomainPass) (guests : CountingMaker G) (row mid : DriverRow G)
     (holds : HasHeld held answer at before had) (gave : answer ≡ Ok slot) (from : before ≡ l) (was : row ≡ row_with l s domains guests) (put : now ≡ had) (made : mid ≡ row_with now s domains guests) where
   mid_is : mid ≡ record row { list = had }
   mid_is = made ∙ (ap (λ (p : ListPassed). row_with p s domains guests) put ∙ ap (λ (r : DriverRow G). record r { list = had }) (sym was))
@@ -146,7 +147,7 @@ module _ {G : Type 0} (held : ListCall) (slot : ℕ) (at : Front) (answer : Resu
   may_hold told list store cells own ready idle =
       may_serve held slot at before had holds_slot (subst (IsIdle list_meaning) list_is idle.list) told list store cells row mid list_is mid_is own ready idle
 
-  pub served_so : {F E : Type 0} (told : F → Told) (maker : G → ℕ) (ends faults : E → ℕ) (unheard : E → Option (List GuestEvent)) (who : Who) (t : Task) (after : DriverRow G) (o : Outcome) → IsServedIn told maker ends faults unheard who t slot mid after o
-      → HasServedHeld told maker ends faults unheard who held t row after o
-  served_so told maker ends faults unheard who t after o serves =
-      with_slot told maker ends faults unheard who held t slot at row mid after had o (subst (λ (p : ListPassed). HasHeld held (Ok slot) at p had) (sym list_is) holds_slot) mid_is serves
+  pub served_so : {F E : Type 0} (told : F → Told) (stores : F → ℕ) (maker : G → ℕ) (ends faults : E → ℕ) (unheard : E → Option (List GuestEvent)) (who : Who) (t : Task) (after : DriverRow G) (o : Outcome) → IsServedIn told stores maker ends faults unheard who t slot mid after o
+      → HasServedHeld told stores maker ends faults unheard who held t row after o
+  served_so told stores maker ends faults unheard who t after o serves =
+      with_slot told stores maker ends faults unheard who held t slot at row mid after had o (subst (λ (p : ListPassed). HasHeld held (Ok slot) at p had) (sym list_is) holds_slot) mid_is serves

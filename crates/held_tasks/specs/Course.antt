@@ -6,17 +6,20 @@ use Rattle.driver_cells.specs.OfObjects.{DomainPass, Seen, TellsSpent}
 use Rattle.domain_requests.specs.declared.task.Task.{Task}
 use Rattle.domain_spec.specs.Types.{Who}
 use Rattle.driver_cells.specs.Fronts.{no_front}
-use Rattle.driver_cells.specs.Known.{DriverRow, known_row}
+use Rattle.driver_cells.specs.Known.{known_row}
 use Rattle.files_disk.specs.Telling.{Told}
 use Rattle.list_holds.specs.Held.{HasHeld}
 use Rattle.list_holds.specs.Released.{LetsGo}
 use Rattle.list_replies.specs.Telling.{TellsFault}
 use Rattle.driver_cells.specs.OfOutcomes.{HasSpent, Outcome}
+use Rattle.row_desk.specs.Views.{StorePass}
 use Rattle.virt_types.specs.declared.ask.GuestEvent.{GuestEvent}
 use Rattle.virt_types.specs.declared.caller.CellName.TheVariants as cell
 use Rattle.virt_types.specs.declared.caller.Front.{Front}
 use Rattle.virt_types.specs.declared.memory.OrNoMemory.{OrNoMemory}
+use Rattle.held_tasks.specs.Counting.{DriverRow}
 use Rattle.held_tasks.specs.Running.{HasServedTask}
+use Rattle.held_tasks.specs.Statuses.{HasReported}
 
 -- the outcome names the cell of this slot and the place that the reply rests on; without one it names no cell
 abbrev pub RestsAt : ℕ → Option Front → Outcome → Type 0
@@ -50,16 +53,22 @@ module _ {G : Type 0} where
     pub tells : TellsSpent o.reply
     pub name : o.cell ≡ cell.Nowhere
 
-  module _ {F E : Type 0} (told : F → Told) (maker : G → ℕ) (ends faults : E → ℕ) (unheard : E → Option (List GuestEvent)) where
+  module _ {F E : Type 0} (told : F → Told) (stores : F → ℕ) (maker : G → ℕ) (ends faults : E → ℕ) (unheard : E → Option (List GuestEvent)) where
     -- of a row whose pass of the list holds a slot: the task was run in the domain there, and the slot was released with what
-    -- the domain's pass has seen
+    -- the domain's pass had seen by then. What a call changed of the status of the domain's boot was reported to the store,
+    -- after the last turn of the domain
     pub record IsServedIn (who : Who) (t : Task) (slot : ℕ) (before after : DriverRow G) (o : Outcome) : Type 0 where
       pub old : DomainPass
+      pub first : DomainPass
+      pub last : DomainPass
       pub new : DomainPass
+      pub mid : StorePass
       pub place : Option Front
       pub seen : Seen
       pub domains : Replaces slot old new before.domains after.domains
-      pub serves : HasServedTask told ends faults unheard who t before.store after.store (maker before.guests) (maker after.guests) old new o.reply place seen
+      pub serves :
+          HasServedTask told ends faults unheard who t before.store mid (maker before.guests.maker) (maker after.guests.maker) first last o.reply place seen
+      pub reports : HasReported told stores t old first last new mid after.store before.guests.unkept after.guests.unkept
       pub lets_go : LetsGo slot seen.front seen.occupied before.list after.list
       pub rests : RestsAt slot place o
 

@@ -1,3 +1,5 @@
+pub mod Counting
+pub mod Statuses
 pub mod Holding
 pub mod Running
 pub mod Course

@@ -9,10 +9,11 @@ ghost use Rattle.slot_holds.specs.Holds.{call_of};
 ghost use Rattle.held_tasks.specs.Course.{HasServedHeld};
 ghost use Rattle.held_tasks.specs.Outcomes.{HasTaskOutcome, is_query};
 
+use crate::counting::Row;
 use crate::slot::serve_in_slot;
 use def_keeper::Opening;
 use domain_requests::Task;
-use driver_cells::{Cells, Outcome, Row, run_out};
+use driver_cells::{Cells, Outcome, run_out};
 use files_disk::Files;
 use list_holds::hold_slot;
 use list_replies::reply_to;
@@ -35,7 +36,7 @@ fn hold_and_serve<R: Wait, G: Maker, F: Files + Drop, K: Opening>(
 ) -> (Row<F, K, G::M, G::E, G::Z, G>, Outcome)
     requires own { IsOf cells.now.list cells.now.store cells.now.domains.items row }
     requires ready { IsReadyRow row }
-    ensures { HasServedHeld F.told G.faults G.E.ends G.E.faults G.E.unheard who (call_of hold.now) task.now row result.0 result.1 }
+    ensures { HasServedHeld F.told F.faults G.faults G.E.ends G.E.faults G.E.unheard who (call_of hold.now) task.now row result.0 result.1 }
 {
     if !row.is_idle() {
         return (row, run_out(alloc));
@@ -68,6 +69,10 @@ fn hold_and_serve<R: Wait, G: Maker, F: Files + Drop, K: Opening>(
 
 /// Asks the list for the slot of the domain, runs the task there, and releases the slot. Where the list gives no slot, its
 /// mark decides the reply. Where a pass of the row is spent, nothing is done.
+///
+/// Where a call began or ended a boot, or changed the state, the operation or the phase of the domain, the status file is
+/// written or removed after the call's last turn of the domain. A fault there is counted in the row; the outcome does not
+/// depend on it.
 pub fn serve_held<R: Wait, G: Maker, F: Files + Drop, K: Opening>(
     rt: &R,
     alloc: Global,
@@ -79,7 +84,7 @@ pub fn serve_held<R: Wait, G: Maker, F: Files + Drop, K: Opening>(
 ) -> (Row<F, K, G::M, G::E, G::Z, G>, Outcome)
     requires own { IsOf cells.now.list cells.now.store cells.now.domains.items row }
     requires ready { IsReadyRow row }
-    ensures course { HasServedHeld F.told G.faults G.E.ends G.E.faults G.E.unheard who (call_of hold.now) task.now row result.0 result.1 }
+    ensures course { HasServedHeld F.told F.faults G.faults G.E.ends G.E.faults G.E.unheard who (call_of hold.now) task.now row result.0 result.1 }
     ensures outcome { HasTaskOutcome (known_row row) (known_row result.0) (call_of hold.now) task.now result.1 }
     ensures now { IsNow (known_row result.0) (is_query task.now) result.1.cell result.1.front }
     ensures gone { HasGone (known_row row) (known_row result.0) }

@@ -3,10 +3,12 @@ ghost use Rattle.std.specs.Prelude.{◌≡◌};
 ghost use Rattle.held_tasks.specs.Course.{IsServedIn, RestsAt};
 ghost use Rattle.held_tasks.specs.Holding.{HoldsSlot};
 
+use crate::counting::{CountingMaker, Row, counted};
+use crate::status::{look, tell};
 use crate::store::{Means, serve_with};
 use def_keeper::Opening;
 use domain_requests::Task;
-use driver_cells::{Cells, NO_FRONT, Outcome, Row, Tasked, state_of};
+use driver_cells::{Cells, NO_FRONT, Outcome, Tasked, state_of};
 use files_disk::Files;
 use list_holds::give_back;
 use pass_rows::{RestingPass, RowOf};
@@ -34,7 +36,9 @@ fn outcome_at(slot: u32, place: Option<Front>, reply: Reply) -> Outcome
     }
 }
 
-/// Runs the task in the domain of the slot that the row's pass of the list holds, and releases the slot.
+/// Runs the task in the domain of the slot that the row's pass of the list holds, tells the store what a call changed of the
+/// status of the domain's boot, and releases the slot. The store is told before the release, while no other domain can get the
+/// slot.
 pub(crate) fn serve_in_slot<R: Wait, G: Maker, F: Files + Drop, K: Opening>(
     rt: &R,
     alloc: Global,
@@ -45,24 +49,32 @@ pub(crate) fn serve_in_slot<R: Wait, G: Maker, F: Files + Drop, K: Opening>(
     task: &Task,
 ) -> (Row<F, K, G::M, G::E, G::Z, G>, Outcome)
     requires { HoldsSlot slot cells.now.list cells.now.store cells.now.domains.items row }
-    ensures { IsServedIn F.told G.faults G.E.ends G.E.faults G.E.unheard who task.now slot row result.0 result.1 }
+    ensures { IsServedIn F.told F.faults G.faults G.E.ends G.E.faults G.E.unheard who task.now slot row result.0 result.1 }
 {
     let (list, store, domains, guests) = row.into_parts();
+    let CountingMaker { maker, unkept } = guests;
     let (pass, others) = domains.take(slot);
     let means = Means {
-        guests,
+        guests: maker,
         store: store.into_pass(),
     };
     let domain = &cells.domains[slot as usize];
+    let (pass, before) = look(rt, domain, pass, task);
     let (means, pass, tasked) = serve_with(rt, alloc, &cells.store, domain, means, pass, who, task);
+    let (pass, after) = look(rt, domain, pass, task);
+    let Means { guests, store } = means;
+    let (store, kept) = tell(rt, &cells.store, store, before, after);
     let Tasked { reply, place, seen } = tasked;
     let held = list.into_pass();
     let list = give_back(rt, &cells.list, held, slot, seen.front, seen.occupied);
-    let Means { guests, store } = means;
     let rests = state_of(&store);
     let store = RestingPass::new(store, rests);
     let rests = state_of(&pass);
     let domains = others.put(pass, rests);
+    let guests = CountingMaker {
+        maker: guests,
+        unkept: counted(unkept, kept),
+    };
     let row = RowOf::of(list, store, domains, guests);
     (row, outcome_at(slot, place, reply))
 }

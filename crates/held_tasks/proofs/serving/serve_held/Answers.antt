@@ -12,10 +12,10 @@ returns g c =
     let domains = a.cells.now.domains.items in
     record {
       course = h;
-      outcome = outcome _ _ _ _ _ _ _ _ _ _ _ h;
-      now = now _ _ _ _ _ _ _ _ _ _ _ h;
-      gone = gone _ _ _ _ _ _ _ _ _ _ _ h;
-      parts = keeps_parts _ _ _ _ _ _ _ _ _ _ _ h;
-      own = is_of _ _ _ _ _ list store domains _ _ _ _ _ _ h c.requires.own;
-      ready = is_ready _ _ _ _ _ _ _ _ _ _ _ h c.requires.ready;
+      outcome = outcome _ _ _ _ _ _ _ _ _ _ _ _ h;
+      now = now _ _ _ _ _ _ _ _ _ _ _ _ h;
+      gone = gone _ _ _ _ _ _ _ _ _ _ _ _ h;
+      parts = keeps_parts _ _ _ _ _ _ _ _ _ _ _ _ h;
+      own = is_of _ _ _ _ _ _ list store domains _ _ _ _ _ _ h c.requires.own;
+      ready = is_ready _ _ _ _ _ _ _ _ _ _ _ _ h c.requires.ready;
     }
