@@ -13,8 +13,8 @@ use crate::closing::{Closed, close};
 use crate::six::{put_six, take_six};
 use crate::starting::{Outcomes, make_all, room_for};
 use def_keeper::Opening;
-use driver::Driver;
-use driver_close::{DriverFault, RowList};
+use driver::{Driver, RowList};
+use driver_close::DriverFault;
 use driver_service::DriverService;
 use files_disk::Files;
 use held_tasks::{MakerOf, Row};
@@ -94,7 +94,7 @@ impl<F: Files + Drop, K: Opening, G: Guests + Drop> Daemon<F, K, G> {
     ) -> Result<Daemon<F, K, G>, (F, OrNoMemory<DriverFault>)>
         requires sound { K.sound → IsSureAt (F.told files) }
         ensures ok { IfOk result (λ d. HasCells F.told files d.row d.driver.starts d.driver.statuses) }
-        ensures maker { IfOk result (λ d. d.row.guests.guests ≡ guests) }
+        ensures maker { IfOk result (λ d. d.row.guests.maker.guests ≡ guests) }
         ensures err { IfErr result (λ e. IsUnopened F.told F.faults K.sound files e.1 e.0) }
     {
         let room = match RowListOf::with_room(alloc, 1) {

@@ -2,6 +2,7 @@
 use Rattle.std.proofs.Common.{◌≡◌, ℕ, List, Option, sym, ◌∙◌, subst}
 use Rattle.domain_spec.specs.Types.{Who}
 use Rattle.held_tasks.specs.OfRows.{DriverRow, known_row}
+use Rattle.held_tasks.specs.declared.counting.CountingMaker.{CountingMaker}
 use Rattle.files_disk.specs.Telling.{Told}
 use Rattle.object_list.specs.Turns.{ListPassed}
 use Rattle.held_tasks.specs.OfObjects.{DomainPass}
@@ -16,7 +17,7 @@ use Rattle.driver.proofs.Outcomes.{answers, reads}
 
 module _ {G : Type 0} where
   -- a row that was taken apart and put together is the same but for its pass of the store
-  pub rejoined : (before had : DriverRow G) (list : ListPassed) (was store : StorePass) (domains : List DomainPass) (guests : G) → before ≡ record { list = list; store = was; domains = domains; guests = guests }
+  pub rejoined : (before had : DriverRow G) (list : ListPassed) (was store : StorePass) (domains : List DomainPass) (guests : CountingMaker G) → before ≡ record { list = list; store = was; domains = domains; guests = guests }
       → had ≡ record { list = list; store = store; domains = domains; guests = guests } → had ≡ record before { store = had.store }
   rejoined before had list was store domains guests b h = h ∙ sym (λ i. record (b i) { store = (h i).store })
 

@@ -7,6 +7,6 @@ mod row_list;
 mod serving;
 mod the_driver;
 
-pub use held_tasks::{Row, take_unkept};
+pub use held_tasks::{Row, unkept_of};
 pub use row_list::RowList;
 pub use the_driver::Driver;

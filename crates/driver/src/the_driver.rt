@@ -109,7 +109,7 @@ impl<F: Files + Drop, K: Opening, G: Maker> Driver<F, K, G> {
     ///
     /// Where a call began or ended a boot, or changed the state, the operation or the phase of a domain whose boot is live, the
     /// status file of the domain is written or removed before the row comes back. A fault there is counted in the row
-    /// (`take_unkept`); the outcome does not depend on it.
+    /// (`unkept_of`); the outcome does not depend on it.
     ///
     /// Networks, pools and registrations are not served: they are refused (206).
     pub fn call<R: Wait, D: Random>(

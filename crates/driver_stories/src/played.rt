@@ -4,7 +4,7 @@ ghost use Rattle.def_keeper.specs.Opened.{IsSureAt};
 
 use def_keeper::Opening;
 #[cfg(test)]
-use driver::take_unkept;
+use driver::unkept_of;
 use driver::{Driver, Row};
 use files_disk::Files;
 use outcome_spec::Outcome;
@@ -59,10 +59,10 @@ impl<F: Files + Drop, K: Opening, G: Maker + Drop> PlayedDriver<F, K, G> {
 
 #[cfg(test)]
 impl<F: Files + Drop, K: Opening, G: Maker> PlayedDriver<F, K, G> {
-    /// Takes the count of the statuses of boots that the calls by the row could not keep.
-    pub(crate) fn take_unkept(self) -> (PlayedDriver<F, K, G>, u64) {
+    /// How many statuses of boots the calls by the row could not keep.
+    pub(crate) fn unkept(self) -> (PlayedDriver<F, K, G>, u64) {
         let PlayedDriver { driver, row } = self;
-        let (row, unkept) = take_unkept(row);
+        let (row, unkept) = unkept_of(row);
         (PlayedDriver { driver, row }, unkept)
     }
 }

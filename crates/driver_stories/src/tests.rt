@@ -84,7 +84,7 @@ fn a_boot_has_its_status_file(rt: HostRuntime) -> Result<(), Fail> {
     let (host, answered) = ask(&rt, alloc, host, "destroy a 1");
     assert!(rt; answered);
     assert!(rt; fs::read_to_string(&rt, STATUS_FILE).is_err());
-    let (_host, unkept) = host.take_unkept();
+    let (_host, unkept) = host.unkept();
     assert_eq!(rt; unkept, 0);
     fs::remove_dir_all(&rt, FOLDER)?;
     Ok(())
@@ -104,11 +104,11 @@ fn a_status_that_is_not_kept_is_counted(rt: HostRuntime) -> Result<(), Fail> {
     let host = opened(rt, alloc, files).ok_or("not opened")?;
     let (host, answered) = ask_all(&rt, alloc, host, ["define a 1", "start a 1", "info a 1"]);
     assert_eq!(rt; answered, [true, true, true]);
-    let (host, unkept) = host.take_unkept();
+    let (host, unkept) = host.unkept();
     assert_eq!(rt; unkept, 1);
     let (host, answered) = ask_all(&rt, alloc, host, ["suspend a 1", "resume a 1", "info a 1"]);
     assert_eq!(rt; answered, [true, true, true]);
-    let (_host, unkept) = host.take_unkept();
-    assert_eq!(rt; unkept, 0);
+    let (_host, unkept) = host.unkept();
+    assert_eq!(rt; unkept, 1);
     Ok(())
 }

@@ -1,5 +1,5 @@
 -- A row with the count of the statuses of boots that its calls could not keep.
-use Rattle.std.specs.Prelude.{◌≡◌, ◌≤◌, ◌<◌, ◌+◌, ◌^◌, ℕ}
+use Rattle.std.specs.Prelude.{◌≡◌, ◌+◌, ◌-◌, ◌^◌, ℕ, min}
 use Rattle.boot_status.specs.declared.outcome.StatusKept.{StatusKept}
 use Rattle.boot_status.specs.declared.outcome.StatusKept.TheVariants as came
 use Rattle.driver_cells.specs.Known.{DriverRow as CellsRow}
@@ -13,4 +13,4 @@ DriverRow G = CellsRow (CountingMaker G)
 abbrev pub Counts : StatusKept → ℕ → ℕ → Type 0
 Counts came.Unchanged before after = after ≡ before
 Counts came.Done before after = after ≡ before
-Counts fault before after = (before ≤ after) × (before + 1 < 2 ^ 64 → after ≡ before + 1)
+Counts fault before after = after ≡ min (before + 1) (2 ^ 64 - 1)

@@ -37,17 +37,17 @@ HasLooked (task.Run d) before after status = HasReadStatus before after status
 HasLooked other before after status = (after ≡ before) × (status ≡ read.NotDue)
 
 -- what comes of a status that was not read
-abbrev pub unread : StatusRead → StatusRead → StatusKept
-unread read.NotDue after = came.Unchanged
-unread read.Spent after = came.Spent
-unread before read.Spent = came.Spent
-unread before after = came.NoMemory
+abbrev pub unread : StatusRead → StatusKept
+unread read.NoMemory = came.NoMemory
+unread read.Spent = came.Spent
+unread other = came.Unchanged
 
 module _ {F : Type 0} (told : F → Told) (stores : F → ℕ) where
   -- where it was read both times, the store was told what changed; else nothing was done
   abbrev pub IsTold : StatusRead → StatusRead → StorePass → StorePass → StatusKept → Type 0
   IsTold (read.Read was) (read.Read is) before after kept = KeepsStatus told stores was is before after kept
-  IsTold was is before after kept = (after ≡ before) × (kept ≡ unread was is)
+  IsTold (read.Read was) is before after kept = (after ≡ before) × (kept ≡ unread is)
+  IsTold was is before after kept = (after ≡ before) × (kept ≡ unread was)
 
   -- the status was read before the task and after it, the store was told what changed, and a status that could not be kept
   -- was counted

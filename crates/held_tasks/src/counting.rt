@@ -63,8 +63,8 @@ pub(crate) fn counted(unkept: u64, kept: StatusKept) -> u64
     }
 }
 
-/// Takes the count of a row, for the log: how many statuses of boots its calls could not keep since it was taken last.
-pub fn take_unkept<
+/// How many statuses of boots the calls of a row could not keep. The row comes back as it was.
+pub fn unkept_of<
     F: Files + Drop,
     K: Opening,
     M: Monitor + Drop,
@@ -72,11 +72,10 @@ pub fn take_unkept<
     Z: Killer + Drop,
     G,
 >(row: Row<F, K, M, E, Z, G>) -> (Row<F, K, M, E, Z, G>, u64)
-    ensures row { result.0 ≡ record row { guests = record row.guests { unkept = 0 } } }
+    ensures row { result.0 ≡ row }
     ensures unkept { result.1 ≡ row.guests.unkept }
 {
     let (list, store, domains, guests) = row.into_parts();
-    let CountingMaker { maker, unkept } = guests;
-    let row = RowOf::of(list, store, domains, CountingMaker::new(maker));
-    (row, unkept)
+    let unkept = guests.unkept;
+    (RowOf::of(list, store, domains, guests), unkept)
 }

@@ -9,7 +9,7 @@ mod slot;
 mod status;
 mod store;
 
-pub use counting::{CountingMaker, Row, take_unkept};
+pub use counting::{CountingMaker, Row, unkept_of};
 pub use driver_cells::{Cells, NO_FRONT, Outcome, run_out, state_of};
 pub use laws::{queries_read_now, tasks_answer_requests};
 pub use row_desk::{Maker, MakerOf};

@@ -89,13 +89,15 @@ pub(crate) fn tell<R: Wait, F: Files + Drop, K: Opening>(
     ensures told { IsTold F.told F.faults before after pass result.0 result.1 }
     ensures same { SamePass pass result.0 }
 {
-    match (before, after) {
-        (StatusRead::Read(before), StatusRead::Read(after)) => {
-            keep_status(rt, store, pass, &before, &after)
-        }
-        (StatusRead::NotDue, _) => (pass, StatusKept::Unchanged),
-        (StatusRead::Spent, _) => (pass, StatusKept::Spent),
-        (_, StatusRead::Spent) => (pass, StatusKept::Spent),
-        _ => (pass, StatusKept::NoMemory),
+    match before {
+        StatusRead::NotDue => (pass, StatusKept::Unchanged),
+        StatusRead::NoMemory => (pass, StatusKept::NoMemory),
+        StatusRead::Spent => (pass, StatusKept::Spent),
+        StatusRead::Read(before) => match after {
+            StatusRead::NotDue => (pass, StatusKept::Unchanged),
+            StatusRead::NoMemory => (pass, StatusKept::NoMemory),
+            StatusRead::Spent => (pass, StatusKept::Spent),
+            StatusRead::Read(after) => keep_status(rt, store, pass, &before, &after),
+        },
     }
 }

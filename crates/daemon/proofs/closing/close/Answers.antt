@@ -1,11 +1,20 @@
+use Rattle.std.proofs.Common.{List, subst, sym}
+use Rattle.std.specs.List.{All}
+use Rattle.driver.specs.Cells.{IsIdleRow}
+use Rattle.driver_close.specs.Closed.{HasClosed}
+use Rattle.held_tasks.specs.OfRows.{DriverRow}
 use Rattle.daemon.proofs.closing.close.Goals as goal
 
 pub close-files-requires-clause-idle : goal.close-files-requires-clause-idle
-close-files-requires-clause-idle g c = c.is_idle.ensures.0 c.if-not-is_idle.false
+close-files-requires-clause-idle g c =
+    subst (λ (l : List (DriverRow _)). All (IsIdleRow g.F.Files.told) l) (sym c.unkept_by-unkept.ensures.rows) (c.is_idle.ensures.0 c.if-not-is_idle.false)
 
 pub returns : goal.returns
-returns g c = record {
-  idle = c.is_idle.ensures.0 c.if-not-is_idle.false;
-  books = c.close-files.ensures.closed;
-  safe = c.close-files.ensures.crash;
-}
+returns g c =
+    let books = c.close-files.result.1 in
+    record {
+      idle = c.is_idle.ensures.0 c.if-not-is_idle.false;
+      books = subst (λ (l : List (DriverRow _)). HasClosed g.F.Files.told l c.close-files.result.0 books.list books.store books.cells.items) c.unkept_by-unkept.ensures.rows c.close-files.ensures.closed;
+      safe = c.close-files.ensures.crash;
+      unkept = c.unkept_by-unkept.ensures.unkept;
+    }
