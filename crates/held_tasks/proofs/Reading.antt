@@ -1,20 +1,15 @@
 -- A turn of the domain in which its status is read.
-use Rattle.std.proofs.Common.{◌≡◌, ◌≤◌, ℕ, List, [], Option, Result, Ok, IfOk, sym, ap, ◌∙◌, append-nil, subst, le_refl}
+use Rattle.std.proofs.Common.{◌≡◌, ℕ, List, [], Option, Result, Ok, IfOk, sym, ap, ◌∙◌, append-nil, subst, le_refl}
 use Rattle.boot_status.specs.Reporting.{boot_status}
-use Rattle.domain_spec.proofs.LawProofs.{standing-append}
-use Rattle.domain_spec.proofs.PhaseBoots.{boots_rise}
-use Rattle.domain_spec.specs.Fold.{at_base, standing}
-use Rattle.domain_spec.specs.Reading.{boots_of}
 use Rattle.domain_spec.specs.declared.mark.Mark.{Mark}
 use Rattle.domain_spec.specs.declared.standing.Base.{Base}
-use Rattle.domain_spec.specs.declared.standing.Standing.{Standing}
-use Rattle.driver_cells.specs.OfCells.{CellShare, Celled, history_of, meaning}
+use Rattle.driver_cells.specs.OfCells.{CellShare, Celled, history_of, meaning, no_mark_lowers}
 use Rattle.driver_cells.specs.OfObjects.{DomainPass}
 use Rattle.driver_cells.specs.OfOutcomes.{state_of}
 use Rattle.history_spec.specs.declared.history.History.{History}
 use Rattle.turn_cell.proofs.Turning.{nothing_changes, turn_tells}
 use Rattle.turn_cell.specs.Known.{HasMarks}
-use Rattle.turn_cell.specs.Meaning.{NewBaseKeeps, NoMarkLowers}
+use Rattle.turn_cell.specs.Meaning.{NewBaseKeeps}
 use Rattle.turn_cell.specs.Passes.{Enters, Turned, left_by}
 use Rattle.turn_cell.specs.Turning.{Changes, HasTurned, Went}
 use Rattle.virt_types.specs.declared.memory.NoMemory.{NoMemory}
@@ -27,12 +22,7 @@ DomainTurn = Turned Celled Base (Mark ℕ) CellShare
 abbrev DomainHistory : Type 0
 DomainHistory = History Base (Mark ℕ)
 
--- no mark lowers the number of a domain's boots, and a new chapter keeps it
-no_mark_lowers : NoMarkLowers meaning
-no_mark_lowers b xs ys =
-    subst (λ (s : Standing). boots_of (standing (at_base b) xs).state ≤ boots_of s.state) (sym (standing-append (at_base b) xs ys))
-    (boots_rise (standing (at_base b) xs) ys)
-
+-- a new chapter keeps the number of a domain's boots
 new_base_keeps : NewBaseKeeps meaning
 new_base_keeps c = le_refl _
 

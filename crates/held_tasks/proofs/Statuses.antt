@@ -107,6 +107,7 @@ module _ {B M : Type 0} where
   left_from old first after m same left = record { at = left.at; chapter = left.chapter; new = subst (λ (l : List (ℕ × M)). length l ≤ left.at) same left.new; mark = left.mark }
 
   stands_from : (old first after : Known B M) (front : Front) (m : M) → first.mine ≡ old.mine → StandsAt first after front m → StandsAt old after front m
+  unfolding left_from
   stands_from old first after front m same stands = record {
     left = left_from old first after m same stands.left;
     chapter = stands.chapter;
@@ -132,8 +133,8 @@ done_over old first last new c front r same on done = record {
 pub answers_over : (t : Task) (old first last new : DomainPass) (was is : StatusRead) (place : Option Front) (r : Reply) → HasLooked t old first was → HasLooked t last new is → Answers (known first) (known last) t place r → Answers (known old) (known new) t place r
 answers_over (task.Run d) old first last new was is place r looks again (inl (front, at, gives)) =
     inl (front, at, done_over (known old) (known first) (known last) (known new) d front r (read_saw old first was looks).mine (read_saw last new is again).later gives)
-answers_over (task.Run d) old first last new was is place r looks again (inr (inl (why, no, inl (out, code)))) = inr (inl (why, no, inl ((read_saw last new is again).later.spent out, code)))
-answers_over (task.Run d) old first last new was is place r looks again (inr (inl (why, no, inr none))) = inr (inl (why, no, inr none))
+answers_over (task.Run d) old first last new was is place r looks again (inr (inl (why, says, inl (out, code)))) = inr (inl (why, says, inl ((read_saw last new is again).later.spent out, code)))
+answers_over (task.Run d) old first last new was is place r looks again (inr (inl (why, says, inr none))) = inr (inl (why, says, inr none))
 answers_over (task.Run d) old first last new was is place r looks again (inr (inr unbuilt)) = inr (inr unbuilt)
 answers_over (task.Read q) old first last new was is place r looks again answers =
     subst (λ (x : DomainPass × DomainPass). Answers (known x.0) (known x.1) (task.Read q) place r) (λ i. (looks.0 i, sym again.0 i)) answers

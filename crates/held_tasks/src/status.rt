@@ -46,7 +46,8 @@ fn read_status<R: Wait, M: Monitor + Drop, E: Ears + Drop, Z: Killer + Drop>(
     pass: DomainPass<M, E, Z>,
 ) -> (DomainPass<M, E, Z>, StatusRead)
     requires { pass.cell ≡ cell.now }
-    ensures { HasReadStatus pass result.0 result.1 }
+    ensures read { HasReadStatus pass result.0 result.1 }
+    ensures same { SamePass pass result.0 }
 {
     let mut turn = match cell.enter(rt, pass) {
         Ok(turn) => turn,
@@ -68,7 +69,8 @@ pub(crate) fn look<R: Wait, M: Monitor + Drop, E: Ears + Drop, Z: Killer + Drop>
     task: &Task,
 ) -> (DomainPass<M, E, Z>, StatusRead)
     requires { pass.cell ≡ domain.now }
-    ensures { HasLooked task.now pass result.0 result.1 }
+    ensures looked { HasLooked task.now pass result.0 result.1 }
+    ensures same { SamePass pass result.0 }
 {
     match task {
         Task::Run(_) => read_status(rt, domain.turn_cell(), pass),
