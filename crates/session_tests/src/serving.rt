@@ -51,7 +51,11 @@ pub(crate) struct Served {
 // The files of a daemon that was closed.
 fn files_of(closed: Option<Closed<MemFiles>>) -> Result<MemFiles, NoMemory> {
     match closed {
-        Some(Closed { files, books: _ }) => Ok(files),
+        Some(Closed {
+            files,
+            books: _,
+            unkept: _,
+        }) => Ok(files),
         None => Err(NoMemory),
     }
 }

@@ -72,7 +72,11 @@ fn give_back<W: World, F: Drop>(world: &mut W, closed: Option<Closed<F>>) -> Opt
     ensures files { result ≡ files_of closed }
 {
     match closed {
-        Some(Closed { files, books }) => {
+        Some(Closed {
+            files,
+            books,
+            unkept: _,
+        }) => {
             world.kept(books);
             Some(files)
         }
