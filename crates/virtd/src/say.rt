@@ -134,6 +134,18 @@ pub(crate) fn say_status<W: World>(alloc: Global, world: &mut W, status: &Option
     }
 }
 
+/// How many statuses of boots the calls of a daemon could not keep, where some could not.
+pub(crate) fn say_unkept<W: World>(alloc: Global, world: &mut W, unkept: u64)
+    ensures { W.given world.new ≡ W.given world.old }
+{
+    if unkept > 0 {
+        say_line(
+            world,
+            format!(in alloc; "virtd: statuses not kept: {unkept}"),
+        );
+    }
+}
+
 fn say_refusal<W: World>(alloc: Global, world: &mut W, name: &str, why: &Refusal)
     ensures { W.given world.new ≡ W.given world.old }
 {

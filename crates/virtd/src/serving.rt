@@ -10,7 +10,7 @@ ghost use Rattle.virtd.specs.Top.{Connects, ServesFiles, files_of};
 
 use crate::connection::Connection;
 use crate::first::First;
-use crate::say::{say_end, say_fault, say_start, say_status};
+use crate::say::{say_end, say_fault, say_start, say_status, say_unkept};
 use crate::status::{status_of, status_of_fault};
 use crate::world::World;
 use daemon::{Closed, Daemon, End, Ended, Outcomes};
@@ -67,16 +67,22 @@ fn all_done(outcomes: &Outcomes) -> bool
 }
 
 // Gives the world what is left of a daemon, but for its files.
-fn give_back<W: World, F: Drop>(world: &mut W, closed: Option<Closed<F>>) -> Option<F>
+fn give_back<W: World, F: Drop>(
+    alloc: Global,
+    world: &mut W,
+    closed: Option<Closed<F>>,
+) -> Option<F>
     ensures given { W.given world.new ≡ with_books closed (W.given world.old) }
     ensures files { result ≡ files_of closed }
 {
     match closed {
-        Some(Closed {
-            files,
-            books,
-            unkept: _,
-        }) => {
+        Some(closed) => {
+            let Closed {
+                files,
+                books,
+                unkept,
+            } = closed;
+            say_unkept(alloc, world, unkept);
             world.kept(books);
             Some(files)
         }
@@ -178,7 +184,7 @@ fn serve_daemon<H: Wait, W: World, F: Files + Drop, K: Opening>(
     );
     world.ended(source, sink, random);
     say_end(alloc, world, &end);
-    let files = give_back(world, closed);
+    let files = give_back(alloc, world, closed);
     Served {
         status: status_of(&end),
         files,

@@ -65,6 +65,10 @@ const INFO: &str = "00000038 20008086 00000001 00000010 00000000 00000002 000000
 const RUNS: &str = "0000003c 20008086 00000001 00000010 00000001 00000002 00000000
     00000001 00000000 00000001 00000000 00000001 00000001 00000000 00000000";
 
+/// The call of the files by which the status of `b` is written: before it the configuration is read, the files are listed, the
+/// one definition is read, and the directory is synced.
+const STATUS_CALL: u64 = 5;
+
 // Writes a file, safe from crashes.
 fn put(alloc: Global, files: &mut MemFiles, name: &str, content: &str) -> Result<(), NoMemory> {
     let name = Text::copy_of(alloc, name)?;
@@ -164,6 +168,32 @@ fn what_ran_is_said(rt: HostRuntime) -> Result<(), Fail> {
     let files = directory(alloc, &[(STATUS, RAN)])?;
     let shown = stdio(&rt, alloc, files, &[])?;
     check(&rt, &shown, 0, "was running b boot 7\n");
+    Ok(())
+}
+
+#[test]
+fn what_runs_is_said_by_the_next_daemon(rt: HostRuntime) -> Result<(), Fail> {
+    let alloc = rt.alloc();
+    let shown = stdio(&rt, alloc, directory(alloc, &[(FIRST, B)])?, &[])?;
+    check(&rt, &shown, 0, "");
+    let shown = serve(&rt, alloc, shown.directory, &[])?;
+    check(&rt, &shown, 0, "was running b boot 1\n");
+    Ok(())
+}
+
+// The first call that writes is that of the status of the boot: the definition is only read.
+#[test]
+fn a_status_that_is_not_kept_is_said(rt: HostRuntime) -> Result<(), Fail> {
+    let alloc = rt.alloc();
+    let mut failing = Vec::new(alloc);
+    failing.push(FailingCall {
+        number: STATUS_CALL,
+        effect: Effect::Nothing,
+    })?;
+    let files = directory(alloc, &[(FIRST, B)])?.failing(failing);
+    let shown = stdio(&rt, alloc, files, &[INFO])?;
+    check(&rt, &shown, 0, "virtd: statuses not kept: 1\n");
+    assert!(rt; shown.has_put(hex::bytes(alloc, RUNS)?.as_slice()));
     Ok(())
 }
 
