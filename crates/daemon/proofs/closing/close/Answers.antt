@@ -1,6 +1,6 @@
 use Rattle.std.proofs.Common.{List, subst, sym}
 use Rattle.std.specs.List.{All}
-use Rattle.driver.specs.Cells.{IsIdleRow}
+use Rattle.driver.specs.Cells.{IsIdleRow, IsRowOf}
 use Rattle.driver_close.specs.Closed.{HasClosed}
 use Rattle.held_tasks.specs.OfRows.{DriverRow}
 use Rattle.daemon.proofs.closing.close.Goals as goal
@@ -8,6 +8,10 @@ use Rattle.daemon.proofs.closing.close.Goals as goal
 pub close-files-requires-clause-idle : goal.close-files-requires-clause-idle
 close-files-requires-clause-idle g c =
     subst (λ (l : List (DriverRow _)). All (IsIdleRow g.F.Files.told) l) (sym c.unkept_by-unkept.ensures.rows) (c.is_idle.ensures.0 c.if-not-is_idle.false)
+
+pub close-files-requires-clause-own : goal.close-files-requires-clause-own
+close-files-requires-clause-own g c =
+    subst (λ (l : List (DriverRow _)). All (IsRowOf c.args.driver) l) (sym c.unkept_by-unkept.ensures.rows) c.requires.own
 
 pub returns : goal.returns
 returns g c =
