@@ -1,0 +1,4 @@
+pub mod Given
+pub mod Keeping
+pub mod Rows
+pub mod Whole

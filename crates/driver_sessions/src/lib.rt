@@ -1,0 +1,11 @@
+//! Sessions over one driver at once: each is served in a thread of its own, by six rows of its own.
+#![tactic(auto)]
+
+mod closing;
+mod serving;
+mod session;
+
+pub use closing::{Left, serve_and_close};
+pub use row_session::End;
+pub use serving::{DriverRow, DriverRows, serve_all};
+pub use session::{Served, Session};
