@@ -1,5 +1,5 @@
 -- Rows that were taken out of a list at its end, and put there.
-use Rattle.std.proofs.Common.{◌≡◌, ◌∙◌, ◌++◌, ◌+◌, List, [], ◌∷◌, Option, Some, ap, arith, length, length-append, refl, sym}
+use Rattle.std.proofs.Common.{◌≡◌, ◌∙◌, ◌++◌, List, [], ◌∷◌, Option, Some, ap, sym}
 use Rattle.std.specs.Option.{option_to_list}
 use Rattle.std.proofs.lemmas.List.{append-nil, append_assoc}
 
@@ -8,9 +8,6 @@ module _ {A : Type 0} where
   taken_before : (before after : List A) (taken : Option A) (item : A) (others : List A) → before ≡ after ++ option_to_list taken → taken ≡ Some item → before ++ others ≡ after ++ item ∷ others
   taken_before before after taken item others is some =
       ap (λ (l : List A). l ++ others) is ∙ ap (λ (o : Option A). (after ++ option_to_list o) ++ others) some ∙ append_assoc after (item ∷ []) others
-
-  pub one_fewer : (before after : List A) (taken : Option A) (item : A) → before ≡ after ++ option_to_list taken → taken ≡ Some item → length before ≡ length after + 1
-  one_fewer before after taken item is some = ap length is ∙ length-append after (option_to_list taken) ∙ ap (λ (o : Option A). length after + length (option_to_list o)) some
 
   -- six items were taken out, one after the other
   pub six_taken : (l0 l1 l2 l3 l4 l5 l6 : List A) (o1 o2 o3 o4 o5 o6 : Option A) (i1 i2 i3 i4 i5 i6 : A)

@@ -29,6 +29,7 @@ pub fn seat_all<L: Kept, S: Kept, D: Kept, G: Drop, C: Drop>(
     requires room { vec_len holders ≤ vec_capacity room }
     ensures rows { rows.list ≡ turned (λ one. all_six one.rows) result.1.items }
     ensures holders { holders.items ≡ turned (λ one. one.holder ∷ []) result.1.items }
+    ensures count { vec_len result.1 ≡ vec_len holders }
     ensures empty { result.0.list ≡ [] }
     ensures room { 6 * vec_len result.1 ≤ result.0.room }
 {

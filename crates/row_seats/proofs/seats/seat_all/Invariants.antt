@@ -12,6 +12,7 @@ invariant-loop-holder g l = record {
   rows : l.fn.rows.list ≡ l.rows.list ++ turned (λ one. all_six one.rows) l.seats.items;
   holders : l.fn.holders.items ≡ l.holders.items ++ turned (λ one. one.holder ∷ []) l.seats.items;
   each : length l.rows.list ≡ 6 * vec_len l.holders;
+  count : vec_len l.holders + vec_len l.seats ≡ vec_len l.fn.holders;
   room : 6 * vec_len l.seats ≤ l.rows.room;
   enough : vec_len l.holders + vec_len l.seats ≤ vec_capacity l.seats;
 }
