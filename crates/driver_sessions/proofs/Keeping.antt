@@ -1,13 +1,14 @@
 -- Whoever calls a driver keeps the parts of its row's passes, also through a whole session.
-use Rattle.std.proofs.Common.{◌≡◌, ◌∙◌, ℕ, List, Option, refl}
+use Rattle.std.proofs.Common.{◌∙◌, ◌++◌, ℕ, List, Option, refl}
 use Rattle.driver_service.specs.Calling.{HasCalledDriver}
 use Rattle.driver_service.specs.Serving.{is_served}
 use Rattle.files_disk.specs.Telling.{Told}
 use Rattle.held_tasks.specs.OfRows.{DriverRow, KeepsParts}
 use Rattle.service_spec.proofs.Running.{courses_run, rows_go}
-use Rattle.service_spec.specs.Activities.{Hand}
-use Rattle.service_spec.specs.Course.{HasServed}
+use Rattle.service_spec.specs.Activities.{Activity, Hand, call_of}
+use Rattle.service_spec.specs.Course.{HasServed, reader}
 use Rattle.service_spec.specs.Laws.{Lasts}
+use Rattle.service_spec.specs.Saying.{answers}
 use Rattle.session_spec.specs.declared.end.End.{End}
 use Rattle.virt_types.specs.declared.ask.GuestEvent.{GuestEvent}
 use Rattle.virt_types.specs.declared.caller.Who.{Who}
@@ -44,5 +45,7 @@ module _ {F G E : Type 0} (told : F → Told) (store_faults : F → ℕ) (maker 
   -- a session keeps them
   pub session_keeps : (session : ℕ) (before : Hand (DriverRow G)) (left now held wrote : Option (List ℕ)) (ending : End) (after : Hand (DriverRow G)) → HasServed is_served Called session before left now held wrote ending after → KeepsParts before.row after.row
   session_keeps session before left now held wrote ending after (count, course) =
-      let ran = courses_run is_served Called _ _ left now held wrote ending course in
-      rows_go is_served Called NoMore Keeps calls_keep _ _ _ ran.2
+      let first : Activity (DriverRow G) = record { at_hand = before; next = call_of session reader 0 } in
+      let last : Activity (DriverRow G) = record { at_hand = after; next = call_of session reader count } in
+      let ran = courses_run is_served Called first last left now held wrote ending course in
+      rows_go is_served Called NoMore Keeps calls_keep first last (answers course.log ++ ran.0) ran.2

@@ -1,3 +1,4 @@
+pub mod Ended
 pub mod Given
 pub mod Keeping
 pub mod Rows

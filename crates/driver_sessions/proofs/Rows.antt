@@ -13,6 +13,7 @@ use Rattle.row_seats.specs.Six.{all_six}
 use Rattle.row_seats.specs.Turned.{turned}
 use Rattle.row_seats.specs.declared.seats.Seated.{Seated}
 use Rattle.row_session.specs.declared.connection.SixRows.{SixRows}
+use Rattle.service_spec.specs.Activities.{hand}
 use Rattle.virt_types.specs.declared.ask.GuestEvent.{GuestEvent}
 
 -- ---- two lists, one after the other
@@ -73,26 +74,21 @@ module _ {G C : Type 0} where
       (may_serve d all (all_front (IsRowOf d) others six own) (all_front IsReadyRow others six ready))
 
 module _ {F G E S O N T : Type 0} (told : F → Told) (store_faults : F → ℕ) (maker : G → ℕ) (ends faults : E → ℕ) (unheard : E → Option (List GuestEvent)) (left : S → Option (List ℕ)) (held : O → Option (List ℕ)) (drawn : N → Option (List ℕ)) (d : DriverView) where
-  abbrev Before : Type 0
-  Before = Seated (DriverRow G) (Session S O N T)
-
-  abbrev After : Type 0
-  After = Seated (DriverRow G) (Served S O N T)
-
-  abbrev Served_as : Before → After → Type 0
-  Served_as = IsServed told store_faults maker ends faults unheard left held drawn d
+  abbrev Serves : Seated (DriverRow G) (Session S O N T) → Seated (DriverRow G) (Served S O N T) → Type 0
+  Serves = IsServed told store_faults maker ends faults unheard left held drawn d
 
   -- the rows keep their parts
-  pub rows_keep : (seated : List Before) (over : List After) → AllZip Served_as seated over → AllZip KeepsParts (turned (λ one. all_six one.rows) seated) (turned (λ one. all_six one.rows) over)
+  pub rows_keep : (seated : List (Seated (DriverRow G) (Session S O N T))) (over : List (Seated (DriverRow G) (Served S O N T))) → AllZip Serves seated over → AllZip KeepsParts (turned (λ one. all_six one.rows) seated) (turned (λ one. all_six one.rows) over)
   rows_keep [] [] each = tt
   rows_keep [] (b ∷ over) each = absurd each
   rows_keep (a ∷ seated) [] each = absurd each
   rows_keep (a ∷ seated) (b ∷ over) each =
-      let keeps = session_keeps told store_faults maker ends faults unheard _ _ _ _ _ _ _ _ each.0.served in
+      let keeps = session_keeps told store_faults maker ends faults unheard a.holder.number (hand a.rows.fifth (drawn a.holder.random)) (left a.holder.source) (left b.holder.session.source)
+          (held a.holder.sink) (held b.holder.session.sink) b.holder.end (hand b.rows.fifth (drawn b.holder.session.random)) each.0.served in
       zip_append KeepsParts (turned (λ one. all_six one.rows) seated) (turned (λ one. all_six one.rows) over) (all_six a.rows) (all_six b.rows) (rows_keep seated over each.1) (six_keep a.rows b.rows each.0.others keeps)
 
   -- what holds of all rows before, and of the fifth after, holds of all rows after
-  pub rows_have : (P : DriverRow G → Type 0) → ((six : SixRows (DriverRow G)) → MayServe d six → P six.fifth) → (seated : List Before) (over : List After) → AllZip Served_as seated over
+  pub rows_have : (P : DriverRow G → Type 0) → ((six : SixRows (DriverRow G)) → MayServe d six → P six.fifth) → (seated : List (Seated (DriverRow G) (Session S O N T))) (over : List (Seated (DriverRow G) (Served S O N T))) → AllZip Serves seated over
       → All P (turned (λ one. all_six one.rows) seated) → All P (turned (λ one. all_six one.rows) over)
   rows_have P fifth [] [] each all = All-nil P
   rows_have P fifth [] (b ∷ over) each all = absurd each
@@ -103,3 +99,15 @@ module _ {F G E S O N T : Type 0} (told : F → Told) (store_faults : F → ℕ)
       All-append P (turned (λ one. all_six one.rows) over) (all_six b.rows)
       (rows_have P fifth seated over each.1 (all_front P others six all))
       (six_have P a.rows b.rows each.0.others (all_back P others six all) (fifth b.rows each.0.may_serve))
+
+  module _ (rows back : List (DriverRow G)) (seated : List (Seated (DriverRow G) (Session S O N T))) (over : List (Seated (DriverRow G) (Served S O N T))) (rows_are : rows ≡ turned (λ one. all_six one.rows) seated) (each : AllZip Serves seated over) (back_are : back ≡ turned (λ one. all_six one.rows) over) where
+    -- the rows that come back keep their parts, in order
+    pub rows_kept : AllZip KeepsParts rows back
+    rows_kept =
+        subst (λ (l : List (DriverRow G)). AllZip KeepsParts l back) (sym rows_are)
+        (subst (λ (l : List (DriverRow G)). AllZip KeepsParts (turned (λ one. all_six one.rows) seated) l) (sym back_are) (rows_keep seated over each))
+
+    -- and what holds of all rows, and of those that served a session, holds of them
+    pub rows_had : (P : DriverRow G → Type 0) → ((six : SixRows (DriverRow G)) → MayServe d six → P six.fifth) → All P rows → All P back
+    rows_had P fifth all =
+        subst (λ (l : List (DriverRow G)). All P l) (sym back_are) (rows_have P fifth seated over each (subst (λ (l : List (DriverRow G)). All P l) rows_are all))

@@ -1,2 +1,3 @@
+pub mod OfDrivers
 pub mod Serving
 pub mod Closing

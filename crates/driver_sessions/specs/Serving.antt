@@ -22,15 +22,8 @@ pub record MayServe {G : Type 0} (d : DriverView) (six : SixRows (DriverRow G)) 
   pub ready : IsReadyRow six.fifth
 
 module _ {F G E S O N T : Type 0} (told : F → Told) (store_faults : F → ℕ) (maker : G → ℕ) (ends faults : E → ℕ) (unheard : E → Option (List GuestEvent)) (left : S → Option (List ℕ)) (held : O → Option (List ℕ)) (drawn : N → Option (List ℕ)) where
-  -- a session with its rows, before it is served, and after
-  abbrev Before : Type 0
-  Before = Seated (DriverRow G) (Session S O N T)
-
-  abbrev After : Type 0
-  After = Seated (DriverRow G) (Served S O N T)
-
   -- the session was served by the fifth of its rows, which may serve another; the others are as they were
-  pub record IsServed (d : DriverView) (one : Before) (over : After) : Type 0 where
+  pub record IsServed (d : DriverView) (one : Seated (DriverRow G) (Session S O N T)) (over : Seated (DriverRow G) (Served S O N T)) : Type 0 where
     pub served : HasServed is_served (HasCalledDriver told store_faults maker ends faults unheard) one.holder.number (hand one.rows.fifth (drawn one.holder.random))
         (left one.holder.source) (left over.holder.session.source) (held one.holder.sink) (held over.holder.session.sink) over.holder.end
         (hand over.rows.fifth (drawn over.holder.session.random))
@@ -41,8 +34,8 @@ module _ {F G E S O N T : Type 0} (told : F → Told) (store_faults : F → ℕ)
 
   -- each session was served by six of the rows; both lists come back in order
   pub record AreServed (d : DriverView) (rows : List (DriverRow G)) (sessions : List (Session S O N T)) (back : List (DriverRow G)) (served : List (Served S O N T)) : Type 0 where
-    pub seated : List Before
-    pub over : List After
+    pub seated : List (Seated (DriverRow G) (Session S O N T))
+    pub over : List (Seated (DriverRow G) (Served S O N T))
     pub rows_are : rows ≡ turned (λ one. all_six one.rows) seated
     pub sessions_are : sessions ≡ turned (λ one. one.holder ∷ []) seated
     pub each : AllZip (IsServed d) seated over

@@ -6,6 +6,8 @@ mod serving;
 mod session;
 
 pub use closing::{Left, serve_and_close};
+pub use driver::Driver;
+pub use held_tasks::MakerOf;
 pub use row_session::End;
 pub use serving::{DriverRow, DriverRows, serve_all};
 pub use session::{Served, Session};

@@ -1,6 +1,6 @@
 use denote.Exit.{no}
 use denote.Param.{param}
-use denote.Param.Send.{arg_send, param_send, recorded_sync, shr_sync, struct_sync}
+use denote.Param.Send.{arg_send, param_send, recorded_sync, sendable, shr_sync, struct_sync}
 use denote.Ref.{ShrRef}
 use denote.Struct.Declared as struct
 use denote.Struct.Tuple.{field_at, type_at}
@@ -11,10 +11,11 @@ use Rattle.driver_crossing.proofs.Crossing.{Making, driver_sync, makes, row_send
 use Rattle.driver_sessions.proofs.Given.{all_given}
 use Rattle.driver_sessions.proofs.session.Served.TheSendSync as over
 use Rattle.driver_sessions.proofs.session.Session.TheSendSync as session
-use Rattle.driver_sessions.specs.Serving.{IsServed}
+use Rattle.driver_sessions.specs.Serving.{IsServed, MayServe}
 use Rattle.driver_sessions.specs.contracts.session.Served
 use Rattle.driver_sessions.specs.contracts.session.Session
 use Rattle.row_seats.proofs.seats.Seated.TheSendSync as seated
+use Rattle.std.proofs.Common.{subst, sym}
 use Rattle.driver_sessions.proofs.serving.serve_seated.Goals as goal
 
 pub map_vec-requires-send-J : goal.map_vec-requires-send-J
@@ -71,6 +72,9 @@ map_vec-requires-sync-F g c κs within =
         (shr_sync _ _ _ (driver_sync F K G M E Z g.F.Files g.K.Opening g.G.Guests g.G.M.Monitor g.G.E.Ears g.G.Z.Killer may.send-F may.send-G may.send-G-M may.send-G-E may.send-G-Z), tt),
       ))).shared;
     }
+
+pub map_vec-requires-after_bounds : goal.map_vec-requires-after_bounds
+map_vec-requires-after_bounds g c κs within = λ i x below is. (subst (λ one. MayServe c.args.driver.now one.rows) (sym is) (c.requires i x below), (search sendable, search sendable, search sendable, search sendable, search sendable, search sendable, search sendable, search sendable, search sendable, search sendable, search sendable, search sendable))
 
 pub returns : goal.returns
 returns g c = all_given _ _ (IsServed g.F.Files.told g.F.Files.faults (λ maker. g.G.Guests.faults maker.guests) g.G.E.Ears.ends g.G.E.Ears.faults g.G.E.Ears.unheard g.S.Source.left g.O.Sink.held g.N.Random.drawn c.args.driver.now) (λ one over met. met)
