@@ -1,12 +1,12 @@
 // What the clients of stories ask, all of one domain.
-ghost use Rattle.std.specs.Prelude.{IfOk};
+ghost use Rattle.std.specs.Prelude.{◌≤◌, IfOk, IsUtf8, length};
 ghost use Rattle.procedure_spec.specs.Arguments.{HasArguments, IsDomain};
 
+use packet::Header;
 use procedure_spec::{Procedure, find};
 use remote_args::write_call;
 use std::alloc::Global;
 use virt_types::{DomainRequest, DomainTarget, NoMemory, Request, Text, Uuid};
-use wire_spec::Header;
 
 /// The domain's definition.
 const DEFINITION: &str = "<domain type='qemu'><name>a</name>\
@@ -33,40 +33,98 @@ pub(crate) enum Asked {
     Destroy,
 }
 
-fn domain(alloc: Global) -> Result<DomainTarget, NoMemory>
-    ensures { IfOk result IsDomain }
+// A short text.
+fn text(alloc: Global, words: &str) -> Result<Text, NoMemory>
+    requires { length words.now ≤ 1000 }
+    ensures short { IfOk result (λ text. length text ≤ 1000) }
+    ensures utf8 { IfOk result (λ text. IsUtf8 text) }
 {
-    Ok(DomainTarget {
-        name: Text::copy_of(alloc, "a")?,
+    let text = Text::copy_of(alloc, words)?;
+    let _characters = text.as_str();
+    Ok(text)
+}
+
+fn define(xml: Text) -> Request
+    requires short { length xml ≤ 1000 }
+    requires utf8 { IsUtf8 xml }
+    ensures { HasArguments result }
+{
+    Request::DomainDefineXml { xml }
+}
+
+fn domain(name: Text) -> DomainTarget
+    requires short { length name ≤ 1000 }
+    requires utf8 { IsUtf8 name }
+    ensures { IsDomain result }
+{
+    DomainTarget {
+        name,
         uuid: Uuid::from_bytes(IDENTIFIER),
         id: -1,
-    })
+    }
+}
+
+// The domain of all stories.
+fn the_domain(alloc: Global) -> Result<DomainTarget, NoMemory>
+    ensures { IfOk result (λ domain. IsDomain domain) }
+{
+    let name = text(alloc, "a")?;
+    Ok(domain(name))
+}
+
+fn start(domain: DomainTarget) -> Request
+    requires { IsDomain domain }
+    ensures { HasArguments result }
+{
+    Request::OnDomain {
+        domain,
+        request: DomainRequest::Create,
+    }
+}
+
+fn suspend(domain: DomainTarget) -> Request
+    requires { IsDomain domain }
+    ensures { HasArguments result }
+{
+    Request::OnDomain {
+        domain,
+        request: DomainRequest::Suspend,
+    }
+}
+
+fn info(domain: DomainTarget) -> Request
+    requires { IsDomain domain }
+    ensures { HasArguments result }
+{
+    Request::OnDomain {
+        domain,
+        request: DomainRequest::GetInfo,
+    }
+}
+
+fn destroy(domain: DomainTarget) -> Request
+    requires { IsDomain domain }
+    ensures { HasArguments result }
+{
+    Request::OnDomain {
+        domain,
+        request: DomainRequest::Destroy,
+    }
 }
 
 /// The request.
 pub(crate) fn request(alloc: Global, asked: Asked) -> Result<Request, NoMemory>
-    ensures { IfOk result HasArguments }
+    ensures { IfOk result (λ request. HasArguments request) }
 {
     match asked {
-        Asked::Define => Ok(Request::DomainDefineXml {
-            xml: Text::copy_of(alloc, DEFINITION)?,
-        }),
-        Asked::Start => Ok(Request::OnDomain {
-            domain: domain(alloc)?,
-            request: DomainRequest::Create,
-        }),
-        Asked::Suspend => Ok(Request::OnDomain {
-            domain: domain(alloc)?,
-            request: DomainRequest::Suspend,
-        }),
-        Asked::Info => Ok(Request::OnDomain {
-            domain: domain(alloc)?,
-            request: DomainRequest::GetInfo,
-        }),
-        Asked::Destroy => Ok(Request::OnDomain {
-            domain: domain(alloc)?,
-            request: DomainRequest::Destroy,
-        }),
+        Asked::Define => {
+            let xml = text(alloc, DEFINITION)?;
+            Ok(define(xml))
+        }
+        Asked::Start => Ok(start(the_domain(alloc)?)),
+        Asked::Suspend => Ok(suspend(the_domain(alloc)?)),
+        Asked::Info => Ok(info(the_domain(alloc)?)),
+        Asked::Destroy => Ok(destroy(the_domain(alloc)?)),
     }
 }
 

@@ -1,16 +1,12 @@
 // The sessions of a story are served over a driver of their own.
 ghost use Rattle.std.specs.Prelude.{◌∷◌, [], IfSome};
-ghost use Rattle.driver.specs.Cells.{IsRowOf};
-ghost use Rattle.driver_close.specs.Closed.{IsWhole};
-ghost use Rattle.held_tasks.specs.OfRows.{IsReadyRow};
+ghost use Rattle.driver_sessions.specs.OfDrivers.{IsReadyRow, IsRowOf, IsWhole};
 
 use crate::guests::StoryGuests;
 use crate::scene::{Scene, ServedSession, StorySession};
-use driver::Driver;
-use driver_sessions::{DriverRow, Left, serve_and_close};
+use driver_sessions::{Driver, DriverRow, Left, MakerOf, serve_and_close};
 use files_disk::MemFiles;
 use guest_model::SimGuests;
-use held_tasks::MakerOf;
 use std::alloc::Global;
 use std::marker::Brand;
 use std::sync::Wait;

@@ -1,6 +1,5 @@
 // What sessions were told, in words.
-use crate::asked::{answered, request};
-use crate::asked::Asked;
+use crate::asked::{Asked, answered, request};
 use crate::scene::ServedSession;
 use packet::{Feed, OK, Packet};
 use remote_args::{read_error, read_reply};
