@@ -23,7 +23,7 @@ fn lines_of<H>(alloc: Global, all: &[ServedSession<H>]) -> Result<String, NoMemo
 }
 
 // What is told of sessions that are served at once.
-fn told<H: Threads + Wait + Copy + Send + Sync>(
+fn told_of<H: Threads + Wait + Copy + Send + Sync>(
     scene: &Scene<H>,
     sessions: Vec<StorySession<H>>,
 ) -> Result<String, NoMemory> {
@@ -45,11 +45,9 @@ pub(crate) fn info_meanwhile<H: Threads + Wait + Copy + Send + Sync>(
     let scene = Scene::new(rt, alloc, hold)?;
     let suspending = calls(alloc, &[Asked::Define, Asked::Start, Asked::Suspend])?;
     let asking = calls(alloc, &[Asked::Info])?;
-    let sessions = vec![in alloc;
-        scene.session(1, suspending, None, None)?,
-        scene.session(2, asking, Some(Signal::Held), Some(Signal::Told))?,
-    ]?;
-    told(&scene, sessions)
+    let one = scene.session(1, suspending, None, None)?;
+    let two = scene.session(2, asking, Some(Signal::Held), Some(Signal::Told))?;
+    told_of(&scene, vec![in alloc; one, two]?)
 }
 
 // Infos until the suspend was answered; then the start may go on, and once it was answered there is a last info.
@@ -75,12 +73,10 @@ pub(crate) fn suspend_of_a_start<H: Threads + Wait + Copy + Send + Sync>(
     let scene = Scene::new(rt, alloc, hold)?;
     let starting = calls(alloc, &[Asked::Define, Asked::Start])?;
     let suspending = calls(alloc, &[Asked::Suspend])?;
-    let sessions = vec![in alloc;
-        scene.session(1, starting, None, Some(Signal::Answered))?,
-        scene.session(2, suspending, Some(Signal::Held), Some(Signal::Told))?,
-        scene.session(3, infos(alloc)?, Some(Signal::Held), None)?,
-    ]?;
-    told(&scene, sessions)
+    let one = scene.session(1, starting, None, Some(Signal::Answered))?;
+    let two = scene.session(2, suspending, Some(Signal::Held), Some(Signal::Told))?;
+    let three = scene.session(3, infos(alloc)?, Some(Signal::Held), None)?;
+    told_of(&scene, vec![in alloc; one, two, three]?)
 }
 
 /// The monitor withholds its answer to the suspend of the first session until the guest is ended from outside, by the destroy
@@ -96,9 +92,7 @@ pub(crate) fn killed_meanwhile<H: Threads + Wait + Copy + Send + Sync>(
     let scene = Scene::new(rt, alloc, hold)?;
     let suspending = calls(alloc, &[Asked::Define, Asked::Start, Asked::Suspend])?;
     let destroying = calls(alloc, &[Asked::Destroy])?;
-    let sessions = vec![in alloc;
-        scene.session(1, suspending, None, None)?,
-        scene.session(2, destroying, Some(Signal::Held), None)?,
-    ]?;
-    told(&scene, sessions)
+    let one = scene.session(1, suspending, None, None)?;
+    let two = scene.session(2, destroying, Some(Signal::Held), None)?;
+    told_of(&scene, vec![in alloc; one, two]?)
 }

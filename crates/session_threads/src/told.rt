@@ -8,7 +8,7 @@ use virt_types::{NoMemory, Value};
 
 // What the payload of a reply says that something was done.
 fn done(alloc: Global, asked: Asked, payload: &[u8]) -> Result<String, NoMemory> {
-    match read_reply(alloc, &request(alloc, asked)?, payload) {
+    match &read_reply(alloc, &request(alloc, asked)?, payload) {
         Ok(Value::Info(info)) => {
             let state = info.state.number();
             Ok(format!(in alloc; "Ok, state {state}")?)
@@ -20,7 +20,7 @@ fn done(alloc: Global, asked: Asked, payload: &[u8]) -> Result<String, NoMemory>
 
 // What the payload of an error says.
 fn refused(alloc: Global, payload: &[u8]) -> Result<String, NoMemory> {
-    match read_error(alloc, payload) {
+    match &read_error(alloc, payload) {
         Ok(refusal) => {
             let number = refusal.code.number();
             Ok(format!(in alloc; "{number} {}", refusal.kept.as_str())?)
