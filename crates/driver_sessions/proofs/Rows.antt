@@ -27,11 +27,11 @@ module _ {A : Type 0} (P : A → Type 0) where
   all_back [] ys all = all
   all_back (x ∷ xs) ys all = all_back xs ys (All-tail P x (xs ++ ys) all)
 
-zip_append : {A B : Type 0} (R : A → B → Type 0) (xs : List A) (as : List B) (ys : List A) (bs : List B) → AllZip R xs as → AllZip R ys bs → AllZip R (xs ++ ys) (as ++ bs)
-zip_append R [] [] ys bs front back = back
-zip_append R [] (a ∷ as) ys bs front back = absurd front
-zip_append R (x ∷ xs) [] ys bs front back = absurd front
-zip_append R (x ∷ xs) (a ∷ as) ys bs front back = (front.0, zip_append R xs as ys bs front.1 back)
+zip_append : {A B : Type 0} (R : A → B → Type 0) (xs : List A) (us : List B) (ys : List A) (vs : List B) → AllZip R xs us → AllZip R ys vs → AllZip R (xs ++ ys) (us ++ vs)
+zip_append R [] [] ys vs front back = back
+zip_append R [] (u ∷ us) ys vs front back = absurd front
+zip_append R (x ∷ xs) [] ys vs front back = absurd front
+zip_append R (x ∷ xs) (u ∷ us) ys vs front back = (front.0, zip_append R xs us ys vs front.1 back)
 
 -- ---- six rows
 
@@ -48,11 +48,11 @@ module _ {W : Type 0} (P : W → Type 0) where
       let third = six.third ∷ fourth in
       let second = six.second ∷ third in
       let each : All P (all_six (record six { fifth = now.fifth })) = All-cons P six.first second (all 0 six.first (omega arith))
-          (All-cons P six.second third (all 1 six.first (omega arith))
-          (All-cons P six.third fourth (all 2 six.first (omega arith))
-          (All-cons P six.fourth fifth (all 3 six.first (omega arith))
-          (All-cons P now.fifth last new
-          (All-cons P six.sixth [] (all 5 six.first (omega arith)) (All-nil P)))))) in
+      (All-cons P six.second third (all 1 six.first (omega arith))
+      (All-cons P six.third fourth (all 2 six.first (omega arith))
+      (All-cons P six.fourth fifth (all 3 six.first (omega arith))
+      (All-cons P now.fifth last new
+      (All-cons P six.sixth [] (all 5 six.first (omega arith)) (All-nil P)))))) in
       subst (λ (s : SixRows W). All P (all_six s)) (sym others) each
 
 six_keep : {G : Type 0} (six now : SixRows (DriverRow G)) → now ≡ record six { fifth = now.fifth } → KeepsParts six.fifth now.fifth → AllZip KeepsParts (all_six six) (all_six now)
@@ -84,7 +84,7 @@ module _ {F G E S O N T : Type 0} (told : F → Told) (store_faults : F → ℕ)
   rows_keep (a ∷ seated) [] each = absurd each
   rows_keep (a ∷ seated) (b ∷ over) each =
       let keeps = session_keeps told store_faults maker ends faults unheard a.holder.number (hand a.rows.fifth (drawn a.holder.random)) (left a.holder.source) (left b.holder.session.source)
-          (held a.holder.sink) (held b.holder.session.sink) b.holder.end (hand b.rows.fifth (drawn b.holder.session.random)) each.0.served in
+      (held a.holder.sink) (held b.holder.session.sink) b.holder.end (hand b.rows.fifth (drawn b.holder.session.random)) each.0.served in
       zip_append KeepsParts (turned (λ one. all_six one.rows) seated) (turned (λ one. all_six one.rows) over) (all_six a.rows) (all_six b.rows) (rows_keep seated over each.1) (six_keep a.rows b.rows each.0.others keeps)
 
   -- what holds of all rows before, and of the fifth after, holds of all rows after

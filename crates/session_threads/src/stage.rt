@@ -19,7 +19,12 @@ type Makers<H> = StoryGuests<H, SimGuests<H>>;
 fn open<H: Wait + Copy + Send + Sync>(
     alloc: Global,
     guests: Makers<H>,
-) -> Option<(Driver<MemFiles, Brand, MakerOf<Makers<H>>>, DriverRow<MemFiles, Brand, Makers<H>>)>
+) -> Option<
+    (
+        Driver<MemFiles, Brand, MakerOf<Makers<H>>>,
+        DriverRow<MemFiles, Brand, Makers<H>>,
+    ),
+>
     ensures own { IfSome result (λ made. IsRowOf made.0 made.1) }
     ensures ready { IfSome result (λ made. IsReadyRow made.1) }
     ensures whole { IfSome result (λ made. IsWhole (made.1 ∷ [])) }

@@ -15,13 +15,25 @@ serve_seated-requires g c =
 
 pub unseat_all-requires-clause-rows : goal.unseat_all-requires-clause-rows
 unseat_all-requires-clause-rows g c κs within =
-    omega (arith, AllZip-long (IsServed g.F.Files.told g.F.Files.faults (λ maker. g.G.Guests.faults maker.guests) g.G.E.Ears.ends g.G.E.Ears.faults g.G.E.Ears.unheard g.S.Source.left g.O.Sink.held g.N.Random.drawn c.args.driver.now)
-    c.seat_all-rows.result.1.items c.in-Ok.over.items c.in-Ok.ensures, c.seat_all-rows.ensures.room, c.seat_all-rows.result.1.ok, c.in-Ok.over.ok)
+    omega (
+      arith,
+      AllZip-long (IsServed g.F.Files.told g.F.Files.faults (λ maker. g.G.Guests.faults maker.guests) g.G.E.Ears.ends g.G.E.Ears.faults g.G.E.Ears.unheard g.S.Source.left g.O.Sink.held g.N.Random.drawn c.args.driver.now)
+          c.seat_all-rows.result.1.items c.in-Ok.over.items c.in-Ok.ensures,
+      c.seat_all-rows.ensures.room,
+      c.seat_all-rows.result.1.ok,
+      c.in-Ok.over.ok,
+    )
 
 pub unseat_all-requires-clause-room : goal.unseat_all-requires-clause-room
 unseat_all-requires-clause-room g c κs within =
-    omega (arith, AllZip-long (IsServed g.F.Files.told g.F.Files.faults (λ maker. g.G.Guests.faults maker.guests) g.G.E.Ears.ends g.G.E.Ears.faults g.G.E.Ears.unheard g.S.Source.left g.O.Sink.held g.N.Random.drawn c.args.driver.now)
-    c.seat_all-rows.result.1.items c.in-Ok.over.items c.in-Ok.ensures, c.seat_all-rows.ensures.count, c.seat_all-rows.result.1.ok, c.in-Ok.over.ok)
+    omega (
+      arith,
+      AllZip-long (IsServed g.F.Files.told g.F.Files.faults (λ maker. g.G.Guests.faults maker.guests) g.G.E.Ears.ends g.G.E.Ears.faults g.G.E.Ears.unheard g.S.Source.left g.O.Sink.held g.N.Random.drawn c.args.driver.now)
+          c.seat_all-rows.result.1.items c.in-Ok.over.items c.in-Ok.ensures,
+      c.seat_all-rows.ensures.count,
+      c.seat_all-rows.result.1.ok,
+      c.in-Ok.over.ok,
+    )
 
 pub returns-in-Ok-clause-served : goal.returns-in-Ok-clause-served
 returns-in-Ok-clause-served g c = record {
