@@ -7,13 +7,15 @@ use denote.Struct.Tuple.{field_at, type_at}
 use mathlib.Core.List.{[], ◌∷◌}
 use mir.Syntax.{named}
 use Rattle.driver.specs.contracts.the_driver.Driver
-use Rattle.driver_crossing.proofs.Crossing.{Making, driver_sync, makes, row_send}
+use Rattle.driver_crossing.proofs.Crossing.{driver_sync, row_send}
 use Rattle.driver_sessions.proofs.Given.{all_given}
 use Rattle.driver_sessions.proofs.session.Served.TheSendSync as over
 use Rattle.driver_sessions.proofs.session.Session.TheSendSync as session
 use Rattle.driver_sessions.specs.Serving.{IsServed, MayServe}
 use Rattle.driver_sessions.specs.contracts.session.Served
 use Rattle.driver_sessions.specs.contracts.session.Session
+use Rattle.row_desk.specs.contracts.maker.MakerOf
+use Rattle.row_desk.specs.contracts.maker.MakerOfMaker.TheImpl as maker_of
 use Rattle.row_seats.proofs.seats.Seated.TheSendSync as seated
 use Rattle.std.proofs.Common.{subst, sym}
 use Rattle.driver_sessions.proofs.serving.serve_seated.Goals as goal
@@ -64,7 +66,8 @@ map_vec-requires-sync-F g c κs within =
     let Z = param 10 g.row.G-Z in
     let may = c.type_bounds in
     let Handle = ShrRef (named 7) κs.1.1.1.1.1.1.1.0 R in
-    let Called = ShrRef (named 8) κs.1.1.1.1.1.1.1.1.0 (Driver.the_row F K (Making F K G M E Z) M E Z g.F.Files g.K.Opening (makes F K G M E Z g.G.Guests g.G.M.Monitor g.G.E.Ears g.G.Z.Killer) g.G.M.Monitor g.G.E.Ears g.G.Z.Killer) in
+    let makes = maker_of.ghosts G M E Z g.G.Guests maker_of.no_dict g.G.M.Monitor maker_of.no_dict g.G.E.Ears maker_of.no_dict g.G.Z.Killer maker_of.no_dict maker_of.no_dict maker_of.no_dict maker_of.no_dict in
+    let Called = ShrRef (named 8) κs.1.1.1.1.1.1.1.1.0 (Driver.the_row F K (MakerOf.the_row G M E Z) M E Z g.F.Files g.K.Opening makes g.G.M.Monitor g.G.E.Ears g.G.Z.Killer) in
     let U = type_at [] (Handle ∷ Called ∷ []) in
     record {
       shared = (recorded_sync (field_at [] (Handle ∷ Called ∷ [])).row _ _ U.to_one (struct_sync (struct.shape U) (
