@@ -1,5 +1,8 @@
+pub mod Crossing
 pub mod Ended
 pub mod Given
 pub mod Keeping
 pub mod Rows
+pub mod Taken
+pub mod Turning
 pub mod Whole

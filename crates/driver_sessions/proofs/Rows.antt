@@ -5,13 +5,12 @@ use Rattle.std.specs.List.{All, AllZip}
 use Rattle.driver.specs.Cells.{DriverView, IsRowOf}
 use Rattle.driver_sessions.proofs.Keeping.{keeps_itself, session_keeps}
 use Rattle.driver_sessions.specs.Serving.{IsServed, MayServe}
+use Rattle.driver_sessions.specs.Six.{all_six}
+use Rattle.driver_sessions.specs.Seats.{Seat, rows_of}
 use Rattle.driver_sessions.specs.declared.session.Served.{Served}
 use Rattle.driver_sessions.specs.declared.session.Session.{Session}
 use Rattle.files_disk.specs.Telling.{Told}
 use Rattle.held_tasks.specs.OfRows.{DriverRow, IsReadyRow, KeepsParts}
-use Rattle.row_seats.specs.Six.{all_six}
-use Rattle.row_seats.specs.Turned.{turned}
-use Rattle.row_seats.specs.declared.seats.Seated.{Seated}
 use Rattle.row_session.specs.declared.connection.SixRows.{SixRows}
 use Rattle.service_spec.specs.Activities.{hand}
 use Rattle.virt_types.specs.declared.ask.GuestEvent.{GuestEvent}
@@ -64,48 +63,48 @@ six_keep six now others keeps =
 
 module _ {G C : Type 0} where
   -- rows that are ready serve each session
-  pub may_serve : (d : DriverView) (all : List (Seated (DriverRow G) C)) → All (IsRowOf d) (turned (λ one. all_six one.rows) all) → All IsReadyRow (turned (λ one. all_six one.rows) all) → All (λ one. MayServe d one.rows) all
+  pub may_serve : (d : DriverView) (all : List (Seat G C)) → All (IsRowOf d) (rows_of all) → All IsReadyRow (rows_of all) → All (λ one. MayServe d one.rows) all
   may_serve d [] own ready = All-nil (λ one. MayServe d one.rows)
   may_serve d (a ∷ all) own ready =
-      let others = turned (λ one. all_six one.rows) all in
+      let others = rows_of all in
       let six = all_six a.rows in
       All-cons (λ one. MayServe d one.rows) a all
       (record { own = fifth_has (IsRowOf d) a.rows (all_back (IsRowOf d) others six own); ready = fifth_has IsReadyRow a.rows (all_back IsReadyRow others six ready) })
       (may_serve d all (all_front (IsRowOf d) others six own) (all_front IsReadyRow others six ready))
 
-module _ {F G E S O N T : Type 0} (told : F → Told) (store_faults : F → ℕ) (maker : G → ℕ) (ends faults : E → ℕ) (unheard : E → Option (List GuestEvent)) (left : S → Option (List ℕ)) (held : O → Option (List ℕ)) (drawn : N → Option (List ℕ)) (d : DriverView) where
-  abbrev Serves : Seated (DriverRow G) (Session S O N T) → Seated (DriverRow G) (Served S O N T) → Type 0
-  Serves = IsServed told store_faults maker ends faults unheard left held drawn d
+module _ {F G E S O N T : Type 0} (told : F → Told) (store_faults : F → ℕ) (maker : G → ℕ) (ends faults : E → ℕ) (unheard : E → Option (List GuestEvent)) (left : S → Option (List ℕ)) (source_faults : S → ℕ) (held : O → Option (List ℕ)) (sink_faults : O → ℕ) (drawn : N → Option (List ℕ)) (d : DriverView) where
+  abbrev Serves : Seat G (Session S O N T) → Seat G (Served S O N T) → Type 0
+  Serves = IsServed told store_faults maker ends faults unheard left source_faults held sink_faults drawn d
 
   -- the rows keep their parts
-  pub rows_keep : (seated : List (Seated (DriverRow G) (Session S O N T))) (over : List (Seated (DriverRow G) (Served S O N T))) → AllZip Serves seated over → AllZip KeepsParts (turned (λ one. all_six one.rows) seated) (turned (λ one. all_six one.rows) over)
+  pub rows_keep : (seated : List (Seat G (Session S O N T))) (over : List (Seat G (Served S O N T))) → AllZip Serves seated over → AllZip KeepsParts (rows_of seated) (rows_of over)
   rows_keep [] [] each = tt
   rows_keep [] (b ∷ over) each = absurd each
   rows_keep (a ∷ seated) [] each = absurd each
   rows_keep (a ∷ seated) (b ∷ over) each =
       let keeps = session_keeps told store_faults maker ends faults unheard a.holder.number (hand a.rows.fifth (drawn a.holder.random)) (left a.holder.source) (left b.holder.session.source)
       (held a.holder.sink) (held b.holder.session.sink) b.holder.end (hand b.rows.fifth (drawn b.holder.session.random)) each.0.served in
-      zip_append KeepsParts (turned (λ one. all_six one.rows) seated) (turned (λ one. all_six one.rows) over) (all_six a.rows) (all_six b.rows) (rows_keep seated over each.1) (six_keep a.rows b.rows each.0.others keeps)
+      zip_append KeepsParts (rows_of seated) (rows_of over) (all_six a.rows) (all_six b.rows) (rows_keep seated over each.1) (six_keep a.rows b.rows each.0.others keeps)
 
   -- what holds of all rows before, and of the fifth after, holds of all rows after
-  pub rows_have : (P : DriverRow G → Type 0) → ((six : SixRows (DriverRow G)) → MayServe d six → P six.fifth) → (seated : List (Seated (DriverRow G) (Session S O N T))) (over : List (Seated (DriverRow G) (Served S O N T))) → AllZip Serves seated over
-      → All P (turned (λ one. all_six one.rows) seated) → All P (turned (λ one. all_six one.rows) over)
+  pub rows_have : (P : DriverRow G → Type 0) → ((six : SixRows (DriverRow G)) → MayServe d six → P six.fifth) → (seated : List (Seat G (Session S O N T))) (over : List (Seat G (Served S O N T))) → AllZip Serves seated over
+      → All P (rows_of seated) → All P (rows_of over)
   rows_have P fifth [] [] each all = All-nil P
   rows_have P fifth [] (b ∷ over) each all = absurd each
   rows_have P fifth (a ∷ seated) [] each all = absurd each
   rows_have P fifth (a ∷ seated) (b ∷ over) each all =
-      let others = turned (λ one. all_six one.rows) seated in
+      let others = rows_of seated in
       let six = all_six a.rows in
-      All-append P (turned (λ one. all_six one.rows) over) (all_six b.rows)
+      All-append P (rows_of over) (all_six b.rows)
       (rows_have P fifth seated over each.1 (all_front P others six all))
       (six_have P a.rows b.rows each.0.others (all_back P others six all) (fifth b.rows each.0.may_serve))
 
-  module _ (rows back : List (DriverRow G)) (seated : List (Seated (DriverRow G) (Session S O N T))) (over : List (Seated (DriverRow G) (Served S O N T))) (rows_are : rows ≡ turned (λ one. all_six one.rows) seated) (each : AllZip Serves seated over) (back_are : back ≡ turned (λ one. all_six one.rows) over) where
+  module _ (rows back : List (DriverRow G)) (seated : List (Seat G (Session S O N T))) (over : List (Seat G (Served S O N T))) (rows_are : rows ≡ rows_of seated) (each : AllZip Serves seated over) (back_are : back ≡ rows_of over) where
     -- the rows that come back keep their parts, in order
     pub rows_kept : AllZip KeepsParts rows back
     rows_kept =
         subst (λ (l : List (DriverRow G)). AllZip KeepsParts l back) (sym rows_are)
-        (subst (λ (l : List (DriverRow G)). AllZip KeepsParts (turned (λ one. all_six one.rows) seated) l) (sym back_are) (rows_keep seated over each))
+        (subst (λ (l : List (DriverRow G)). AllZip KeepsParts (rows_of seated) l) (sym back_are) (rows_keep seated over each))
 
     -- and what holds of all rows, and of those that served a session, holds of them
     pub rows_had : (P : DriverRow G → Type 0) → ((six : SixRows (DriverRow G)) → MayServe d six → P six.fifth) → All P rows → All P back

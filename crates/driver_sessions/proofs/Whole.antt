@@ -10,6 +10,7 @@ use Rattle.driver_close.specs.OfOpening.{HasCells}
 use Rattle.files_disk.specs.Telling.{Told}
 use Rattle.held_tasks.specs.OfObjects.{DomainPass}
 use Rattle.held_tasks.specs.OfRows.{DriverRow, KeepsParts}
+use Rattle.held_tasks.specs.declared.counting.CountingMaker.{CountingMaker}
 use Rattle.pass_rows.specs.Cutting.{HasParts}
 use Rattle.pass_rows.specs.Rows.{HasRowParts}
 use Rattle.virt_types.specs.Limits.{most_domains}
@@ -38,7 +39,7 @@ module _ {F G : Type 0} (told : F → Told) (faults : G → ℕ) (count : ℕ) (
 
   -- and they are all
   pub many_whole : count ≤ 2 ^ 62 → length row.domains ≡ most_domains → IsWhole (row ∷ []) → IsWhole rows
-  many_whole few slots whole = split_whole told faults count row rows many (whole_has count row few slots whole) slots whole
+  many_whole few slots whole = split_whole told (λ (m : CountingMaker G). faults m.maker) count row rows many (whole_has count row few slots whole) slots whole
 
 -- the row with which a driver was opened is all of them
 pub opened_whole : {F G : Type 0} (told : F → Told) (files : F) (row : DriverRow G) (starts : List Request) (statuses : List (Option Status)) → HasCells told files row starts statuses → IsWhole (row ∷ [])

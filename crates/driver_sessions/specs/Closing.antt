@@ -15,11 +15,11 @@ use Rattle.held_tasks.specs.OfRows.{DriverRow}
 use Rattle.history_spec.specs.declared.history.History.{History}
 use Rattle.virt_types.specs.declared.ask.GuestEvent.{GuestEvent}
 
-module _ {F G E S O N T : Type 0} (told : F → Told) (sound : Type 0) (store_faults : F → ℕ) (maker : G → ℕ) (ends faults : E → ℕ) (unheard : E → Option (List GuestEvent)) (left : S → Option (List ℕ)) (held : O → Option (List ℕ)) (drawn : N → Option (List ℕ)) where
+module _ {F G E S O N T : Type 0} (told : F → Told) (sound : Type 0) (store_faults : F → ℕ) (maker : G → ℕ) (ends faults : E → ℕ) (unheard : E → Option (List GuestEvent)) (left : S → Option (List ℕ)) (source_faults : S → ℕ) (held : O → Option (List ℕ)) (sink_faults : O → ℕ) (drawn : N → Option (List ℕ)) where
   -- each session was served by six of these rows, and the driver was closed with all of them
   pub record HasServedBy (d : DriverView) (rows : List (DriverRow G)) (sessions : List (Session S O N T)) (served : List (Served S O N T)) (files : F) (list : ListHistory) (store : StoreHistory) (domains : List (History Base (Mark ℕ))) : Type 0 where
     pub back : List (DriverRow G)
-    pub each : AreServed told store_faults maker ends faults unheard left held drawn d rows sessions back served
+    pub each : AreServed told store_faults maker ends faults unheard left source_faults held sink_faults drawn d rows sessions back served
     pub closed : HasClosed told back files list store domains
     pub safe : sound → KeepsAll (told files) store
 

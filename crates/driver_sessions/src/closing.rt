@@ -7,7 +7,8 @@ ghost use Rattle.driver_close.specs.Closed.{HasClosed, IsWhole};
 ghost use Rattle.held_tasks.specs.OfRows.{IsReadyRow};
 ghost use Rattle.driver_sessions.specs.Closing.{HasServedAll, HasServedBy};
 
-use crate::serving::{DriverRow, DriverRows, serve_all};
+use crate::seats::{DriverRow, DriverRows};
+use crate::serving::serve_all;
 use crate::session::{Served, Session};
 use def_keeper::Opening;
 use driver::Driver;
@@ -115,7 +116,7 @@ fn serve_by<
     requires own { All (IsRowOf driver) rows.list }
     requires ready { All IsReadyRow rows.list }
     requires whole { IsWhole rows.list }
-    ensures { IfSome result (λ left. HasServedBy F.told K.sound F.faults (λ maker. G.faults maker.guests) G.E.ends G.E.faults G.E.unheard S.left O.held N.drawn driver rows.list
+    ensures { IfSome result (λ left. HasServedBy F.told K.sound F.faults (λ maker. G.faults maker.guests) G.E.ends G.E.faults G.E.unheard S.left S.faults O.held O.faults N.drawn driver rows.list
         sessions.items left.served.items left.files left.books.list left.books.store left.books.cells.items) }
 {
     match serve_all(rt, alloc, &driver, rows, sessions) {
@@ -146,7 +147,7 @@ pub fn serve_and_close<
     requires own { IsRowOf driver row }
     requires ready { IsReadyRow row }
     requires whole { IsWhole (row ∷ []) }
-    ensures { IfSome result (λ left. HasServedAll F.told K.sound F.faults (λ maker. G.faults maker.guests) G.E.ends G.E.faults G.E.unheard S.left O.held N.drawn driver row
+    ensures { IfSome result (λ left. HasServedAll F.told K.sound F.faults (λ maker. G.faults maker.guests) G.E.ends G.E.faults G.E.unheard S.left S.faults O.held O.faults N.drawn driver row
         sessions.items left.served.items left.files left.books.list left.books.store left.books.cells.items) }
 {
     let count = sessions.len();

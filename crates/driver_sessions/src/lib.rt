@@ -2,12 +2,15 @@
 #![tactic(auto)]
 
 mod closing;
+mod seats;
 mod serving;
 mod session;
+mod six;
 
 pub use closing::{Left, serve_and_close};
 pub use driver::Driver;
 pub use held_tasks::MakerOf;
 pub use row_session::End;
-pub use serving::{DriverRow, DriverRows, serve_all};
+pub use seats::{DriverRow, DriverRows};
+pub use serving::serve_all;
 pub use session::{Served, Session};

@@ -6,41 +6,20 @@ ghost use Rattle.driver.specs.Cells.{IsRowOf};
 ghost use Rattle.held_tasks.specs.OfRows.{IsReadyRow, KeepsParts};
 ghost use Rattle.driver_sessions.specs.Serving.{AreServed, IsServed, MayServe};
 
+use crate::seats::{DriverRows, Seated, seat_all, unseat_all};
 use crate::session::{Served, Session};
 use def_keeper::Opening;
 use driver::Driver;
-use driver_close::RowList;
 use driver_service::DriverService;
 use files_disk::Files;
-use held_tasks::{MakerOf, Row};
+use held_tasks::MakerOf;
 use monitor_link::Guests;
 use packet::{Sink, Source};
-use row_seats::{Seated, seat_all, unseat_all};
 use row_session::serve;
 use std::alloc::{AllocError, Global};
 use std::sync::Wait;
 use std::thread::{Threads, map_vec};
 use virt_types::{Gate, Random};
-
-/// A row of a driver.
-pub type DriverRow<F, K, G> = Row<
-    F,
-    K,
-    <G as Guests>::M,
-    <G as Guests>::E,
-    <G as Guests>::Z,
-    MakerOf<G>,
->;
-
-/// Rows of it, with room for more.
-pub type DriverRows<F, K, G> = RowList<
-    F,
-    K,
-    <G as Guests>::M,
-    <G as Guests>::E,
-    <G as Guests>::Z,
-    MakerOf<G>,
->;
 
 // Serves one session.
 fn serve_one<
@@ -55,10 +34,10 @@ fn serve_one<
 >(
     rt: &R,
     driver: &Driver<F, K, MakerOf<G>>,
-    one: Seated<DriverRow<F, K, G>, Session<S, O, N, T>>,
-) -> Seated<DriverRow<F, K, G>, Served<S, O, N, T>>
+    one: Seated<F, K, G, Session<S, O, N, T>>,
+) -> Seated<F, K, G, Served<S, O, N, T>>
     requires { MayServe driver.now one.rows }
-    ensures { IsServed F.told F.faults (λ maker. G.faults maker.guests) G.E.ends G.E.faults G.E.unheard S.left O.held N.drawn driver.now one result }
+    ensures { IsServed F.told F.faults (λ maker. G.faults maker.guests) G.E.ends G.E.faults G.E.unheard S.left S.faults O.held O.faults N.drawn driver.now one result }
 {
     let Seated { rows, holder } = one;
     let Session {
@@ -108,20 +87,17 @@ fn serve_seated<
 >(
     rt: &R,
     driver: &Driver<F, K, MakerOf<G>>,
-    all: Vec<Seated<DriverRow<F, K, G>, Session<S, O, N, T>>>,
-) -> Result<Vec<Seated<DriverRow<F, K, G>, Served<S, O, N, T>>>, AllocError>
+    all: Vec<Seated<F, K, G, Session<S, O, N, T>>>,
+) -> Result<Vec<Seated<F, K, G, Served<S, O, N, T>>>, AllocError>
     requires { All (λ one. MayServe driver.now one.rows) all.items }
-    ensures { IfOk result (λ over. AllZip (IsServed F.told F.faults (λ maker. G.faults maker.guests) G.E.ends G.E.faults G.E.unheard S.left O.held N.drawn driver.now) all.items over.items) }
+    ensures { IfOk result (λ over. AllZip (IsServed F.told F.faults (λ maker. G.faults maker.guests) G.E.ends G.E.faults G.E.unheard S.left S.faults O.held O.faults N.drawn driver.now) all.items over.items) }
 {
     map_vec(
         rt,
         all,
-        &|one: Seated<DriverRow<F, K, G>, Session<S, O, N, T>>| -> Seated<
-            DriverRow<F, K, G>,
-            Served<S, O, N, T>,
-        >
+        &|one: Seated<F, K, G, Session<S, O, N, T>>| -> Seated<F, K, G, Served<S, O, N, T>>
             requires { MayServe driver.now one.rows }
-            ensures { IsServed F.told F.faults (λ maker. G.faults maker.guests) G.E.ends G.E.faults G.E.unheard S.left O.held N.drawn driver.entry.now one result }
+            ensures { IsServed F.told F.faults (λ maker. G.faults maker.guests) G.E.ends G.E.faults G.E.unheard S.left S.faults O.held O.faults N.drawn driver.entry.now one result }
         { serve_one(rt, driver, one) },
     )
 }
@@ -159,7 +135,7 @@ pub fn serve_all<
     requires six_each { length rows.list ≡ 6 * vec_len sessions }
     requires own { All (IsRowOf driver.now) rows.list }
     requires ready { All IsReadyRow rows.list }
-    ensures served { IfSome result (λ r. AreServed F.told F.faults (λ maker. G.faults maker.guests) G.E.ends G.E.faults G.E.unheard S.left O.held N.drawn driver.now
+    ensures served { IfSome result (λ r. AreServed F.told F.faults (λ maker. G.faults maker.guests) G.E.ends G.E.faults G.E.unheard S.left S.faults O.held O.faults N.drawn driver.now
         rows.list sessions.items r.0.list r.1.items) }
     ensures parts { IfSome result (λ r. AllZip KeepsParts rows.list r.0.list) }
     ensures own { IfSome result (λ r. All (IsRowOf driver.now) r.0.list) }

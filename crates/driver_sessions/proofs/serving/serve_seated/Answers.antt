@@ -7,7 +7,8 @@ use denote.Struct.Tuple.{field_at, type_at}
 use mathlib.Core.List.{[], ◌∷◌}
 use mir.Syntax.{named}
 use Rattle.driver.specs.contracts.the_driver.Driver
-use Rattle.driver_crossing.proofs.Crossing.{driver_sync, row_send}
+use Rattle.driver_crossing.proofs.Crossing.{driver_sync}
+use Rattle.driver_sessions.proofs.Crossing.{seated_send}
 use Rattle.driver_sessions.proofs.Given.{all_given}
 use Rattle.driver_sessions.proofs.session.Served.TheSendSync as over
 use Rattle.driver_sessions.proofs.session.Session.TheSendSync as session
@@ -16,7 +17,6 @@ use Rattle.driver_sessions.specs.contracts.session.Served
 use Rattle.driver_sessions.specs.contracts.session.Session
 use Rattle.row_desk.specs.contracts.maker.MakerOf
 use Rattle.row_desk.specs.contracts.maker.MakerOfMaker.TheImpl as maker_of
-use Rattle.row_seats.proofs.seats.Seated.TheSendSync as seated
 use Rattle.std.proofs.Common.{subst, sym}
 use Rattle.driver_sessions.proofs.serving.serve_seated.Goals as goal
 
@@ -33,9 +33,8 @@ map_vec-requires-send-J g c κs within =
     let E = param 9 g.row.G-E in
     let Z = param 10 g.row.G-Z in
     let may = c.type_bounds in
-    param_send 1 _ (arg_send _ no _ (seated.the_send _ (Session.the_row S O N T)
-    (row_send F K G M E Z g.F.Files g.K.Opening g.G.Guests g.G.M.Monitor g.G.E.Ears g.G.Z.Killer may.send-F may.send-G may.send-G-M may.send-G-E may.send-G-Z)
-    (session.the_send S O N T may.send-S may.send-O may.send-N may.send-T)))
+    param_send 1 _ (arg_send _ no _ (seated_send F K G M E Z g.F.Files g.K.Opening g.G.Guests g.G.M.Monitor g.G.E.Ears g.G.Z.Killer may.send-F may.send-G may.send-G-M may.send-G-E may.send-G-Z
+    (Session.the_row S O N T) (session.the_send S O N T may.send-S may.send-O may.send-N may.send-T)))
 
 pub map_vec-requires-send-X : goal.map_vec-requires-send-X
 map_vec-requires-send-X g c κs within =
@@ -50,9 +49,8 @@ map_vec-requires-send-X g c κs within =
     let E = param 9 g.row.G-E in
     let Z = param 10 g.row.G-Z in
     let may = c.type_bounds in
-    param_send 2 _ (arg_send _ no _ (seated.the_send _ (Served.the_row S O N T)
-    (row_send F K G M E Z g.F.Files g.K.Opening g.G.Guests g.G.M.Monitor g.G.E.Ears g.G.Z.Killer may.send-F may.send-G may.send-G-M may.send-G-E may.send-G-Z)
-    (over.the_send S O N T may.send-S may.send-O may.send-N may.send-T)))
+    param_send 2 _ (arg_send _ no _ (seated_send F K G M E Z g.F.Files g.K.Opening g.G.Guests g.G.M.Monitor g.G.E.Ears g.G.Z.Killer may.send-F may.send-G may.send-G-M may.send-G-E may.send-G-Z
+    (Served.the_row S O N T) (over.the_send S O N T may.send-S may.send-O may.send-N may.send-T)))
 
 -- what the threads share: the handle, and the driver
 pub map_vec-requires-sync-F : goal.map_vec-requires-sync-F
@@ -80,5 +78,5 @@ pub map_vec-requires-after_bounds : goal.map_vec-requires-after_bounds
 map_vec-requires-after_bounds g c κs within = λ i x below is. (subst (λ one. MayServe c.args.driver.now one.rows) (sym is) (c.requires i x below), (search sendable, search sendable, search sendable, search sendable, search sendable, search sendable, search sendable, search sendable, search sendable, search sendable, search sendable, search sendable))
 
 pub returns : goal.returns
-returns g c = all_given _ _ (IsServed g.F.Files.told g.F.Files.faults (λ maker. g.G.Guests.faults maker.guests) g.G.E.Ears.ends g.G.E.Ears.faults g.G.E.Ears.unheard g.S.Source.left g.O.Sink.held g.N.Random.drawn c.args.driver.now) (λ one over met. met)
+returns g c = all_given _ _ (IsServed g.F.Files.told g.F.Files.faults (λ maker. g.G.Guests.faults maker.guests) g.G.E.Ears.ends g.G.E.Ears.faults g.G.E.Ears.unheard g.S.Source.left g.S.Source.faults g.O.Sink.held g.O.Sink.faults g.N.Random.drawn c.args.driver.now) (λ one over met. met)
     c.args.all c.map_vec.result c.map_vec.ensures.len c.map_vec.ensures.each

@@ -1,6 +1,6 @@
 // Six rows of a list.
 ghost use Rattle.std.specs.Prelude.{◌≡◌, ◌≤◌, ◌+◌, ◌++◌, length};
-ghost use Rattle.row_seats.specs.Six.{all_six};
+ghost use Rattle.driver_sessions.specs.Six.{all_six};
 
 use pass_rows::{RowListOf, RowOf};
 use row_session::SixRows;

@@ -1,7 +1,7 @@
 -- What many have, while one after the other gets it or gives it back.
 use Rattle.std.proofs.Common.{◌≡◌, ◌∙◌, ◌++◌, List, [], ◌∷◌, ap, sym}
 use Rattle.std.proofs.lemmas.List.{append-nil, append_assoc}
-use Rattle.row_seats.specs.Turned.{turned}
+use Rattle.driver_sessions.specs.Turned.{turned}
 
 module _ {A B : Type 0} (has : A → List B) where
   -- what one more has, who comes last, comes first

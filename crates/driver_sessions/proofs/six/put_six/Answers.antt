@@ -1,5 +1,5 @@
-use Rattle.row_seats.proofs.Taken.{six_put}
-use Rattle.row_seats.proofs.six.put_six.Goals as goal
+use Rattle.driver_sessions.proofs.Taken.{six_put}
+use Rattle.driver_sessions.proofs.six.put_six.Goals as goal
 
 pub returns-clause-list : goal.returns-clause-list
 returns-clause-list g c =

@@ -1,7 +1,7 @@
 use Rattle.std.proofs.Common.{[], ◌∷◌, ◌∙◌, ap, arith, length, length-append}
-use Rattle.row_seats.specs.Six.{all_six}
-use Rattle.row_seats.proofs.Turning.{one_gets}
-use Rattle.row_seats.proofs.seats.seat_all.Goals as goal
+use Rattle.driver_sessions.specs.Six.{all_six}
+use Rattle.driver_sessions.proofs.Turning.{one_gets}
+use Rattle.driver_sessions.proofs.seats.seat_all.Goals as goal
 
 pub loop-holder-preserved : goal.loop-holder-preserved
 loop-holder-preserved g c =

@@ -1,2 +1,0 @@
-pub mod Six
-pub mod Turned
