@@ -32,6 +32,10 @@ zip_append R [] (u ∷ us) ys vs front back = absurd front
 zip_append R (x ∷ xs) [] ys vs front back = absurd front
 zip_append R (x ∷ xs) (u ∷ us) ys vs front back = (front.0, zip_append R xs us ys vs front.1 back)
 
+-- what holds of what is inside holds of the value that it is seen as
+pub as_seen : {A B : Type 0} (R : A → B → Type 0) (inside one : A) (other : B) → inside ≡ one → R inside other → R one other
+as_seen R inside one other seen holds = subst (λ (a : _). R a other) seen holds
+
 -- ---- six rows
 
 module _ {W : Type 0} (P : W → Type 0) where

@@ -15,8 +15,8 @@ module _ {A B : Type 0} (has : A → List B) where
       were ∙ ap (λ (l : List B). l ++ turned has all) last ∙ append_assoc left (has one) (turned has all)
       ∙ ap (λ (l : List B). left ++ l) (sym (turned_more all one)) ∙ ap (λ (l : List A). left ++ turned has l) (sym goes)
 
-  -- what the last one has comes back after the rest
-  pub one_gives : (start now then : List B) (all left : List A) (one : A) → start ≡ now ++ turned has all → all ≡ left ++ one ∷ [] → then ≡ now ++ has one → start ≡ then ++ turned has left
-  one_gives start now then all left one were last back =
+  -- what the last one has, which is seen as this one, comes back after the rest
+  pub one_gives : (start now then : List B) (all left : List A) (inside one : A) → start ≡ now ++ turned has all → all ≡ left ++ one ∷ [] → inside ≡ one → then ≡ now ++ has inside → start ≡ then ++ turned has left
+  one_gives start now then all left inside one were last seen back =
       were ∙ ap (λ (l : List A). now ++ turned has l) last ∙ ap (λ (l : List B). now ++ l) (turned_more left one)
-      ∙ sym (append_assoc now (has one) (turned has left)) ∙ ap (λ (l : List B). l ++ turned has left) (sym back)
+      ∙ sym (append_assoc now (has one) (turned has left)) ∙ ap (λ (l : List B). l ++ turned has left) (sym (back ∙ ap (λ (a : A). now ++ has a) seen))

@@ -7,8 +7,8 @@ use Rattle.driver_sessions.specs.Serving.{IsServed}
 use Rattle.held_tasks.specs.OfRows.{DriverRow, IsReadyRow}
 use Rattle.driver_sessions.proofs.serving.serve_all.Goals as goal
 
-pub serve_seated-requires : goal.serve_seated-requires
-serve_seated-requires g c =
+pub serve_seated-requires-after_bounds : goal.serve_seated-requires-after_bounds
+serve_seated-requires-after_bounds g c κs within =
     let seats = c.seat_all-rows in
     may_serve c.args.driver.now seats.result.1.items (subst (λ (l : List (DriverRow _)). All (IsRowOf c.args.driver.now) l) seats.ensures.rows c.requires.own)
     (subst (λ (l : List (DriverRow _)). All IsReadyRow l) seats.ensures.rows c.requires.ready)
@@ -31,6 +31,8 @@ unseat_all-requires-clause-room g c κs within =
       AllZip-long (IsServed g.F.Files.told g.F.Files.faults (λ maker. g.G.Guests.faults maker.guests) g.G.E.Ears.ends g.G.E.Ears.faults g.G.E.Ears.unheard g.S.Source.left g.S.Source.faults g.O.Sink.held g.O.Sink.faults g.N.Random.drawn c.args.driver.now)
           c.seat_all-rows.result.1.items c.in-Ok.over.items c.in-Ok.ensures,
       c.seat_all-rows.ensures.count,
+      c.len-count.ensures,
+      c.in_ok-room.ensures.room,
       c.seat_all-rows.result.1.ok,
       c.in-Ok.over.ok,
     )
