@@ -1,9 +1,9 @@
 // What a driver keeps of boots in its directory.
 use crate::asking::request;
-use crate::played::PlayedDriver;
-use crate::rising::Rising;
 use files_disk::{DirFiles, Effect, FailingCall, Files, MemFiles};
 use guest_model::SimGuests;
+use played_driver::PlayedDriver;
+use rising_words::Rising;
 use row_desk::{Maker, MakerOf};
 use std::alloc::Global;
 use std::fs;
