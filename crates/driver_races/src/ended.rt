@@ -76,6 +76,12 @@ impl Ended {
         self.count_stored(alloc, files, &state)
     }
 
+    /// How many histories are legal, and how many definitions as in their files.
+    pub(crate) fn words(&self, alloc: Global) -> Option<String> {
+        let (used, legal, filed, files) = (self.used, self.legal, self.filed, self.files);
+        format!(in alloc; "legal {legal} of {used}, as in its file {filed} of {files}").ok()
+    }
+
     /// What is left of a driver with these files.
     pub(crate) fn of<F: Files>(
         alloc: Global,

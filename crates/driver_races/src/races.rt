@@ -92,16 +92,9 @@ pub(crate) fn one_domain<H: Threads + Wait + Copy + Send + Sync>(
         callers.as_slice().last()?.hearer.ok,
     );
     let asked = ROUNDS * CALLS;
-    let Ended {
-        used,
-        legal,
-        filed,
-        files,
-        stored: _,
-    } = ended;
-    format!(in alloc;
-        "{first} and {second} of {asked} are Ok; legal {legal} of {used}, as in its file {filed} of {files}"
-    ).ok()
+    let words = ended.words(alloc)?;
+    let words = words.as_str();
+    format!(in alloc; "{first} and {second} of {asked} are Ok; {words}").ok()
 }
 
 // What the last of the callers was told, in words.
@@ -140,15 +133,7 @@ pub(crate) fn two_domains<H: Threads + Wait + Copy + Send + Sync>(
     let (mut callers, ended) = left(alloc, played)?;
     let second = last_text(&mut callers)?;
     let first = last_text(&mut callers)?;
-    let (first, second) = (first.as_str(), second.as_str());
-    let Ended {
-        used,
-        legal,
-        filed,
-        files,
-        stored: _,
-    } = ended;
-    format!(in alloc;
-        "legal {legal} of {used}, as in its file {filed} of {files}\n  b: {first}\n  c: {second}"
-    ).ok()
+    let words = ended.words(alloc)?;
+    let (words, first, second) = (words.as_str(), first.as_str(), second.as_str());
+    format!(in alloc; "{words}\n  b: {first}\n  c: {second}").ok()
 }

@@ -3,6 +3,7 @@ ghost use Rattle.std.specs.Prelude.{◌≡◌, ◌∷◌, [], ◌≤◌, ◌<◌
 ghost use Rattle.std.specs.List.{AllZip};
 ghost use Rattle.driver.specs.Cells.{IsRowOf};
 ghost use Rattle.driver_close.specs.Closed.{HasClosed, IsWhole};
+ghost use Rattle.driver_close.specs.OfOpening.{HasCells};
 ghost use Rattle.driver_threads.specs.Back.{ComesBack, MayCall};
 ghost use Rattle.driver_threads.specs.Ended.{Ends, HasEnded};
 ghost use Rattle.driver_threads.specs.Turned.{turned};
@@ -174,7 +175,7 @@ fn open<F: Files + Drop, G: Guests + Drop>(
     ),
 >
     ensures may_call { IfSome result (λ made. MayCall made.0 made.1) }
-    ensures whole { IfSome result (λ made. IsWhole (made.1 ∷ [])) }
+    ensures cells { IfSome result (λ made. HasCells F.told files made.1 made.0.starts made.0.statuses) }
 {
     match Driver::open(alloc, files, MakerOf { guests }) {
         Ok(made) => Some(made),
@@ -182,7 +183,7 @@ fn open<F: Files + Drop, G: Guests + Drop>(
     }
 }
 
-/// A driver is opened on these files, and asked something by its first row. Then all callers call it at once, each in a thread
+/// A driver is opened on these files, and called by its first row. Then all callers call it at once, each in a thread
 /// of its own and with a row of its own, and it is closed. None where there are no callers or more than a thousand, the driver
 /// is not opened, a row is not idle in the end, or there is no memory.
 pub fn play<
@@ -198,7 +199,7 @@ pub fn play<
     first: &mut Caller<T>,
     callers: Vec<Caller<T>>,
 ) -> Option<Played<F, T>>
-    ensures { IfSome result (λ played. Ends F.told (λ maker. G.faults maker.guests) (vec_len callers) played.files played.books.list played.books.store played.books.cells.items) }
+    ensures { IfSome result (λ played. Ends F.told (λ maker. G.faults maker.guests) (vec_len callers) files played.files played.books.list played.books.store played.books.cells.items) }
 {
     let (driver, row) = open(alloc, files, guests)?;
     let row = first.call_all(rt, &driver, row);
