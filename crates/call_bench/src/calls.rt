@@ -2,8 +2,9 @@
 ghost use Rattle.std.specs.Prelude.{◌≡◌, IfSome};
 ghost use Rattle.played_obj.specs.Free.{IsFree, Stays};
 
-use guest_model::{SimEars, SimGuests, SimKiller, SimMonitor};
-use played_obj::{DomainObj, DomainPass, MakerOf, PlainDesk, do_call, first_pass};
+use guest_model::SimGuests;
+use monitor_link::{Ears, Guests, Killer, Monitor};
+use played_obj::{Desk, DomainObj, DomainPass, MakerOf, PlainDesk, do_call, first_pass};
 use std::alloc::Global;
 use std::sync::Wait;
 use std::thread;
@@ -11,75 +12,77 @@ use std::thread::Threads;
 use story_domain::{Habit, definition};
 use virt_types::{Call, Reply, Who};
 
-/// A domain of modelled guests.
-pub type BenchObj<H> = DomainObj<SimMonitor<H>, SimEars<H>, SimKiller<H>>;
-
-/// A pass of it.
-pub type BenchPass<H> = DomainPass<SimMonitor<H>, SimEars<H>, SimKiller<H>>;
-
-/// A desk of them.
-pub type BenchDesk<H> = PlainDesk<MakerOf<SimGuests<H>>>;
-
-/// A desk that was asked nothing yet.
-pub fn new_desk<H: Wait + Copy + Send + Sync>(rt: H, alloc: Global) -> BenchDesk<H> {
-    PlainDesk::new(MakerOf {
-        guests: SimGuests::new(rt, alloc),
-    })
+/// Who calls, and the desk at which its calls ask.
+#[derive(Drop)]
+pub struct Caller<D> {
+    pub who: Who,
+    pub desk: D,
 }
 
-/// The caller of the call of this number.
-pub fn caller(count: u64) -> Who {
-    Who {
-        session: 1,
-        lane: 0,
-        count,
+impl<D> Caller<D> {
+    /// The caller of this number.
+    pub fn new(count: u64, desk: D) -> Caller<D> {
+        let who = Who {
+            session: 1,
+            lane: 0,
+            count,
+        };
+        Caller { who, desk }
     }
 }
 
 /// A call that is to be done.
-pub fn done<H: Wait + Copy + Send + Sync>(
-    rt: H,
+pub fn done<M: Monitor + Drop, E: Ears + Drop, Z: Killer + Drop, D: Desk<M, E, Z>, R: Wait>(
+    rt: &R,
     alloc: Global,
-    obj: &BenchObj<H>,
-    pass: BenchPass<H>,
-    desk: &mut BenchDesk<H>,
+    obj: &DomainObj<M, E, Z>,
+    pass: DomainPass<M, E, Z>,
+    caller: &mut Caller<D>,
     call: &Call,
-) -> Option<BenchPass<H>>
+) -> Option<DomainPass<M, E, Z>>
     requires own { pass.cell ≡ obj.now }
     requires free { IsFree pass }
     ensures { IfSome result (λ after. Stays pass after) }
 {
-    let (pass, reply) = do_call(&rt, alloc, obj, pass, caller(1), call, desk);
+    let who = caller.who;
+    let (pass, reply) = do_call(rt, alloc, obj, pass, who, call, &mut caller.desk);
     match &reply {
         Reply::Ok(_) => Some(pass),
         Reply::No(_) => None,
     }
 }
 
-fn pairs_on<H: Wait + Copy + Send + Sync>(
-    rt: H,
+// The guest is started, and then so many times suspended and resumed.
+fn pairs_on<M: Monitor + Drop, E: Ears + Drop, Z: Killer + Drop, D: Desk<M, E, Z>, R: Wait>(
+    rt: &R,
     alloc: Global,
-    obj: &BenchObj<H>,
-    pass: BenchPass<H>,
+    obj: &DomainObj<M, E, Z>,
+    pass: DomainPass<M, E, Z>,
+    caller: &mut Caller<D>,
     times: u64,
 ) -> Option<()>
     requires own { pass.cell ≡ obj.now }
     requires free { IsFree pass }
 {
-    let mut desk = new_desk(rt, alloc);
-    let mut pass = done(rt, alloc, obj, pass, &mut desk, &Call::Start)?;
+    let mut pass = done(rt, alloc, obj, pass, caller, &Call::Start)?;
     for _ in 0..times {
-        let suspended = done(rt, alloc, obj, pass, &mut desk, &Call::Suspend)?;
-        pass = done(rt, alloc, obj, suspended, &mut desk, &Call::Resume)?;
+        let suspended = done(rt, alloc, obj, pass, caller, &Call::Suspend)?;
+        pass = done(rt, alloc, obj, suspended, caller, &Call::Resume)?;
     }
     Some(())
 }
 
-/// So many times a guest is suspended and goes on.
-pub fn pairs<H: Wait + Copy + Send + Sync>(rt: H, alloc: Global, times: u64) -> Option<()> {
+// The same on a domain of such guests.
+fn pairs_of<G: Guests + Drop, R: Wait>(rt: &R, alloc: Global, guests: G, times: u64) -> Option<()> {
     let stored = definition(alloc, Habit::Obeys).ok()?;
     let (obj, pass) = first_pass(alloc, stored, 0).ok()?;
-    pairs_on(rt, alloc, &obj, pass, times)
+    let mut caller = Caller::new(1, PlainDesk::new(MakerOf { guests }));
+    pairs_on(rt, alloc, &obj, pass, &mut caller, times)
+}
+
+/// So many times a modelled guest is suspended and resumed.
+pub fn pairs<H: Wait + Copy + Send + Sync>(rt: H, alloc: Global, times: u64) -> Option<()> {
+    pairs_of(&rt, alloc, SimGuests::new(rt, alloc), times)
 }
 
 /// The same in so many threads, each with a domain of its own.

@@ -1,14 +1,15 @@
 // What one thread of a story does with its pass, step by step.
 ghost use Rattle.played_obj.specs.Free.{IsPartOf};
 
-use crate::desk::{Hold, StoryDesk};
-use crate::scene::{Scene, StoryObj, StoryPass};
+use crate::desk::{Hold, HoldingDesk};
+use crate::scene::Scene;
 use crate::signals::{MOST_RESTS, Signal};
 use crate::words::{call_word, hushed_word, put_info};
-use played_obj::{Queried, do_call, hear, read_info};
+use monitor_link::{Ears, Killer, Monitor};
+use played_obj::{Desk, DomainObj, DomainPass, Queried, do_call, hear, read_info};
 use std::sync::Wait;
 use story_rows::{Row, put_reply};
-use virt_types::{Call, NoMemory, RefusalCode, Reply, Value, Who};
+use virt_types::{Call, RefusalCode, Reply, Value, Who};
 
 /// One step.
 #[derive(Drop)]
@@ -31,16 +32,17 @@ pub(crate) enum Step {
 
 /// One who acts, with what is to be done.
 #[derive(Drop)]
-pub(crate) struct Actor<H: Wait + Copy + Send + Sync> {
-    pub(crate) pass: StoryPass<H>,
+pub(crate) struct Actor<P, D> {
+    pub(crate) pass: P,
+    pub(crate) desk: D,
     pub(crate) number: u64,
     pub(crate) steps: Vec<Step>,
 }
 
 /// One who has acted, with what was told meanwhile.
 #[derive(Drop)]
-pub(crate) struct Acted<H: Wait + Copy + Send + Sync> {
-    pub(crate) pass: StoryPass<H>,
+pub(crate) struct Acted<P> {
+    pub(crate) pass: P,
     pub(crate) row: Row,
 }
 
@@ -71,37 +73,32 @@ fn put_called<H>(scene: &Scene<H>, row: &mut Row, call: &Call, reply: &Reply) {
     }
 }
 
-// A call by a desk of its own.
-fn call_once<H: Wait + Copy + Send + Sync>(
+// A call, which the desk holds there.
+fn call_once<M: Monitor + Drop, E: Ears + Drop, Z: Killer + Drop, D: Desk<M, E, Z>, H: Wait>(
     scene: &Scene<H>,
-    obj: &StoryObj<H>,
-    pass: StoryPass<H>,
+    obj: &DomainObj<M, E, Z>,
+    pass: DomainPass<M, E, Z>,
+    desk: &mut HoldingDesk<H, D>,
     who: Who,
     call: &Call,
     hold: Hold,
     row: &mut Row,
-) -> StoryPass<H>
+) -> DomainPass<M, E, Z>
     requires { IsPartOf obj.now pass }
     ensures { IsPartOf obj.now result }
 {
-    let mut desk = match StoryDesk::new(scene, hold) {
-        Ok(desk) => desk,
-        Err(NoMemory) => {
-            row.lose();
-            return pass;
-        }
-    };
-    let (pass, reply) = do_call(&scene.rt, scene.alloc, obj, pass, who, call, &mut desk);
+    desk.hold_next(hold);
+    let (pass, reply) = do_call(&scene.rt, scene.alloc, obj, pass, who, call, desk);
     put_called(scene, row, call, &reply);
     pass
 }
 
 // Reads the state.
-fn read_once<H: Wait + Copy + Send + Sync>(
+fn read_once<M: Monitor + Drop, E: Ears + Drop, Z: Killer + Drop, H: Wait>(
     scene: &Scene<H>,
-    obj: &StoryObj<H>,
-    pass: StoryPass<H>,
-) -> (StoryPass<H>, Queried)
+    obj: &DomainObj<M, E, Z>,
+    pass: DomainPass<M, E, Z>,
+) -> (DomainPass<M, E, Z>, Queried)
     requires { IsPartOf obj.now pass }
     ensures { IsPartOf obj.now result.0 }
 {
@@ -109,12 +106,12 @@ fn read_once<H: Wait + Copy + Send + Sync>(
 }
 
 // Hears the guest.
-fn hear_all<H: Wait + Copy + Send + Sync>(
+fn hear_all<M: Monitor + Drop, E: Ears + Drop, Z: Killer + Drop, H: Wait>(
     scene: &Scene<H>,
-    obj: &StoryObj<H>,
-    pass: StoryPass<H>,
+    obj: &DomainObj<M, E, Z>,
+    pass: DomainPass<M, E, Z>,
     row: &mut Row,
-) -> StoryPass<H>
+) -> DomainPass<M, E, Z>
     requires { IsPartOf obj.now pass }
     ensures { IsPartOf obj.now result }
 {
@@ -126,13 +123,13 @@ fn hear_all<H: Wait + Copy + Send + Sync>(
 }
 
 // Reads the state until a signal, and writes it each time that it is another one than before.
-fn watch<H: Wait + Copy + Send + Sync>(
+fn watch<M: Monitor + Drop, E: Ears + Drop, Z: Killer + Drop, H: Wait>(
     scene: &Scene<H>,
-    obj: &StoryObj<H>,
-    pass: StoryPass<H>,
+    obj: &DomainObj<M, E, Z>,
+    pass: DomainPass<M, E, Z>,
     until: Signal,
     row: &mut Row,
-) -> StoryPass<H>
+) -> DomainPass<M, E, Z>
     requires { IsPartOf obj.now pass }
     ensures { IsPartOf obj.now result }
 {
@@ -155,19 +152,20 @@ fn watch<H: Wait + Copy + Send + Sync>(
 }
 
 // One step.
-fn take_step<H: Wait + Copy + Send + Sync>(
+fn take_step<M: Monitor + Drop, E: Ears + Drop, Z: Killer + Drop, D: Desk<M, E, Z>, H: Wait>(
     scene: &Scene<H>,
-    obj: &StoryObj<H>,
-    pass: StoryPass<H>,
+    obj: &DomainObj<M, E, Z>,
+    pass: DomainPass<M, E, Z>,
+    desk: &mut HoldingDesk<H, D>,
     who: Who,
     step: &Step,
     row: &mut Row,
-) -> StoryPass<H>
+) -> DomainPass<M, E, Z>
     requires { IsPartOf obj.now pass }
     ensures { IsPartOf obj.now result }
 {
     match step {
-        Step::Call(call, hold) => call_once(scene, obj, pass, who, call, *hold, row),
+        Step::Call(call, hold) => call_once(scene, obj, pass, desk, who, call, *hold, row),
         Step::Info => {
             let (pass, queried) = read_once(scene, obj, pass);
             put_info(row, &queried);
@@ -191,20 +189,28 @@ fn take_step<H: Wait + Copy + Send + Sync>(
 }
 
 /// All steps, one after the other.
-pub(crate) fn act<H: Wait + Copy + Send + Sync>(
+pub(crate) fn act<
+    M: Monitor + Drop,
+    E: Ears + Drop,
+    Z: Killer + Drop,
+    D: Desk<M, E, Z> + Drop,
+    H: Wait + Copy,
+>(
     scene: &Scene<H>,
-    obj: &StoryObj<H>,
-    actor: Actor<H>,
-) -> Acted<H>
+    obj: &DomainObj<M, E, Z>,
+    actor: Actor<DomainPass<M, E, Z>, HoldingDesk<H, D>>,
+) -> Acted<DomainPass<M, E, Z>>
     requires { IsPartOf obj.now actor.pass }
     ensures { IsPartOf obj.now result.pass }
 {
     let Actor {
         pass,
+        desk,
         number,
         steps,
     } = actor;
     let mut pass = pass;
+    let mut desk = desk;
     let mut row = Row::new(scene.alloc);
     let mut count: u64 = 0;
     for step in steps.as_slice() {
@@ -213,7 +219,7 @@ pub(crate) fn act<H: Wait + Copy + Send + Sync>(
             lane: 0,
             count,
         };
-        pass = take_step(scene, obj, pass, who, step, &mut row);
+        pass = take_step(scene, obj, pass, &mut desk, who, step, &mut row);
         count = count.saturating_add(1);
     }
     Acted { pass, row }

@@ -2,8 +2,8 @@
 use domain_spec::Mark;
 use history_spec::Stamp;
 
-/// The session whose pass left a mark; none left the ends and events of guests.
-pub(crate) fn session_of(mark: &Mark<Stamp>) -> Option<u64> {
+// The session whose pass left a mark; none left the ends and events of guests.
+fn session_of(mark: &Mark<Stamp>) -> Option<u64> {
     match mark {
         Mark::Admit { who, .. } => Some(who.session),
         Mark::Done { who, .. } => Some(who.session),

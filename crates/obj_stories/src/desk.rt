@@ -1,14 +1,11 @@
-// The desk of one call of a story, which may hold it before a phase until a signal is given.
+// A desk that may hold the calls of a story before a phase, until a signal is given.
 ghost use Rattle.std.specs.Prelude.{◌≡◌, [], ◌∷◌, ◌++◌, is_some};
 
-use crate::guests::{StoryEars, StoryGuests, StoryKiller, StoryMonitor};
-use crate::scene::{Scene, StoryPass};
 use crate::signals::{SharedSignals, Signal};
-use guest_model::{SimEars, SimGuests, SimKiller, SimMonitor};
-use monitor_link::Link;
-use played_obj::{Desk, MakerOf, PlainDesk, Ticket};
-use std::sync::{Arc, Wait};
-use virt_types::{Answer, Ask, NoMemory};
+use monitor_link::{Ears, Killer, Link, Monitor};
+use played_obj::{Desk, DomainPass, Ticket};
+use std::sync::Wait;
+use virt_types::{Answer, Ask};
 
 /// Where a desk holds a call.
 #[derive(Clone, Copy)]
@@ -19,64 +16,49 @@ pub(crate) enum Hold {
     Before(u64, Signal),
 }
 
-/// A plain desk that may hold its call.
+/// Another desk, which may hold its call.
 #[derive(Drop)]
-pub(crate) struct StoryDesk<H: Wait + Copy + Send + Sync> {
+pub(crate) struct HoldingDesk<H, D> {
     rt: H,
     signals: SharedSignals,
     hold: Hold,
     phases: u64,
-    desk: PlainDesk<StoryGuests<H, MakerOf<SimGuests<H>>>>,
+    desk: D,
 }
 
-impl<H: Wait + Copy + Send + Sync> StoryDesk<H> {
-    /// A desk that was asked nothing yet.
-    pub(crate) fn new(scene: &Scene<H>, hold: Hold) -> Result<StoryDesk<H>, NoMemory> {
-        let signals = Arc::try_clone(&scene.signals)?;
-        let for_guests = Arc::try_clone(&scene.signals)?;
-        Ok(StoryDesk {
-            rt: scene.rt,
+impl<H, D> HoldingDesk<H, D> {
+    /// A desk that holds no call yet.
+    pub(crate) fn new(rt: H, signals: SharedSignals, desk: D) -> HoldingDesk<H, D> {
+        HoldingDesk {
+            rt,
             signals,
-            hold,
+            hold: Hold::Nowhere,
             phases: 0,
-            desk: PlainDesk::new(StoryGuests {
-                rt: scene.rt,
-                guests: MakerOf {
-                    guests: SimGuests::new(scene.rt, scene.alloc),
-                },
-                signals: for_guests,
-                manner: scene.manner,
-            }),
-        })
+            desk,
+        }
+    }
+
+    /// The next call is held there.
+    pub(crate) fn hold_next(&mut self, hold: Hold) {
+        self.hold = hold;
+        self.phases = 0;
     }
 }
 
-impl<H: Wait + Copy + Send + Sync> Desk<
-    StoryMonitor<H, SimMonitor<H>>,
-    StoryEars<SimEars<H>>,
-    StoryKiller<SimKiller<H>>,
-> for StoryDesk<H> {
-    ghost report = { λ d. d.desk.report.asked };
+impl<H: Wait, M: Monitor + Drop, E: Ears + Drop, Z: Killer + Drop, D: Desk<M, E, Z>> Desk<M, E, Z>
+    for HoldingDesk<H, D> {
+    ghost report = { λ d. D.report d.desk };
 
     fn ask(
         &mut self,
-        pass: &StoryPass<H>,
-        ticket: &mut Ticket<StoryMonitor<H, SimMonitor<H>>>,
+        pass: &DomainPass<M, E, Z>,
+        ticket: &mut Ticket<M>,
         asked: &Ask,
-    ) -> (
-        Answer,
-        Option<
-            Link<
-                StoryMonitor<H, SimMonitor<H>>,
-                StoryEars<SimEars<H>>,
-                StoryKiller<SimKiller<H>>,
-            >,
-        >,
-    ) {
+    ) -> (Answer, Option<Link<M, E, Z>>) {
         self.desk.ask(pass, ticket, asked)
     }
 
-    fn between(&mut self, pass: &StoryPass<H>) {
+    fn between(&mut self, pass: &DomainPass<M, E, Z>) {
         self.phases = self.phases.saturating_add(1);
         match self.hold {
             Hold::Before(phase, until) if phase == self.phases => {

@@ -1,9 +1,11 @@
-// What is the same for all threads of a story, and the domain that it is played on.
-use crate::guests::{Manner, StoryEars, StoryKiller, StoryMonitor};
+// What is the same for all threads of a story, and the desks at which they call.
+use crate::desk::HoldingDesk;
+use crate::guests::{Manner, StoryEars, StoryGuests, StoryKiller, StoryMonitor};
 use crate::signals::{SharedSignals, Signals};
-use guest_model::{SimEars, SimKiller, SimMonitor};
-use played_obj::{DomainObj, DomainPass};
+use guest_model::{SimEars, SimGuests, SimKiller, SimMonitor};
+use played_obj::{DomainObj, DomainPass, MakerOf, PlainDesk};
 use std::alloc::Global;
+use std::sync::{Arc, Wait};
 use virt_types::NoMemory;
 
 /// A domain of a story.
@@ -19,6 +21,9 @@ pub(crate) type StoryPass<H> = DomainPass<
     StoryEars<SimEars<H>>,
     StoryKiller<SimKiller<H>>,
 >;
+
+/// A desk of its guests.
+pub(crate) type StoryDesk<H> = HoldingDesk<H, PlainDesk<StoryGuests<H, MakerOf<SimGuests<H>>>>>;
 
 /// What is the same for all threads of a story.
 #[derive(Drop)]
@@ -39,5 +44,22 @@ impl<H: Copy> Scene<H> {
             signals,
             manner,
         })
+    }
+}
+
+impl<H: Wait + Copy + Send + Sync> Scene<H> {
+    /// A desk that was asked nothing yet.
+    pub(crate) fn desk(&self) -> Result<StoryDesk<H>, NoMemory> {
+        let signals = Arc::try_clone(&self.signals)?;
+        let for_guests = Arc::try_clone(&self.signals)?;
+        let guests = StoryGuests {
+            rt: self.rt,
+            guests: MakerOf {
+                guests: SimGuests::new(self.rt, self.alloc),
+            },
+            signals: for_guests,
+            manner: self.manner,
+        };
+        Ok(HoldingDesk::new(self.rt, signals, PlainDesk::new(guests)))
     }
 }

@@ -96,6 +96,7 @@ impl Signals {
             self.rest(rt, signal, seen);
         }
     }
+
     /// Tells that a call is held, and waits until it may go on.
     pub(crate) fn hold<R: Wait>(&self, rt: &R, until: Signal) {
         self.give(Signal::Held);

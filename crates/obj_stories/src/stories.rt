@@ -85,11 +85,7 @@ pub(crate) fn aborted<H: Threads + Wait + Copy + Send + Sync>(
 ) -> Result<String, NoMemory> {
     let save = Call::Save(name(alloc, "s")?);
     let attach = Call::Attach(disk(alloc)?);
-    let one = vec![in alloc;
-        call(Call::Start),
-        held(save, 4),
-        Step::Info,
-    ]?;
+    let one = vec![in alloc; call(Call::Start), held(save, 4), Step::Info]?;
     let two = vec![in alloc;
         Step::Wait(Signal::Held),
         Step::Info,
@@ -106,11 +102,7 @@ pub(crate) fn between_phases<H: Threads + Wait + Copy + Send + Sync>(
     alloc: Global,
 ) -> Result<String, NoMemory> {
     let dump = Call::Dump(name(alloc, "d")?);
-    let one = vec![in alloc;
-        call(Call::Start),
-        held(dump, 2),
-        Step::Info,
-    ]?;
+    let one = vec![in alloc; call(Call::Start), held(dump, 2), Step::Info]?;
     let two = vec![in alloc;
         Step::Wait(Signal::Held),
         call(Call::Suspend),

@@ -3,5 +3,5 @@ use Rattle.played_obj.specs.Free.{IsPartOf}
 use Rattle.obj_stories.specs.Home.{IsHome}
 use Rattle.obj_stories.proofs.stage.cast.Given as goal
 
-abbrev pub invariant-loop-steps : goal.invariant-loop-steps
-invariant-loop-steps g l = IsHome l.obj l.home.pass l.home.out × All (λ actor. IsPartOf l.obj actor.pass) l.actors.items
+abbrev pub invariant-loop-part : goal.invariant-loop-part
+invariant-loop-part g l = IsHome l.obj l.home.pass l.home.out × All (λ actor. IsPartOf l.obj actor.pass) l.actors.items
