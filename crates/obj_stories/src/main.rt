@@ -3,6 +3,7 @@
 #![tactic(auto)]
 
 mod acting;
+mod casting;
 mod counting;
 mod desk;
 mod guests;

@@ -1,11 +1,15 @@
-// What is the same for all threads of a story, and the desks at which they call.
+// What is the same for all threads of a story, and the domain and the desks at which they call.
+ghost use Rattle.std.specs.Prelude.{◌≡◌, ◌≤◌, ◌^◌, IfOk};
+ghost use Rattle.played_obj.specs.Free.{IsFree};
+
 use crate::desk::HoldingDesk;
 use crate::guests::{Manner, StoryEars, StoryGuests, StoryKiller, StoryMonitor};
 use crate::signals::{SharedSignals, Signals};
 use guest_model::{SimEars, SimGuests, SimKiller, SimMonitor};
-use played_obj::{DomainObj, DomainPass, MakerOf, PlainDesk};
+use played_obj::{DomainObj, DomainPass, MakerOf, PlainDesk, first_pass};
 use std::alloc::Global;
 use std::sync::{Arc, Wait};
+use story_domain::{Habit, definition};
 use virt_types::NoMemory;
 
 /// A domain of a story.
@@ -61,5 +65,16 @@ impl<H: Wait + Copy + Send + Sync> Scene<H> {
             manner: self.manner,
         };
         Ok(HoldingDesk::new(self.rt, signals, PlainDesk::new(guests)))
+    }
+
+    /// A domain, whose first turn has this ticket, and its first pass.
+    pub(crate) fn domain(&self, first_ticket: u64) -> Result<(StoryObj<H>, StoryPass<H>), NoMemory>
+        requires { first_ticket ≤ 2 ^ 62 }
+        ensures cell { IfOk result (λ made. made.1.cell ≡ made.0) }
+        ensures parts { IfOk result (λ made. made.1.parts ≡ 2 ^ 62) }
+        ensures free { IfOk result (λ made. IsFree made.1) }
+    {
+        let stored = definition(self.alloc, Habit::IsSlow)?;
+        first_pass(self.alloc, stored, first_ticket)
     }
 }

@@ -5,7 +5,6 @@ ghost use Rattle.played_obj.specs.Free.{IsFree};
 use crate::guests::Manner;
 use crate::rows::put_end;
 use crate::scene::Scene;
-use crate::stage::new_domain;
 use crate::words::put_info;
 use monitor_link::{Ears, Killer, Monitor};
 use played_obj::{Desk, DomainObj, DomainPass, do_call, read_info};
@@ -54,6 +53,6 @@ pub(crate) fn spent<H: Wait + Copy + Send + Sync>(
 ) -> Result<String, NoMemory> {
     let scene = Scene::new(rt, alloc, Manner::Plain)?;
     let mut desk = scene.desk()?;
-    let (obj, pass) = new_domain(&scene, LAST_TICKET)?;
+    let (obj, pass) = scene.domain(LAST_TICKET)?;
     spend(&rt, alloc, obj, pass, &mut desk)
 }

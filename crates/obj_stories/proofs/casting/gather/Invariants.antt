@@ -1,7 +1,7 @@
 use Rattle.std.proofs.Common.{All, vec_len}
 use Rattle.played_obj.specs.Free.{IsPartOf}
 use Rattle.obj_stories.specs.Home.{IsHome}
-use Rattle.obj_stories.proofs.stage.gather.Given as goal
+use Rattle.obj_stories.proofs.casting.gather.Given as goal
 
 abbrev pub decreases-loop-one : goal.decreases-loop-one
 decreases-loop-one g l = vec_len l.all

@@ -2,7 +2,7 @@ use Rattle.std.proofs.Common.{absurd, arith}
 use Rattle.obj_stories.specs.declared.acting.Actor.{Actor}
 use Rattle.played_obj.proofs.Pushed.{one_more}
 use Rattle.played_obj.specs.Free.{DomainPass}
-use Rattle.obj_stories.proofs.stage.cast.Goals as goal
+use Rattle.obj_stories.proofs.casting.cast.Goals as goal
 
 pub loop-part-init : goal.loop-part-init
 loop-part-init g c = (c.requires, λ k actor below. absurd (omega (arith, c.new-actors.ensures.len, below)))

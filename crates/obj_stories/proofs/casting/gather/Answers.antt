@@ -1,7 +1,7 @@
 use Rattle.std.proofs.lemmas.List.Elements.{All-pop}
 use Rattle.obj_stories.specs.declared.acting.Acted.{Acted}
 use Rattle.played_obj.specs.Free.{DomainPass, IsPartOf}
-use Rattle.obj_stories.proofs.stage.gather.Goals as goal
+use Rattle.obj_stories.proofs.casting.gather.Goals as goal
 
 pub loop-one-preserved : goal.loop-one-preserved
 loop-one-preserved g c = (
