@@ -49,7 +49,7 @@ fn image(
     op: &Op,
     answers: &[Answer],
 ) -> Result<Ask, NoMemory>
-    ensures { IfOk result (λ a. a ≡ ask.WriteImage name.now kind live.now.def op.now.was_running (copied_bytes (first_value answers.now))) }
+    ensures { IfOk result (λ a. a ≡ ask.WriteImage name.now kind op.now.was_running live.now.def (copied_bytes (first_value answers.now))) }
 {
     let (name, (definition, bytes)) = both(
         Boxed::copy_of(alloc, name),

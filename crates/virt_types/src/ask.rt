@@ -153,7 +153,7 @@ impl ImageKind {
 }
 
 /// What a call asks: a command of the guest's monitor, or one of the five asks of the desk. What is
-/// large is boxed, so that an ask takes 48 bytes.
+/// large is boxed, so that an ask takes 40 bytes.
 pub enum Ask {
     /// This command to the guest's monitor.
     Command(Command),
@@ -186,10 +186,10 @@ pub enum Ask {
         name: Boxed<Name>,
         /// What the image holds.
         kind: ImageKind,
-        /// The definition of the guest.
-        definition: Boxed<DomainDef>,
         /// Whether the guest ran.
         running: bool,
+        /// The definition of the guest.
+        definition: Boxed<DomainDef>,
         /// The state of the guest.
         bytes: Boxed<Bytes>,
     },
