@@ -270,8 +270,7 @@ pub fn task_of<R: Random>(parsed: Parsed, random: &mut R) -> Task
     ensures { IsMadeOfDrawn (λ words. IsTaskOf words parsed result) (R.drawn random.old) (R.drawn random.new) }
 {
     match parsed {
-        Parsed::Attach(device) => {
-            let mut device = device;
+        Parsed::Attach(mut device) => {
             fill_device(device.as_mut(), random);
             Task::Run(Call::Attach(device))
         }

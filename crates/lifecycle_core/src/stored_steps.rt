@@ -19,10 +19,9 @@ use virt_types::{
 };
 
 // How a reply names a domain of this identifier and number.
-fn naming(named: Boxed<DomainRef>, uuid: Uuid, id: i32) -> Reply
+fn naming(mut named: Boxed<DomainRef>, uuid: Uuid, id: i32) -> Reply
     ensures { result ≡ reply.Ok (value.Domain (record named { uuid = uuid; id = id })) }
 {
-    let mut named = named;
     let reference = named.as_mut();
     reference.uuid = uuid;
     reference.id = id;
