@@ -26,8 +26,8 @@ returns-in-Ok-claim g c =
         filled = subst (λ (p : Parts). IsFilledBy claimed.0 p.0 it.definition) c.into_parts-read.ensures claimed.1.0;
         claims = claimed.1.1;
         asks =
-        ap (λ (saved : List ℕ). asked.Task it.hold (task.Run (call.Restore it.definition parts.1 saved))) c.in-Ok.ensures
-        ∙ ap (λ (p : Parts). asked.Task it.hold (task.Run (call.Restore it.definition p.1 p.2))) c.into_parts-read.ensures;
+            ap (λ (saved : List ℕ). asked.Task it.hold (task.Run (call.Restore it.definition parts.1 saved))) c.in-Ok.ensures
+            ∙ ap (λ (p : Parts). asked.Task it.hold (task.Run (call.Restore it.definition p.1 p.2))) c.into_parts-read.ensures;
       }),
       claimed.2,
     )
