@@ -8,8 +8,6 @@ mod on_domain;
 mod played;
 mod rising;
 mod story;
-#[cfg(test)]
-mod tests;
 mod texts;
 mod told;
 mod words;

@@ -3,8 +3,6 @@ ghost use Rattle.std.specs.Prelude.{◌≡◌};
 ghost use Rattle.def_keeper.specs.Opened.{IsSureAt};
 
 use def_keeper::Opening;
-#[cfg(test)]
-use driver::unkept_of;
 use driver::{Driver, Row};
 use files_disk::Files;
 use outcome_spec::Outcome;
@@ -54,15 +52,5 @@ impl<F: Files + Drop, K: Opening, G: Maker + Drop> PlayedDriver<F, K, G> {
         let PlayedDriver { driver, row } = self;
         let (row, outcome) = driver.call(rt, row, who, request, random);
         (PlayedDriver { driver, row }, outcome)
-    }
-}
-
-#[cfg(test)]
-impl<F: Files + Drop, K: Opening, G: Maker> PlayedDriver<F, K, G> {
-    /// How many statuses of boots the calls by the row could not keep.
-    pub(crate) fn unkept(self) -> (PlayedDriver<F, K, G>, u64) {
-        let PlayedDriver { driver, row } = self;
-        let (row, unkept) = unkept_of(row);
-        (PlayedDriver { driver, row }, unkept)
     }
 }
