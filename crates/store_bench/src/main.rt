@@ -8,7 +8,6 @@
 #![tactic(auto)]
 
 mod defining;
-mod nothing;
 mod timing;
 
 use files_disk::MemFiles;

@@ -1,8 +1,8 @@
 // How long calls of a keeper take, in nanoseconds, and whether all of them were done.
 use crate::defining;
-use crate::nothing::NoFiles;
 use def_keeper::Keeper;
 use files_disk::DirFiles;
+use no_files::NoFiles;
 use std::io;
 use std::marker::Brand;
 use std::time::Instant;

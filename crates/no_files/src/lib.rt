@@ -1,4 +1,6 @@
-// Files that do nothing, so that what a keeper does by itself can be timed.
+//! Files that do nothing, so that what works on files can be timed by itself.
+#![tactic(auto)]
+
 ghost use Rattle.std.specs.Prelude.{None};
 
 use files_disk::Files;
@@ -8,6 +10,7 @@ use virt_types::{Bytes, Failed, Fault, ListOf, Text, TextList};
 /// A directory without files, whose calls do nothing and are answered Ok.
 #[derive(Drop)]
 pub struct NoFiles {
+    /// Where its empty lists are.
     pub alloc: Global,
 }
 
