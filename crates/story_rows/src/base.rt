@@ -2,7 +2,7 @@
 use domain_history::{ChapterBase, KeptRegistration, Underway};
 use domain_spec::{Base, OpenOperation, Registration};
 use std::alloc::Global;
-use virt_types::{ListOf, NoMemory, TryCopy, both};
+use virt_types::{ListOf, NoMemory, Transition, TryCopy, both};
 
 fn open(underway: &Underway) -> Result<OpenOperation, NoMemory> {
     let (call, outcome) = both(underway.call().copy(), underway.outcome().copy())?;
@@ -22,44 +22,42 @@ fn operation(underway: &Option<Underway>) -> Result<Option<OpenOperation>, NoMem
     }
 }
 
-fn registration(kept: KeptRegistration) -> Registration {
-    let KeptRegistration {
-        by: _,
-        client,
-        taken,
-        pending,
-        is_lost,
-    } = kept;
-    Registration {
-        number: 0,
-        client,
-        taken,
-        pending,
-        is_lost,
+fn copied(alloc: Global, pending: &[Transition]) -> Result<ListOf<Transition>, NoMemory> {
+    let mut all = ListOf::new(alloc);
+    for one in pending {
+        all.push(*one)?;
     }
+    Ok(all)
+}
+
+fn registration(alloc: Global, kept: &KeptRegistration) -> Result<Registration, NoMemory> {
+    Ok(Registration {
+        number: 0,
+        client: kept.client,
+        taken: kept.taken,
+        pending: copied(alloc, kept.pending.as_slice())?,
+        is_lost: kept.is_lost,
+    })
 }
 
 fn registrations(
     alloc: Global,
-    kept: ListOf<KeptRegistration>,
+    kept: &[KeptRegistration],
 ) -> Result<ListOf<Registration>, NoMemory> {
     let mut registrations = ListOf::new(alloc);
-    for one in kept.into_vec() {
-        registrations.push(registration(one))?;
+    for one in kept {
+        registrations.push(registration(alloc, one)?)?;
     }
     Ok(registrations)
 }
 
 /// What the chapter began with.
-pub(crate) fn read_base(alloc: Global, began: ChapterBase) -> Result<Base, NoMemory> {
-    let ChapterBase {
-        state,
-        operation: underway,
-        registrations: kept,
-    } = began;
-    let open = both(operation(&underway), registrations(alloc, kept));
-    drop(underway);
-    let (state, (operation, registrations)) = both(Ok(state), open)?;
+pub(crate) fn read_base(alloc: Global, began: &ChapterBase) -> Result<Base, NoMemory> {
+    let open = both(
+        operation(&began.operation),
+        registrations(alloc, began.registrations.as_slice()),
+    );
+    let (state, (operation, registrations)) = both(began.state.copy(), open)?;
     Ok(Base {
         state,
         operation,

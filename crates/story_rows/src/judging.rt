@@ -7,27 +7,64 @@ use crate::row::Row;
 use domain_history::ChapterBase;
 use domain_spec::Mark;
 use history_spec::Stamp;
-use model_histories::{Verdict, judge};
+use model_histories::{Verdict, judge, state_after};
 use std::alloc::Global;
-use virt_types::{ListOf, NoMemory, both};
+use virt_types::{ListOf, NoMemory, State, both};
 
-fn verdict(
-    alloc: Global,
-    began: ChapterBase,
-    marks: ListOf<Mark<Stamp>>,
-) -> Result<Verdict, NoMemory> {
-    let (began, all) = both(read_base(alloc, began), all_numbered(alloc, marks))?;
-    judge(alloc, began, all.as_slice())
+fn verdict(alloc: Global, began: &ChapterBase, marks: &[Mark<u64>]) -> Result<Verdict, NoMemory> {
+    let began = read_base(alloc, began)?;
+    judge(alloc, began, marks)
+}
+
+fn state(alloc: Global, began: &ChapterBase, marks: &[Mark<u64>]) -> Result<State, NoMemory> {
+    let began = read_base(alloc, began)?;
+    state_after(alloc, began, marks)
+}
+
+fn put(row: &mut Row, verdict: Verdict) {
+    match verdict {
+        Verdict::Legal => row.put("legal"),
+        Verdict::Fault(place) => {
+            row.put("fault at ");
+            row.put_number(place as u64);
+        }
+    }
 }
 
 /// Puts at the end of the row what the plain judge says of a history.
 pub fn put_verdict(alloc: Global, row: &mut Row, began: ChapterBase, marks: ListOf<Mark<Stamp>>) {
-    match verdict(alloc, began, marks) {
-        Ok(Verdict::Legal) => row.put("legal"),
-        Ok(Verdict::Fault(place)) => {
-            row.put("fault at ");
-            row.put_number(place as u64);
-        }
+    match all_numbered(alloc, marks) {
+        Ok(all) => match verdict(alloc, &began, all.as_slice()) {
+            Ok(verdict) => put(row, verdict),
+            Err(NoMemory) => row.lose(),
+        },
         Err(NoMemory) => row.lose(),
+    }
+}
+
+/// The same, with the state that the history leaves; none where there was no memory.
+pub fn put_judged(
+    alloc: Global,
+    row: &mut Row,
+    began: ChapterBase,
+    marks: ListOf<Mark<Stamp>>,
+) -> Option<State> {
+    let all = match all_numbered(alloc, marks) {
+        Ok(all) => all,
+        Err(NoMemory) => {
+            row.lose();
+            return None;
+        }
+    };
+    let verdict = verdict(alloc, &began, all.as_slice());
+    match both(verdict, state(alloc, &began, all.as_slice())) {
+        Ok((verdict, state)) => {
+            put(row, verdict);
+            Some(state)
+        }
+        Err(NoMemory) => {
+            row.lose();
+            None
+        }
     }
 }

@@ -7,6 +7,6 @@ mod marks;
 mod row;
 mod words;
 
-pub use judging::put_verdict;
+pub use judging::{put_judged, put_verdict};
 pub use row::Row;
 pub use words::put_reply;
