@@ -1,12 +1,15 @@
 //! Stories of drivers, which it reads from standard input: each line is a request of an activity with a row of its own. It
-//! prints the line with what the request is answered, by whose history, and at which place there.
+//! prints the line with what the request is answered, by whose history, and at which place there. A driver may be closed and
+//! opened again: then the histories are judged, and what is stored is compared with the files.
 #![tactic(auto)]
 
 mod asking;
+mod ending;
+mod found;
 mod hosts;
 mod on_domain;
-mod played;
-mod rising;
+mod reopening;
+mod stopped;
 mod story;
 mod texts;
 mod told;
@@ -20,6 +23,6 @@ fn main(rt: HostRuntime) -> io::Result<()> {
     rt.stdin().read_to_string(&mut text)?;
     match hosts::play(&rt, rt.alloc(), text.as_str()) {
         Ok(report) => println!(rt; "{}", report.as_str()),
-        Err(_) => println!(rt; "out of memory"),
+        Err(stopped) => println!(rt; "{}", stopped.words()),
     }
 }

@@ -1,16 +1,19 @@
 // What is told of a story, and what it needs from line to line.
 use crate::asking::request;
-use crate::played::PlayedDriver;
-use crate::rising::Rising;
+use crate::ending::put_end;
+use crate::found::put_found;
 use crate::told::put_outcome;
 use def_keeper::Opening;
+use driver_close::Books;
 use files_disk::Files;
 use outcome_spec::Outcome;
+use played_driver::PlayedDriver;
+use rising_words::Rising;
 use row_desk::Maker;
 use std::alloc::Global;
 use std::sync::Wait;
 use story_rows::Row;
-use virt_types::{MigratedText, NoMemory, Reply, TryCopy, Value, Who};
+use virt_types::{ListOf, MigratedText, NoMemory, Reply, RequestList, Status, TryCopy, Value, Who};
 
 /// What is told of a story, and what it needs from line to line.
 #[derive(Drop)]
@@ -51,6 +54,18 @@ impl Story {
             calls: _,
         } = self;
         row.into_text()
+    }
+
+    /// Tells a line by which a driver was closed, and what is left of that.
+    pub(crate) fn tell_end<F: Files>(&mut self, line: &str, files: &mut F, books: Books) {
+        self.row.put(line);
+        put_end(self.alloc, &mut self.row, files, books);
+    }
+
+    /// Tells what the next driver found.
+    pub(crate) fn tell_found(&mut self, starts: &RequestList, statuses: &ListOf<Option<Status>>) {
+        put_found(&mut self.row, starts.as_slice(), statuses.as_slice());
+        self.row.put("\n");
     }
 
     // A guest that leaves may come back.
