@@ -19,6 +19,11 @@ impl Model for Report {
     ghost also_owns = { λ _. ftrue };
 }
 
+// It owns nothing.
+unsafe impl Send for Report {}
+
+unsafe impl Sync for Report {}
+
 impl Report {
     /// The report that the caller names.
     fn named() -> Report
