@@ -1,0 +1,7 @@
+pub mod Crossing
+pub mod Ended
+pub mod Keeping
+pub mod Rows
+pub mod Taken
+pub mod Turning
+pub mod Whole

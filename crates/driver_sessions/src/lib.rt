@@ -1,0 +1,16 @@
+//! Sessions over one driver at once: each is served in a thread of its own, by six rows of its own.
+#![tactic(auto)]
+
+mod closing;
+mod seats;
+mod serving;
+mod session;
+mod six;
+
+pub use closing::{Left, serve_and_close};
+pub use driver::Driver;
+pub use held_tasks::MakerOf;
+pub use row_session::End;
+pub use seats::{DriverRow, DriverRows};
+pub use serving::serve_all;
+pub use session::{Served, Session};
