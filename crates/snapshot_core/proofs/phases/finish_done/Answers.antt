@@ -6,4 +6,4 @@ use Rattle.snapshot_core.proofs.phases.finish_done.Goals as goal
 pub returns-clause-in_mark : goal.returns-clause-in_mark
 returns-clause-in_mark c =
     let busy : is_nothing c.args.domain.now.op ≡ false = sym c.is_nothing.ensures ∙ c.if-is_nothing.false in
-    rw (c.in-Snapshot.is) (taken_on c.args.domain.now c.args.domain.now.op c.in-Snapshot.info c.args.answers.now c.finish_take.result.in_mark c.requires.there busy (rw c.in-Snapshot.is at c.requires.core) c.finish_take.ensures.in_mark)
+    rw (c.in-Snapshot.is) (taken_on c.args.domain.now c.args.domain.now.op c.in-Snapshot.info c.args.answers.now c.finish_take.result.in_mark c.requires.there busy (rw c.in-Snapshot.is at c.requires.core) (rw c.as_ref.ensures at c.finish_take.ensures.in_mark))
