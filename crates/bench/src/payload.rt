@@ -5,7 +5,7 @@ use packet::{CALL, Header, OK};
 use procedure_spec::REMOTE;
 use remote_args::{read_call, write_reply};
 use std::alloc::Global;
-use virt_types::{DomainRef, MOST_TEXT_BYTES, Name, NoMemory, OrNoMemory, Uuid, Value};
+use virt_types::{Boxed, DomainRef, MOST_TEXT_BYTES, Name, NoMemory, OrNoMemory, Uuid, Value};
 
 /// The procedure that defines a domain.
 const DEFINE: u32 = 11;
@@ -62,7 +62,7 @@ pub(crate) fn define(alloc: Global, size: u32, rounds: u32) -> Result<u64, NoMem
         serial: 1,
         status: OK,
     };
-    let value = Value::Domain(demo(alloc)?);
+    let value = Value::Domain(Boxed::new(alloc, demo(alloc)?)?);
     let size = size.min(MOST_TEXT_BYTES as u32) / 4 * 4;
     let ring = definitions(alloc, size)?;
     let mut served = 0u64;

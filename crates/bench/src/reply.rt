@@ -7,7 +7,9 @@ use packet::{CALL, HEADER_LENGTH, Header, OK};
 use procedure_spec::{OWN, REMOTE};
 use remote_args::{read_reply, write_reply};
 use std::alloc::Global;
-use virt_types::{DomainRow, DomainRowList, DomainState, ListOf, NoMemory, Request, Uuid, Value};
+use virt_types::{
+    Boxed, DomainRow, DomainRowList, DomainState, ListOf, NoMemory, Request, Uuid, Value,
+};
 
 /// The most domains in one reply.
 const MOST: usize = 1_024;
@@ -87,7 +89,7 @@ pub(crate) fn list(alloc: Global, count: u64, times: u64) -> Result<u64, NoMemor
 /// Replies with one domain, so many times: the bytes of their payloads.
 #[tactic(auto, using(crate::proofs::Replies::domain_found))]
 pub(crate) fn one(alloc: Global, times: u64) -> Result<u64, NoMemory> {
-    let value = Value::Domain(demo(alloc)?);
+    let value = Value::Domain(Boxed::new(alloc, demo(alloc)?)?);
     let request = Request::DomainLookupByUuid {
         uuid: Uuid::from_bytes([1; 16]),
     };

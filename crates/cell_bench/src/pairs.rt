@@ -34,7 +34,9 @@ fn answer_all<H: Wait + Copy + Send + Sync>(
 ) -> Option<()> {
     for _ in 0..8 {
         let made = match played.asks() {
-            Some(Ask::Make { definition, boot }) => Some(guests.make(definition, *boot).ok()?),
+            Some(Ask::Make { definition, boot }) => Some(
+                guests.make(definition.as_ref(), *boot).ok()?,
+            ),
             _ => None,
         };
         match played.answer(alloc, WHO, made) {

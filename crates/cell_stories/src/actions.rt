@@ -1,7 +1,7 @@
 // What callers do in stories.
 use std::alloc::Global;
 use story_domain::{Habit, definition, name};
-use virt_types::{Call, NoMemory};
+use virt_types::{Boxed, Call, NoMemory};
 
 /// A call of a story.
 #[derive(Clone, Copy)]
@@ -34,7 +34,10 @@ impl Action {
     /// The call. The domain is `a`, and a Save of it is `s`.
     pub(crate) fn call(self, alloc: Global) -> Result<Call, NoMemory> {
         match self {
-            Action::Define => Ok(Call::Define(definition(alloc, Habit::Obeys)?)),
+            Action::Define => {
+                let definition = definition(alloc, Habit::Obeys)?;
+                Ok(Call::Define(Boxed::new(alloc, definition)?))
+            }
             Action::Undefine => Ok(Call::Undefine),
             Action::Start => Ok(Call::Start),
             Action::Destroy => Ok(Call::Destroy),

@@ -22,7 +22,7 @@ impl<M: Monitor + Drop, E: Ears + Drop, Z: Killer + Drop, K: Maker<M, E, Z>> Sta
     fn guest_asked(&mut self) -> Option<Link<M, E, Z>> {
         match self.played.asks() {
             Some(Ask::Make { definition, boot }) => {
-                self.maker.make(self.alloc, definition, *boot)
+                self.maker.make(self.alloc, definition.as_ref(), *boot)
             }
             _ => None,
         }

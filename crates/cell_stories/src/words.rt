@@ -48,7 +48,7 @@ pub(crate) fn put_mark(row: &mut Row, mark: &Mark<Stamp>) {
             ..
         } => {
             row.put("done ");
-            put_reply(row, reply);
+            put_reply(row, reply.as_ref());
             put_told(row, transitions.as_slice());
         }
         Mark::Refused { code, held, .. } => {

@@ -10,10 +10,10 @@ use std::alloc::Global;
 use virt_types::{Answer, Call, NoMemory, Reply, State, TransitionList, both};
 
 // Whether something is to be asked after these answers.
-fn asks(state: &State, call: &Call, answers: &[Answer]) -> Result<bool, NoMemory>
+fn asks(alloc: Global, state: &State, call: &Call, answers: &[Answer]) -> Result<bool, NoMemory>
     requires { core_of_call call.now ≡ core.Lifecycle }
 {
-    match next(state, call, Some(1), answers)? {
+    match next(alloc, state, call, Some(1), answers)? {
         Next::Ask(_) => Ok(true),
         Next::Finish => Ok(false),
     }
@@ -42,7 +42,7 @@ fn ends(alloc: Global, state: &mut State, call: &Call, answers: &[Answer]) -> Re
 fn serve(alloc: Global, state: &mut State, call: &Call, answers: &[Answer]) -> Result<u32, NoMemory>
     requires { core_of_call call.now ≡ core.Lifecycle }
 {
-    let is_asked = asks(state, call, &[])? && !asks(state, call, answers)?;
+    let is_asked = asks(alloc, state, call, &[])? && !asks(alloc, state, call, answers)?;
     let is_done = ends(alloc, state, call, answers)?;
     Ok(if is_asked && is_done { 1 } else { 0 })
 }

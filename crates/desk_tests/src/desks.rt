@@ -11,8 +11,8 @@ use std::sync::Wait;
 use std::test::Fail;
 use turn_cell::TurnCell;
 use virt_types::{
-    Answer, AnswerValue, Ask, Bytes, Command, CrashAction, DomainDef, DomainType, Fault, ImageKind,
-    LifecycleAction, ListOf, Mac, Name, NoMemory, Os, Script, Text, both,
+    Answer, AnswerValue, Ask, Boxed, Bytes, Command, CrashAction, DomainDef, DomainType, Fault,
+    ImageKind, LifecycleAction, ListOf, Mac, Name, NoMemory, Os, Script, Text, both,
 };
 
 /// Makes guests that answer nothing, or fails.
@@ -117,7 +117,7 @@ fn definition(alloc: Global, last: u8) -> Result<DomainDef, NoMemory> {
 
 fn put(alloc: Global, last: u8) -> Result<Ask, NoMemory> {
     Ok(Ask::Put {
-        definition: definition(alloc, last)?,
+        definition: Boxed::new(alloc, definition(alloc, last)?)?,
         autostart: true,
     })
 }
@@ -131,17 +131,17 @@ fn image(alloc: Global) -> Result<Ask, NoMemory> {
         ),
     )?;
     Ok(Ask::WriteImage {
-        name,
+        name: Boxed::new(alloc, name)?,
         kind: ImageKind::Save,
-        definition,
+        definition: Boxed::new(alloc, definition)?,
         running: true,
-        bytes,
+        bytes: Boxed::new(alloc, bytes)?,
     })
 }
 
 fn make(alloc: Global) -> Result<Ask, NoMemory> {
     Ok(Ask::Make {
-        definition: definition(alloc, 1)?,
+        definition: Boxed::new(alloc, definition(alloc, 1)?)?,
         boot: 1,
     })
 }

@@ -13,7 +13,7 @@ use std::test::Fail;
 use store_asks::ask_store;
 use turn_cell::TurnCell;
 use virt_types::{
-    Ask, Bytes, Call, DeviceDef, DomainRequest, DomainTarget, Front, ImageKind, Name,
+    Ask, Boxed, Bytes, Call, DeviceDef, DomainRequest, DomainTarget, Front, ImageKind, Name,
     NetworkRequest, NetworkTarget, NoMemory, Query, Random, Refusal, Request, Text,
 };
 
@@ -75,7 +75,7 @@ fn a_definition_gets_an_identifier_and_claims_a_slot_by_it(rt: HostRuntime) -> R
             task: Task::Run(Call::Define(definition)),
         } => {
             assert_eq!(rt; name.as_str(), "a");
-            assert!(rt; definition.uuid == Some(*uuid));
+            assert!(rt; definition.as_ref().uuid == Some(*uuid));
         }
         _ => assert!(rt; false),
     }
@@ -117,10 +117,13 @@ fn an_interface_that_is_attached_gets_an_address(rt: HostRuntime) -> Result<(), 
     match &asked {
         Asked::Task {
             hold: Hold::Uuid(held),
-            task: Task::Run(Call::Attach(DeviceDef::Interface(interface))),
+            task: Task::Run(Call::Attach(device)),
         } => {
             assert!(rt; *held == uuid(1));
-            assert!(rt; interface.mac.is_some());
+            match device.as_ref() {
+                DeviceDef::Interface(interface) => assert!(rt; interface.mac.is_some()),
+                DeviceDef::Disk(_) => assert!(rt; false),
+            }
         }
         _ => assert!(rt; false),
     }
@@ -163,11 +166,11 @@ fn with_image<W: Wait>(
 {
     let definition = read_domain(alloc, TEXT.as_bytes()).ok()?;
     let save = Ask::WriteImage {
-        name: Name::read(alloc, b"s".as_slice()).ok()?,
+        name: Boxed::new(alloc, Name::read(alloc, b"s".as_slice()).ok()?).ok()?,
         kind: ImageKind::Save,
-        definition,
+        definition: Boxed::new(alloc, definition).ok()?,
         running: true,
-        bytes: Bytes::copy_of(alloc, b"\x01\xff".as_slice()).ok()?,
+        bytes: Boxed::new(alloc, Bytes::copy_of(alloc, b"\x01\xff".as_slice()).ok()?).ok()?,
     };
     match ask_store(rt, alloc, store, pass, &save) {
         Ok(asked) => {
@@ -203,9 +206,9 @@ fn a_guest_that_was_saved_claims_a_slot(rt: HostRuntime) -> Result<(), Fail> {
             ),
         } => {
             assert_eq!(rt; name.as_str(), "a");
-            assert!(rt; definition.uuid == Some(*uuid));
+            assert!(rt; definition.as_ref().uuid == Some(*uuid));
             assert!(rt; *running);
-            assert!(rt; saved.as_slice() == b"\x01\xff".as_slice());
+            assert!(rt; saved.as_ref().as_slice() == b"\x01\xff".as_slice());
         }
         _ => assert!(rt; false),
     }

@@ -6,7 +6,7 @@ use Rattle.domain_spec.specs.declared.planned.PlannedAsk.{PlannedAsk}
 
 -- the ask by which an image is written, with this copy in it
 abbrev pub writing : List ℕ → Ask → Ask
-writing bytes (ask.WriteImage name k def ran saved) = ask.WriteImage name k def ran bytes
+writing bytes (ask.WriteImage name k ran def saved) = ask.WriteImage name k ran def bytes
 writing bytes other = other
 
 -- what is planned with this copy in it
@@ -21,7 +21,7 @@ written bytes (p ∷ q ∷ plan) = p ∷ planned_writing bytes q ∷ plan
 
 -- the ask writes an image
 abbrev pub is_image : Ask → Bool
-is_image (ask.WriteImage name k def ran saved) = true
+is_image (ask.WriteImage name k ran def saved) = true
 is_image other = false
 
 -- the second of the planned asks writes an image

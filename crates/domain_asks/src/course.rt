@@ -182,7 +182,7 @@ fn put_into(ask: &mut Ask, copy: Bytes)
     ensures { ask.new ≡ writing copy ask.old }
 {
     match ask {
-        Ask::WriteImage { bytes, .. } => *bytes = copy,
+        Ask::WriteImage { bytes, .. } => *bytes.as_mut() = copy,
         _ => drop(copy),
     }
 }

@@ -185,10 +185,10 @@ other_may true true (ask.Lease n m) x none h = h
 other_may true false (ask.Lease n m) x none h = h
 other_may false true (ask.Lease n m) x none h = h
 other_may false false (ask.Lease n m) x none h = h
-other_may true true (ask.WriteImage n k d r b) x none h = h
-other_may true false (ask.WriteImage n k d r b) x none h = h
-other_may false true (ask.WriteImage n k d r b) x none h = h
-other_may false false (ask.WriteImage n k d r b) x none h = h
+other_may true true (ask.WriteImage n k r d b) x none h = h
+other_may true false (ask.WriteImage n k r d b) x none h = h
+other_may false true (ask.WriteImage n k r d b) x none h = h
+other_may false false (ask.WriteImage n k r d b) x none h = h
 
 may_answer : (making sent : Bool) (y : Ask) (x : Answer) → (sent ≡ true → making ≡ false) → IsAnsweredAs sent y x → MayAnswer making y x
 may_answer making sent (ask.Command c) x made h = command_may making sent c x made h
@@ -196,7 +196,7 @@ may_answer making sent (ask.Make d b) x made h = other_may making sent (ask.Make
 may_answer making sent (ask.Put d on) x made h = other_may making sent (ask.Put d on) x refl h
 may_answer making sent (ask.Drop u) x made h = other_may making sent (ask.Drop u) x refl h
 may_answer making sent (ask.Lease n m) x made h = other_may making sent (ask.Lease n m) x refl h
-may_answer making sent (ask.WriteImage n k d r b) x made h = other_may making sent (ask.WriteImage n k d r b) x refl h
+may_answer making sent (ask.WriteImage n k r d b) x made h = other_may making sent (ask.WriteImage n k r d b) x refl h
 
 pub may_go_back : (t : Turning) (out : Option ℕ) (link : Option Linked) (sent : Bool) (x : Answer) (fresh : Bool) → IsCell t out link → sent ≡ is_some out → IsAnswered t.cell sent x fresh → MayGoBack t.cell x
 may_go_back t out link sent x fresh h same answered =

@@ -67,7 +67,7 @@ pub fn next(
     ensures memory { OnErr result (is_ask (next_of (still_asked state.now call.now boot answers.now)) ≡ true) }
 {
     match core_of_call(call) {
-        Core::Lifecycle => lifecycle_core::next(state, call, boot, answers),
+        Core::Lifecycle => lifecycle_core::next(alloc, state, call, boot, answers),
         Core::Hotplug => hotplug_core::next(alloc, state, call, boot, answers),
         Core::Save => save_core::next(state, call, boot, answers),
         Core::Snapshot => snapshot_core::next(state, call, boot, answers),

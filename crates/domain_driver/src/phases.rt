@@ -7,17 +7,17 @@ ghost use Rattle.domain_driver.specs.Fits.{FitsPhase};
 use core_rules::{Core, Next, PhaseEnd, core_due};
 use domain_spec::OpenOperation;
 use std::alloc::Global;
-use virt_types::{Answer, NoMemory, State, TransitionList};
+use virt_types::{Answer, Boxed, NoMemory, State, TransitionList};
 
-/// What a phase needs once its answers are there, as the part that serves it has made it.
+/// What a phase needs once its answers are there, as the part that serves it has made it. What is large is boxed.
 #[derive(Drop)]
 pub enum PhaseParts {
     /// For a phase in which a guest is made and set going.
     Lifecycle(lifecycle_core::PhaseParts),
     /// For one that copies a guest's state, or loads it.
-    Save(save_core::PhaseParts),
+    Save(Boxed<save_core::PhaseParts>),
     /// For one that takes a snapshot.
-    Snapshot(snapshot_core::PhaseParts),
+    Snapshot(Boxed<snapshot_core::PhaseParts>),
 }
 
 /// What is next for the due phase of this operation, after these answers. There may be no memory for
@@ -54,9 +54,13 @@ pub fn phase_parts(
         Core::Lifecycle => {
             Ok(PhaseParts::Lifecycle(lifecycle_core::phase_parts(alloc, state, operation)?))
         }
-        Core::Save => Ok(PhaseParts::Save(save_core::phase_parts(alloc, state, operation)?)),
+        Core::Save => {
+            let parts = save_core::phase_parts(alloc, state, operation)?;
+            Ok(PhaseParts::Save(Boxed::new(alloc, parts)?))
+        }
         Core::Snapshot => {
-            Ok(PhaseParts::Snapshot(snapshot_core::phase_parts(alloc, state, operation)?))
+            let parts = snapshot_core::phase_parts(alloc, state, operation)?;
+            Ok(PhaseParts::Snapshot(Boxed::new(alloc, parts)?))
         }
         Core::Hotplug => unreachable!(),
     }
@@ -81,9 +85,11 @@ pub fn finish_phase(
         PhaseParts::Lifecycle(parts) => {
             lifecycle_core::finish_phase(state, operation, answers, parts, into)
         }
-        PhaseParts::Save(parts) => save_core::finish_phase(state, operation, answers, parts, into),
+        PhaseParts::Save(parts) => {
+            save_core::finish_phase(state, operation, answers, parts.into_inner(), into)
+        }
         PhaseParts::Snapshot(parts) => {
-            snapshot_core::finish_phase(state, operation, answers, parts, into)
+            snapshot_core::finish_phase(state, operation, answers, parts.into_inner(), into)
         }
     }
 }

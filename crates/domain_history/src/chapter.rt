@@ -27,7 +27,7 @@ use std::alloc::Global;
 use std::marker::Model;
 use std::mem;
 use virt_types::{
-    AnswerList, AskList, Call, DomainDef, EndReason, GuestEvent, Job, ListOf, NoMemory,
+    AnswerList, AskList, Boxed, Call, DomainDef, EndReason, GuestEvent, Job, ListOf, NoMemory,
     RefusalCode, Reply, RoomyList, State, Transition, TransitionList, TryCopy, Value, Who, both,
 };
 
@@ -239,7 +239,8 @@ impl Chapter {
     }
 
     /// The open call is done with these answers; where its monitor was lost the end of its boot is
-    /// marked right after. `told` and `end` are room for what listeners are told of both.
+    /// marked right after. `told` and `end` are room for what listeners are told of both, and
+    /// `reply_room` for the reply in the mark.
     pub fn done(
         &mut self,
         by: Stamp,
@@ -248,6 +249,7 @@ impl Chapter {
         parts: CallParts,
         told: TransitionList,
         end: TransitionList,
+        reply_room: Boxed<Reply>,
     ) -> Reply
         requires room { 2 ≤ self.old.spare }
         requires told { (told.list ≡ []) × (3 ≤ told.room) }
@@ -270,6 +272,7 @@ impl Chapter {
                 parts,
                 told,
                 end,
+                reply_room,
             ),
         }
     }
@@ -549,7 +552,14 @@ impl Chapter {
     }
 
     /// A call is turned away, since its job is excluded.
-    pub fn refuse(&mut self, by: Stamp, who: Who, call: Call, code: RefusalCode, held: HeldJobs)
+    pub fn refuse(
+        &mut self,
+        by: Stamp,
+        who: Who,
+        call: Boxed<Call>,
+        code: RefusalCode,
+        held: HeldJobs,
+    )
         requires room { 0 < self.old.spare }
         requires lawful { IsLawful (in_force self.old.history.base self.old.history.marks) (mark.Refused by.number who call code held) }
         ensures history { self.new.history ≡ record self.old.history { marks = self.old.history.marks ++ mark.Refused by who call code held ∷ [] } }

@@ -16,8 +16,8 @@ use domain_spec::{Mark, Outcome};
 use domain_state::exit_event;
 use history_spec::Stamp;
 use virt_types::{
-    Answer, AnswerList, AskList, Call, DomainState, EndReason, Phase, Reply, RoomyList, State,
-    TransitionList,
+    Answer, AnswerList, AskList, Boxed, Call, DomainState, EndReason, Phase, Reply, RoomyList,
+    State, TransitionList,
 };
 
 fn is_lost_answer(answer: &Answer) -> bool
@@ -103,7 +103,8 @@ fn leave(
     finish(state, call, boot, answers, parts, into)
 }
 
-/// The open call is done, and where its monitor was lost the end of its boot is marked.
+/// The open call is done, and where its monitor was lost the end of its boot is marked. `told` and
+/// `end` are room for what listeners are told of both, and `reply_room` for the reply in the mark.
 pub fn close_call(
     state: &mut State,
     operation: &Option<Underway>,
@@ -115,6 +116,7 @@ pub fn close_call(
     parts: CallParts,
     told: TransitionList,
     end: TransitionList,
+    reply_room: Boxed<Reply>,
 ) -> Reply
     requires parts { FitsCall parts state.old job.call job.boot }
     requires room { 2 ≤ marks.old.room }
@@ -144,7 +146,7 @@ pub fn close_call(
         call: job.into_call(),
         asks,
         answers,
-        reply: in_mark,
+        reply: reply_room.with(in_mark),
         transitions: told.into_list(),
     });
     mark_loss(state, marks, lost, end);

@@ -89,7 +89,7 @@ fn held_passes(domain: &Domain, call: &Call) -> bool
         Call::Create(_) => false,
         Call::Save(_) | Call::Perform => guest_passes(domain),
         Call::Dump(_) => domain.live.is_some(),
-        Call::Snapshot(info) => snapshot_passes(domain, info),
+        Call::Snapshot(info) => snapshot_passes(domain, info.as_ref()),
         Call::Revert(name) => revert_passes(domain, name),
         _ => unreachable!(),
     }

@@ -4,7 +4,7 @@ ghost use Rattle.domain_spec.specs.Begin.{named_call};
 ghost use Rattle.domain_spec.specs.Snapshots.{free_number, numbered_name, snapshot_name};
 
 use std::alloc::Global;
-use virt_types::{Call, Domain, Name, NoMemory, SnapInfo, SnapList, State, TryCopy, both};
+use virt_types::{Boxed, Call, Domain, Name, NoMemory, SnapInfo, SnapList, State, TryCopy, both};
 
 // snap1, snap2 and so on.
 fn numbered_name(alloc: Global, n: u64) -> Result<Name, NoMemory>
@@ -60,7 +60,8 @@ pub fn named_call(alloc: Global, state: &State, call: &Call) -> Result<Call, NoM
 {
     match (state, call) {
         (State::Held(domain), Call::Snapshot(info)) => {
-            Ok(Call::Snapshot(named_info(alloc, domain, info)?))
+            let info = named_info(alloc, domain, info.as_ref())?;
+            Ok(Call::Snapshot(Boxed::new(alloc, info)?))
         }
         _ => call.copy(),
     }

@@ -29,7 +29,7 @@ plan_first : (a : Asked) (x : Answer) → a.answers ≡ [] → plan_after a.answ
 plan_first a x e = ap (λ (answers : List Answer). plan_after answers x a.plan) e
 
 not_image : (bytes : List ℕ) (y : Ask) → is_image y ≡ false → writing bytes y ≡ y
-not_image bytes (ask.WriteImage name k def ran saved) e = cc
+not_image bytes (ask.WriteImage name k ran def saved) e = cc
 not_image bytes other e = refl
 
 unwritten : (bytes : List ℕ) (plan : List PlannedAsk) → writes_second plan ≡ false → written bytes plan ≡ plan

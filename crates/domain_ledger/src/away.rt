@@ -1,5 +1,7 @@
 // What is kept of a call between its two turns.
 ghost use Rattle.std.specs.Prelude.{◌≡◌, ◌≤◌, ◌<◌, [], IfOk};
+ghost use Rattle.domain_spec.specs.Types.reply;
+ghost use Rattle.domain_spec.specs.Types.value;
 ghost use Rattle.domain_driver.specs.Fits.{FitsCall};
 ghost use Rattle.domain_ledger.specs.Away.{HasRooms};
 ghost use Rattle.domain_ledger.specs.Turn.{IsReady};
@@ -8,16 +10,19 @@ ghost use Rattle.domain_asks.specs.Tidy.{planned};
 use domain_asks::{Course, course_of};
 use domain_driver::{CallParts, parts};
 use std::alloc::Global;
-use virt_types::{Call, NoMemory, RoomyList, State, TransitionList, TryCopy, both};
+use virt_types::{
+    Boxed, Call, NoMemory, Reply, RoomyList, State, TransitionList, TryCopy, Value, both,
+};
 
 /// What is kept of a call that waits for an answer: what it asks and was answered, what its Done needs,
-/// and room for what listeners are told of it and of its boot's end.
+/// and room for what listeners are told of it and of its boot's end, and for the reply in its mark.
 #[derive(Drop)]
 pub struct Away {
     pub course: Course,
     pub parts: CallParts,
     pub told: TransitionList,
     pub end: TransitionList,
+    pub reply: Boxed<Reply>,
 }
 
 // Room for so many transitions.
@@ -34,6 +39,13 @@ pub fn rooms(alloc: Global) -> Result<(TransitionList, TransitionList), NoMemory
     ensures end { IfOk result (λ rooms. (rooms.1.list ≡ []) × (0 < rooms.1.room)) }
 {
     both(room_for(alloc, 3), room_for(alloc, 1))
+}
+
+// Room for the reply in a mark.
+fn room_for_reply(alloc: Global) -> Result<Boxed<Reply>, NoMemory>
+    ensures { IfOk result (λ room. room ≡ reply.Ok value.Nothing) }
+{
+    Boxed::new(alloc, Reply::Ok(Value::Nothing))
 }
 
 // The course of a call, and what its Done needs.
@@ -72,12 +84,14 @@ impl Away {
         ensures parts { IfOk result (λ away. FitsCall away.parts state.now call.now boot) }
         ensures rooms { IfOk result HasRooms }
     {
-        match both(course_and_parts(alloc, state, call, boot), rooms(alloc)) {
-            Ok(((course, parts), (told, end))) => Ok(Away {
+        let rooms = both(rooms(alloc), room_for_reply(alloc));
+        match both(course_and_parts(alloc, state, call, boot), rooms) {
+            Ok(((course, parts), ((told, end), reply))) => Ok(Away {
                 course,
                 parts,
                 told,
                 end,
+                reply,
             }),
             Err(e) => Err(e),
         }

@@ -32,8 +32,8 @@ use std::alloc::Global;
 use std::marker::Model;
 use std::mem;
 use virt_types::{
-    Answer, Ask, Call, DomainDef, EndReason, GuestEvent, ListOf, NoMemory, RefusalCode, Reply,
-    State, Transition, TransitionList, Who,
+    Answer, Ask, Boxed, Call, DomainDef, EndReason, GuestEvent, ListOf, NoMemory, RefusalCode,
+    Reply, State, Transition, TransitionList, Who,
 };
 
 /// What became of a call that was admitted.
@@ -344,7 +344,14 @@ impl Ledger {
     }
 
     /// A call is turned away, since its job is excluded.
-    pub fn refuse(&mut self, by: Stamp, who: Who, call: Call, code: RefusalCode, held: HeldJobs)
+    pub fn refuse(
+        &mut self,
+        by: Stamp,
+        who: Who,
+        call: Boxed<Call>,
+        code: RefusalCode,
+        held: HeldJobs,
+    )
         requires room { 0 < self.old.spare }
         requires lawful { IsLawful (now_in self.old) (mark.Refused by.number who call code held) }
         ensures history { self.new.history ≡ with_marks self.old.history (mark.Refused by.number who call code held ∷ []) }

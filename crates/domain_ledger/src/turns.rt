@@ -52,9 +52,10 @@ pub fn close(chapter: &mut Chapter, by: Stamp, away: Away) -> Reply
         parts,
         told,
         end,
+        reply,
     } = away;
     let (asks, answers) = course.into_lists();
-    chapter.done(by, asks, answers, parts, told, end)
+    chapter.done(by, asks, answers, parts, told, end, reply)
 }
 
 // The open call asks what is next, or is done where nothing is.

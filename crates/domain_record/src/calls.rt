@@ -13,7 +13,7 @@ use domain_listeners::Listeners;
 use domain_spec::HeldJobs;
 use history_spec::Stamp;
 use std::alloc::Global;
-use virt_types::{Answer, Call, RefusalCode, Who};
+use virt_types::{Answer, Boxed, Call, RefusalCode, Who};
 
 /// A call that was admitted is let in.
 pub fn let_in(
@@ -82,7 +82,7 @@ pub fn refuse(
     listeners: &Listeners,
     by: Stamp,
     who: Who,
-    call: Call,
+    call: Boxed<Call>,
     code: RefusalCode,
     held: HeldJobs,
 )

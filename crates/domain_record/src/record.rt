@@ -26,7 +26,7 @@ use history_spec::Stamp;
 use std::alloc::Global;
 use std::marker::Model;
 use virt_types::{
-    Answer, Call, DomainDef, EndReason, GuestEvent, NoMemory, RefusalCode, Reply, State,
+    Answer, Boxed, Call, DomainDef, EndReason, GuestEvent, NoMemory, RefusalCode, Reply, State,
     TransitionList, Who,
 };
 
@@ -191,7 +191,14 @@ impl Record {
     }
 
     /// A call is turned away, since its job is excluded.
-    pub fn refuse(&mut self, by: Stamp, who: Who, call: Call, code: RefusalCode, held: HeldJobs)
+    pub fn refuse(
+        &mut self,
+        by: Stamp,
+        who: Who,
+        call: Boxed<Call>,
+        code: RefusalCode,
+        held: HeldJobs,
+    )
         requires room { 0 < self.old.spare }
         requires lawful { IsLawful (force_of self.old) (mark.Refused by.number who call code held) }
         ensures marked { HasMarked self.old self.new (mark.Refused by.number who call code held ∷ []) }

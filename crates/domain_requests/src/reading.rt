@@ -18,7 +18,7 @@ use crate::texts::{read_device, read_snapshot};
 use definition_fill::fill_device;
 use std::alloc::Global;
 use virt_types::{
-    Call, DomainRequest, Name, OrNoMemory, Query, Random, Refusal, RefusalCode, Text,
+    Boxed, Call, DomainRequest, Name, OrNoMemory, Query, Random, Refusal, RefusalCode, Text,
 };
 
 // The name that a text is.
@@ -41,7 +41,7 @@ fn attach(alloc: Global, xml: &Text) -> Result<Parsed, OrNoMemory<Refusal>>
     ensures { UnlessNoMemory result (attaches (device_in xml.now)) }
 {
     match read_device(alloc, xml.as_bytes()) {
-        Ok(device) => Ok(Parsed::Attach(device)),
+        Ok(device) => Ok(Parsed::Attach(Boxed::new(alloc, device)?)),
         Err(OrNoMemory::Fault(kept)) => {
             Err(refuse(alloc, RefusalCode::BadDefinition, kept.as_str()))
         }
@@ -53,7 +53,10 @@ fn detach(alloc: Global, xml: &Text) -> Result<Parsed, OrNoMemory<Refusal>>
     ensures { UnlessNoMemory result (detaches (device_in xml.now)) }
 {
     match read_device(alloc, xml.as_bytes()) {
-        Ok(device) => Ok(Parsed::Ready(Task::Run(Call::Detach(device)))),
+        Ok(device) => {
+            let device = Boxed::new(alloc, device)?;
+            Ok(Parsed::Ready(Task::Run(Call::Detach(device))))
+        }
         Err(OrNoMemory::Fault(kept)) => {
             Err(refuse(alloc, RefusalCode::BadDefinition, kept.as_str()))
         }
@@ -65,7 +68,10 @@ fn snapshot(alloc: Global, xml: &Text) -> Result<Parsed, OrNoMemory<Refusal>>
     ensures { UnlessNoMemory result (takes (snapshot_in xml.now)) }
 {
     match read_snapshot(alloc, xml.as_bytes()) {
-        Ok(info) => Ok(Parsed::Ready(Task::Run(Call::Snapshot(info)))),
+        Ok(info) => {
+            let info = Boxed::new(alloc, info)?;
+            Ok(Parsed::Ready(Task::Run(Call::Snapshot(info))))
+        }
         Err(OrNoMemory::Fault(kept)) => {
             Err(refuse(alloc, RefusalCode::BadDefinition, kept.as_str()))
         }
@@ -118,7 +124,10 @@ fn delete(alloc: Global, name: &Text, children: i32) -> Result<Parsed, OrNoMemor
 {
     match name_of(alloc, name) {
         Ok(name) => match says_yes(alloc, children) {
-            Ok(children) => Ok(Parsed::Ready(Task::Run(Call::SnapDelete { name, children }))),
+            Ok(children) => {
+                let name = Boxed::new(alloc, name)?;
+                Ok(Parsed::Ready(Task::Run(Call::SnapDelete { name, children })))
+            }
             Err(why) => {
                 drop(name);
                 Err(why)
@@ -261,7 +270,10 @@ pub fn task_of<R: Random>(parsed: Parsed, random: &mut R) -> Task
     ensures { IsMadeOfDrawn (λ words. IsTaskOf words parsed result) (R.drawn random.old) (R.drawn random.new) }
 {
     match parsed {
-        Parsed::Attach(device) => Task::Run(Call::Attach(fill_device(device, random))),
+        Parsed::Attach(mut device) => {
+            fill_device(device.as_mut(), random);
+            Task::Run(Call::Attach(device))
+        }
         Parsed::Ready(task) => task,
     }
 }

@@ -1,5 +1,5 @@
 // What is asked of a domain.
-use virt_types::{Call, DeviceDef, Query};
+use virt_types::{Boxed, Call, DeviceDef, Query};
 
 /// What a procedure asks of one domain.
 #[derive(Drop)]
@@ -18,7 +18,7 @@ pub enum Task {
 #[derive(Drop)]
 pub enum Parsed {
     /// This device is to be attached, once what it lacks is filled in.
-    Attach(DeviceDef),
+    Attach(Boxed<DeviceDef>),
     /// This, as it is.
     Ready(Task),
 }

@@ -56,9 +56,10 @@ fn an_interface_that_is_attached_gets_an_address(rt: HostRuntime) -> Result<(), 
         "<interface type='network'><source network='default'/></interface>",
     )?;
     match &task(rt.alloc(), &DomainRequest::AttachDevice { xml })? {
-        Task::Run(Call::Attach(DeviceDef::Interface(interface))) => {
-            assert!(rt; interface.mac.is_some());
-        }
+        Task::Run(Call::Attach(device)) => match device.as_ref() {
+            DeviceDef::Interface(interface) => assert!(rt; interface.mac.is_some()),
+            _ => assert!(rt; false),
+        },
         _ => assert!(rt; false),
     }
     Ok(())

@@ -51,7 +51,7 @@ copied_bytes other = []
 
 -- the copy is written under this name
 abbrev pub write_image : List ℕ → ImageKind → Live → Op → List Answer → List Ask
-write_image name k l op answers = ask.WriteImage name k l.def op.was_running (copied_bytes (first_value answers)) ∷ []
+write_image name k l op answers = ask.WriteImage name k op.was_running l.def (copied_bytes (first_value answers)) ∷ []
 
 -- a save and a dump write an image; a dump and a snapshot let the guest go on
 abbrev pub take_asks : Live → Op → Call → List Answer → List Ask

@@ -1,7 +1,7 @@
 use crate::step::Outcome;
 use virt_types::{
-    AnswerList, AskList, Call, EndReason, GuestEvent, Job, ListOf, OpKind, Phase, RefusalCode,
-    Reply, Transition, Who, WhoList,
+    AnswerList, AskList, Boxed, Call, EndReason, GuestEvent, Job, ListOf, OpKind, Phase,
+    RefusalCode, Reply, Transition, Who, WhoList,
 };
 
 /// The operation that is held for a domain.
@@ -27,7 +27,8 @@ pub struct HeldJobs {
 }
 
 /// One thing that applied to a domain. `number`, of whatever type `N`, is the number of the pass in
-/// whose turn a call's mark was made; a boot's end, a guest's event and a cut belong to nobody.
+/// whose turn a call's mark was made; a boot's end, a guest's event and a cut belong to nobody. What is
+/// large is boxed, so that a mark takes 160 bytes where `N` takes none.
 #[derive(Drop)]
 pub enum Mark<N> {
     /// A call was let in.
@@ -58,7 +59,7 @@ pub enum Mark<N> {
         /// What each ask was answered.
         answers: AnswerList,
         /// What the caller is told.
-        reply: Reply,
+        reply: Boxed<Reply>,
         /// What listeners are told.
         transitions: ListOf<Transition>,
     },
@@ -69,7 +70,7 @@ pub enum Mark<N> {
         /// Its caller.
         who: Who,
         /// The call.
-        call: Call,
+        call: Boxed<Call>,
         /// Whether it looked often enough, or too many others waited.
         code: RefusalCode,
         /// The jobs that it found held.

@@ -35,9 +35,9 @@ fn boot_definition(domain: &Domain, call: &Call) -> Result<Option<DomainDef>, No
 {
     match call {
         Call::Start => domain.stored.copy(),
-        Call::Create(def) => Ok(Some(def.copy()?)),
-        Call::Restore { definition, .. } => Ok(Some(definition.copy()?)),
-        Call::Prepare { definition, .. } => Ok(Some(definition.copy()?)),
+        Call::Create(def) => Ok(Some(def.as_ref().copy()?)),
+        Call::Restore { definition, .. } => Ok(Some(definition.as_ref().copy()?)),
+        Call::Prepare { definition, .. } => Ok(Some(definition.as_ref().copy()?)),
         Call::Revert(name) => match &domain.live {
             None => definition_with_state(&domain.snaps, name),
             Some(_) => Ok(None),
@@ -252,12 +252,14 @@ pub fn begin(alloc: Global, state: &mut State, who: Who, call: &Call) -> Result<
         State::Held(domain) => begin_held(alloc, domain, who, call),
         State::Vacant { boots } => {
             match call {
-                Call::Create(def) => *state = begin_vacant(alloc, def, *boots, who, call)?,
+                Call::Create(def) => {
+                    *state = begin_vacant(alloc, def.as_ref(), *boots, who, call)?;
+                }
                 Call::Restore { definition, .. } => {
-                    *state = begin_vacant(alloc, definition, *boots, who, call)?;
+                    *state = begin_vacant(alloc, definition.as_ref(), *boots, who, call)?;
                 }
                 Call::Prepare { definition, .. } => {
-                    *state = begin_vacant(alloc, definition, *boots, who, call)?;
+                    *state = begin_vacant(alloc, definition.as_ref(), *boots, who, call)?;
                 }
                 _ => (),
             }

@@ -37,14 +37,14 @@ fn stored_text(alloc: Global, stored: &Option<DomainDef>) -> Result<Reply, NoMem
 {
     match stored {
         None => no_domain(alloc),
-        Some(def) => Ok(Reply::Ok(Value::Definition(Boxed::new(alloc, def.copy()?)?))),
+        Some(def) => Ok(Reply::Ok(Value::Definition(Boxed::copy_of(alloc, def)?))),
     }
 }
 
 fn live_text(alloc: Global, live: &Live) -> Result<Reply, NoMemory>
     ensures { IfOk result (λ it. it ≡ reply.Ok (value.Live live.now)) }
 {
-    Ok(Reply::Ok(Value::Live(Boxed::new(alloc, live.copy()?)?)))
+    Ok(Reply::Ok(Value::Live(Boxed::copy_of(alloc, live)?)))
 }
 
 fn text_of(alloc: Global, wanted: bool, domain: &Domain) -> Result<Reply, NoMemory>
@@ -67,12 +67,18 @@ fn info_by(live: &Option<Live>, def: &DomainDef) -> DomainInfo
     }
 }
 
+fn info_reply(alloc: Global, live: &Option<Live>, def: &DomainDef) -> Result<Reply, NoMemory>
+    ensures { IfOk result (λ it. it ≡ reply.Ok (value.Info (info_by live.now def.now))) }
+{
+    Ok(Reply::Ok(Value::Info(Boxed::new(alloc, info_by(live, def))?)))
+}
+
 fn info_of(alloc: Global, domain: &Domain) -> Result<Reply, NoMemory>
     ensures { IfOk result (λ it. it ≡ info_of domain.now.live domain.now.stored) }
 {
     match (&domain.live, &domain.stored) {
-        (Some(live), _) => Ok(Reply::Ok(Value::Info(info_by(&domain.live, &live.def)))),
-        (None, Some(def)) => Ok(Reply::Ok(Value::Info(info_by(&domain.live, def)))),
+        (Some(live), _) => info_reply(alloc, &domain.live, &live.def),
+        (None, Some(def)) => info_reply(alloc, &domain.live, def),
         (None, None) => no_domain(alloc),
     }
 }
@@ -99,7 +105,7 @@ fn parent_reply(alloc: Global, domain: &Domain, name: &Name) -> Result<Reply, No
 {
     match domain.snaps.find(name) {
         None => no_snapshot(alloc, name),
-        Some(snap) => Ok(Reply::Ok(Value::Parent(snap.parent.copy()?))),
+        Some(snap) => Ok(Reply::Ok(Value::Parent(Boxed::copy_of(alloc, &snap.parent)?))),
     }
 }
 
@@ -108,7 +114,7 @@ fn snapshot_reply(alloc: Global, domain: &Domain, name: &Name) -> Result<Reply, 
 {
     match domain.snaps.find(name) {
         None => no_snapshot(alloc, name),
-        Some(snap) => Ok(Reply::Ok(Value::Snapshot(Boxed::new(alloc, snap.copy()?)?))),
+        Some(snap) => Ok(Reply::Ok(Value::Snapshot(Boxed::copy_of(alloc, snap)?))),
     }
 }
 
@@ -125,7 +131,7 @@ fn read_of(alloc: Global, domain: &Domain, query: &Query) -> Result<Reply, NoMem
     ensures { IfOk result (λ it. it ≡ read_of domain.now query.now) }
 {
     match query {
-        Query::Reference => Ok(Reply::Ok(Value::Reference(row_of(domain)?))),
+        Query::Reference => Ok(Reply::Ok(Value::Reference(Boxed::new(alloc, row_of(domain)?)?))),
         Query::Text { stored } => text_of(alloc, *stored, domain),
         Query::Autostart => Ok(Reply::Ok(Value::Autostart(domain.autostart))),
         Query::Info => info_of(alloc, domain),

@@ -17,9 +17,11 @@ use Rattle.domain_threads.proofs.Chapters.{chapter_send}
 use Rattle.domain_threads.proofs.States.{new_send}
 use Rattle.lifecycle_core.proofs.memory.PhaseParts.TheSendSync as lifecycle
 use Rattle.save_core.proofs.phase_memory.PhaseParts.TheSendSync as save
+use Rattle.save_core.specs.contracts.phase_memory.PhaseParts as saved
 use Rattle.snapshot_core.specs.contracts.made.PhaseParts as made
 use Rattle.snapshot_core.specs.contracts.taking.Taking
 use Rattle.std.proofs.option.Option.TheSendSync as option
+use Rattle.virt_types.proofs.boxed.Boxed.TheSendSync as boxed
 use Rattle.virt_types.proofs.name.Name.TheSendSync as name
 use Rattle.virt_types.proofs.room.RoomyList.TheSendSync as roomy
 use Rattle.virt_types.proofs.transition.Transition.TheSendSync as transition
@@ -35,8 +37,12 @@ made_field_send : IsSend (made.the_field).row
 made_field_send = struct_send (struct.shape made.the_type)
     (texts.the_field_send, (option.the_field_send Name.the_row name.the_send, (option.the_field_send Taking.the_row taking_send, tt)))
 
+made_send : IsSend made.the_row
+made_send = recorded_send (made.the_field).row _ _ (made.the_type).to_one made_field_send
+
 parts_field_send : IsSend (PhaseParts.the_field).row
-parts_field_send = enum_send (enum.shape PhaseParts.the_type) ((lifecycle.the_field_send, tt), ((save.the_field_send, tt), ((made_field_send, tt), tt)))
+parts_field_send = enum_send (enum.shape PhaseParts.the_type)
+    ((lifecycle.the_field_send, tt), ((boxed.the_send saved.the_row save.the_send, tt), ((boxed.the_send made.the_row made_send, tt), tt)))
 
 told_send : IsSend (RoomyList.the_row Transition.the_row)
 told_send = roomy.the_send Transition.the_row transition.the_send

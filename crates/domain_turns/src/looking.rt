@@ -23,7 +23,7 @@ use domain_spec::{First, HeldJobs};
 use history_spec::Stamp;
 use job_rules::{JobRecord, WaitersFull, admits};
 use std::alloc::Global;
-use virt_types::{Ask, Call, NoMemory, RefusalCode, Reply, TryCopy, Who, WhoList, both};
+use virt_types::{Ask, Boxed, Call, NoMemory, RefusalCode, Reply, Who, WhoList, both};
 
 /// What became of a call that looked.
 #[derive(Drop)]
@@ -155,7 +155,7 @@ fn refusal_parts(
     rooms: usize,
     alloc: Global,
     call: &Call,
-) -> Result<(Call, WhoList), NoMemory>
+) -> Result<(Boxed<Call>, WhoList), NoMemory>
     requires few { rooms ≤ 128 }
     ensures same { kept.new ≡ with_room kept.old kept.new.spare }
     ensures marks { OnOk result (4 + rooms ≤ kept.new.spare) }
@@ -164,11 +164,18 @@ fn refusal_parts(
     ensures waiting { IfOk result (λ parts. parts.1 ≡ callers_in queue.now) }
 {
     kept.reserve(4 + rooms)?;
-    both(call.copy(), queue.callers(alloc))
+    both(Boxed::copy_of(alloc, call), queue.callers(alloc))
 }
 
 // A call is turned away, since 32 others wait.
-fn turn_away(kept: &mut Record, by: Stamp, who: Who, call: Call, held: JobRecord, waiting: WhoList)
+fn turn_away(
+    kept: &mut Record,
+    by: Stamp,
+    who: Who,
+    call: Boxed<Call>,
+    held: JobRecord,
+    waiting: WhoList,
+)
     requires room { 1 ≤ kept.old.spare }
     requires lost { (force_of kept.old).lost ≡ None }
     requires active { held.active ≡ job_held (force_of kept.old).job }

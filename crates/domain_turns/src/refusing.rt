@@ -12,7 +12,7 @@ use domain_record::Record;
 use domain_spec::HeldJobs;
 use history_spec::Stamp;
 use std::alloc::Global;
-use virt_types::{Call, NoMemory, RefusalCode, TryCopy, Who, WhoList, both};
+use virt_types::{Boxed, Call, NoMemory, RefusalCode, Who, WhoList, both};
 
 /// What the refusal of a call takes that was excluded, set aside in the turn in which it was.
 #[derive(Drop)]
@@ -20,7 +20,7 @@ pub struct Refusable {
     /// Its caller.
     pub who: Who,
     /// The call.
-    pub call: Call,
+    pub call: Boxed<Call>,
     /// Who waits.
     pub waiting: WhoList,
 }
@@ -43,7 +43,7 @@ pub fn set_aside(
     ensures call { IfOk result (λ x. x.call ≡ call.now) }
 {
     kept.reserve(4 + rooms)?;
-    match both(call.copy(), queue.callers(alloc)) {
+    match both(Boxed::copy_of(alloc, call), queue.callers(alloc)) {
         Ok((call, waiting)) => Ok(Refusable { who, call, waiting }),
         Err(e) => Err(e),
     }

@@ -22,6 +22,7 @@ fn row_told(reply: &Reply, at: &SlotName) -> Result<Option<DomainRow>, NoMemory>
 {
     match reply {
         Reply::Ok(Value::Reference(row)) => {
+            let row = row.as_ref();
             if row.domain.name.as_bytes() == at.name.as_bytes() && row.domain.uuid == at.uuid {
                 return Ok(Some(row.copy()?));
             }

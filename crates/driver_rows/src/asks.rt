@@ -57,7 +57,7 @@ fn ask_number(ask: &Ask) -> Option<u64> {
     match ask {
         Ask::Command(command) => command_number(command),
         Ask::Make { boot, .. } => Some(*boot),
-        Ask::WriteImage { bytes, .. } => Some(bytes.len() as u64),
+        Ask::WriteImage { bytes, .. } => Some(bytes.as_ref().len() as u64),
         _ => None,
     }
 }

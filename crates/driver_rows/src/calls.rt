@@ -2,23 +2,23 @@
 use crate::fixtures::{definition, definition_on_network, disk, interface, name, saved, snapshot};
 use crate::words::{number, small_number, word};
 use std::alloc::Global;
-use virt_types::{Call, DeviceDef, DomainDef, NoMemory, SnapInfo, both};
+use virt_types::{Boxed, Call, DeviceDef, DomainDef, NoMemory, SnapInfo, both};
 
 fn restore(alloc: Global, running: bool) -> Result<Call, NoMemory> {
     let (definition, saved) = both(definition(alloc), saved(alloc))?;
     Ok(Call::Restore {
-        definition,
+        definition: Boxed::new(alloc, definition)?,
         running,
-        saved,
+        saved: Boxed::new(alloc, saved)?,
     })
 }
 
 fn prepare(alloc: Global, running: bool) -> Result<Call, NoMemory> {
     let (definition, saved) = both(definition(alloc), saved(alloc))?;
     Ok(Call::Prepare {
-        definition,
+        definition: Boxed::new(alloc, definition)?,
         running,
-        saved,
+        saved: Boxed::new(alloc, saved)?,
     })
 }
 
@@ -32,7 +32,7 @@ fn given(alloc: Global, text: &str) -> Result<DomainDef, NoMemory> {
 
 fn delete(alloc: Global, text: &str, children: bool) -> Result<Call, NoMemory> {
     Ok(Call::SnapDelete {
-        name: name(alloc, text)?,
+        name: Boxed::new(alloc, name(alloc, text)?)?,
         children,
     })
 }
@@ -62,12 +62,12 @@ fn kick(text: &str) -> Call {
 // A call that begins an operation, or takes one up.
 fn operation(alloc: Global, verb: &str, text: &str) -> Result<Call, NoMemory> {
     match verb {
-        "create" => Ok(Call::Create(definition(alloc)?)),
+        "create" => Ok(Call::Create(Boxed::new(alloc, definition(alloc)?)?)),
         "restore" => restore(alloc, text == "running"),
         "prepare" => prepare(alloc, text == "running"),
         "save" => Ok(Call::Save(name(alloc, text)?)),
         "dump" => Ok(Call::Dump(name(alloc, text)?)),
-        "snapshot" => Ok(Call::Snapshot(taken(alloc, text)?)),
+        "snapshot" => Ok(Call::Snapshot(Boxed::new(alloc, taken(alloc, text)?)?)),
         "revert" => Ok(Call::Revert(name(alloc, text)?)),
         "perform" => Ok(Call::Perform),
         "confirm" => Ok(Call::Confirm(text == "yes")),
@@ -79,9 +79,9 @@ fn operation(alloc: Global, verb: &str, text: &str) -> Result<Call, NoMemory> {
 // A call that changes a domain.
 fn change(alloc: Global, verb: &str, text: &str) -> Result<Call, NoMemory> {
     match verb {
-        "define" => Ok(Call::Define(given(alloc, text)?)),
-        "attach" => Ok(Call::Attach(device(alloc, text)?)),
-        "detach" => Ok(Call::Detach(device(alloc, text)?)),
+        "define" => Ok(Call::Define(Boxed::new(alloc, given(alloc, text)?)?)),
+        "attach" => Ok(Call::Attach(Boxed::new(alloc, device(alloc, text)?)?)),
+        "detach" => Ok(Call::Detach(Boxed::new(alloc, device(alloc, text)?)?)),
         "delete" => delete(alloc, text, false),
         "prune" => delete(alloc, text, true),
         _ => operation(alloc, verb, text),

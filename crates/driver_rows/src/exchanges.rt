@@ -4,18 +4,19 @@ use crate::fixtures::{MAC, definition_on_network, disk, name, network, saved, uu
 use crate::words::small_number;
 use std::alloc::Global;
 use virt_types::{
-    AnswerList, Ask, AskList, Command, DeviceDef, ImageKind, ListOf, NoMemory, Transition, both,
+    AnswerList, Ask, AskList, Boxed, Command, DeviceDef, ImageKind, ListOf, NoMemory, Transition,
+    both,
 };
 
 /// Transitions in order.
 pub(crate) type Told = ListOf<Transition>;
 
 // The disk that is attached goes to the least slot that the one interface leaves.
-fn backend(device: DeviceDef) -> Ask {
+fn backend(device: Boxed<DeviceDef>) -> Ask {
     Ask::Command(Command::AddBackend { slot: 3, device })
 }
 
-fn added(device: DeviceDef) -> Ask {
+fn added(device: Boxed<DeviceDef>) -> Ask {
     Ask::Command(Command::AddDevice { slot: 3, device })
 }
 
@@ -25,21 +26,21 @@ fn image(alloc: Global) -> Result<Ask, NoMemory> {
         both(definition_on_network(alloc), saved(alloc)),
     )?;
     Ok(Ask::WriteImage {
-        name,
+        name: Boxed::new(alloc, name)?,
         kind: ImageKind::Save,
-        definition,
+        definition: Boxed::new(alloc, definition)?,
         running: true,
-        bytes,
+        bytes: Boxed::new(alloc, bytes)?,
     })
 }
 
 fn made(alloc: Global, boot: u64) -> Result<Ask, NoMemory> {
-    let definition = definition_on_network(alloc)?;
+    let definition = Boxed::new(alloc, definition_on_network(alloc)?)?;
     Ok(Ask::Make { definition, boot })
 }
 
 fn stored(alloc: Global) -> Result<Ask, NoMemory> {
-    let definition = definition_on_network(alloc)?;
+    let definition = Boxed::new(alloc, definition_on_network(alloc)?)?;
     Ok(Ask::Put {
         definition,
         autostart: false,
@@ -68,8 +69,8 @@ fn command(word: &str) -> Command {
 
 fn ask(alloc: Global, word: &str) -> Result<Ask, NoMemory> {
     match word {
-        "backend" => Ok(backend(disk(alloc, "vdb")?)),
-        "device" => Ok(added(disk(alloc, "vdb")?)),
+        "backend" => Ok(backend(Boxed::new(alloc, disk(alloc, "vdb")?)?)),
+        "device" => Ok(added(Boxed::new(alloc, disk(alloc, "vdb")?)?)),
         "lease" => leased(alloc),
         "make2" => made(alloc, 2),
         "make3" => made(alloc, 3),

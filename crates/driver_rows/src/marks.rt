@@ -9,7 +9,7 @@ use crate::steps::{boot, event};
 use crate::words::{number, part, rest, small_number, word};
 use domain_spec::Mark;
 use std::alloc::Global;
-use virt_types::{Answer, Call, Job, ListOf, NoMemory, both};
+use virt_types::{Answer, Boxed, Call, Job, ListOf, NoMemory, both};
 
 /// The marks of a history.
 pub(crate) type Marks = ListOf<Mark<u64>>;
@@ -66,7 +66,7 @@ fn done(alloc: Global, by: Caller, line: &str) -> Result<Mark<u64>, NoMemory> {
         boot: boot(word(line, 3)),
         asks,
         answers,
-        reply,
+        reply: Boxed::new(alloc, reply)?,
         transitions,
     })
 }
@@ -80,7 +80,7 @@ fn refused(alloc: Global, by: Caller, line: &str) -> Result<Mark<u64>, NoMemory>
     Ok(Mark::Refused {
         number: by.pass,
         who: by.who(),
-        call,
+        call: Boxed::new(alloc, call)?,
         code: code(word(line, 3)),
         held,
     })

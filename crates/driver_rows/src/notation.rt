@@ -42,7 +42,7 @@ fn put_leaving(alloc: Global, text: &mut String, guest: &MigratedGuest) -> Resul
 fn put_value(alloc: Global, text: &mut String, value: &Value) -> Result<(), NoMemory> {
     match value {
         Value::Domain(domain) => {
-            let id = domain.id;
+            let id = domain.as_ref().id;
             put(text, format!(in alloc; " id {id}")?.as_str())
         }
         Value::Name(name) => {

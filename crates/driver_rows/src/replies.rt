@@ -39,7 +39,7 @@ fn left(alloc: Global) -> Result<MigratedGuest, NoMemory> {
 pub(crate) fn reply(alloc: Global, words: &str) -> Result<Reply, NoMemory> {
     match word(words, 0) {
         "ok" => Ok(Reply::Ok(Value::Nothing)),
-        "defined" => Ok(Reply::Ok(Value::Domain(reference(alloc)?))),
+        "defined" => Ok(Reply::Ok(Value::Domain(Boxed::new(alloc, reference(alloc)?)?))),
         "memory" => Ok(Reply::Ok(Value::Memory(number(word(words, 1))))),
         "left" => Ok(Reply::Ok(Value::MigratedGuest(Boxed::new(alloc, left(alloc)?)?))),
         number => Ok(Reply::No(Refusal::new(alloc, code(number), rest(words))?)),

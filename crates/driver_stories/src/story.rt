@@ -71,7 +71,7 @@ impl Story {
     // A guest that leaves may come back.
     fn keep_guest(&mut self, reply: &Reply) -> Result<(), NoMemory> {
         if let Reply::Ok(Value::MigratedText(left)) = reply {
-            self.left = Some(left.copy()?);
+            self.left = Some(left.as_ref().copy()?);
         }
         Ok(())
     }

@@ -106,26 +106,32 @@ fn put_slots(row: &mut Row, text: &str) {
     }
 }
 
+fn put_parent(row: &mut Row, parent: &Option<Name>) {
+    match parent {
+        Some(name) => row.put(name.as_str()),
+        None => row.put("no parent"),
+    }
+}
+
 fn put_value(alloc: Global, row: &mut Row, value: &Value) {
     match value {
         Value::Nothing => row.put("ok"),
-        Value::Domain(it) => put_domain(alloc, row, it),
+        Value::Domain(it) => put_domain(alloc, row, it.as_ref()),
         Value::Text(it) => put_text(row, it.as_str()),
         Value::Autostart(true) => row.put("yes"),
         Value::Autostart(false) => row.put("no"),
-        Value::Info(it) => put_info(row, it),
+        Value::Info(it) => put_info(row, it.as_ref()),
         Value::Names(it) => put_names(row, it.as_slice()),
         Value::Domains(it) => put_domains(row, it.as_slice()),
         Value::Job(it) => put_job(row, it),
         Value::Name(it) => row.put(it.as_str()),
-        Value::Parent(Some(it)) => row.put(it.as_str()),
-        Value::Parent(None) => row.put("no parent"),
+        Value::Parent(it) => put_parent(row, it.as_ref()),
         Value::Memory(it) => {
             row.put_number(*it);
             row.put(" KiB");
         }
         Value::Titles(it) => put_titles(row, it.as_slice()),
-        Value::MigratedText(it) => put_left(row, it),
+        Value::MigratedText(it) => put_left(row, it.as_ref()),
         _ => row.put("another value"),
     }
 }

@@ -10,7 +10,7 @@ ghost use Rattle.hotplug_core.specs.Asks.{adding, removing};
 use crate::keys::{device_like, slot_like};
 use core_rules::{Next, Place, has_lease, lease_of, place_after};
 use std::alloc::Global;
-use virt_types::{Answer, Ask, Command, DeviceDef, Live, NoMemory, TryCopy};
+use virt_types::{Answer, Ask, Boxed, Command, DeviceDef, Live, NoMemory};
 
 // How many asks for an address come first.
 fn leases(device: &DeviceDef) -> usize
@@ -32,18 +32,23 @@ fn device_lease(alloc: Global, device: &DeviceDef) -> Result<Option<Ask>, NoMemo
 }
 
 // The asks for the two sides of a device, without the one for its address.
-fn adding(device: &DeviceDef, slot: u32, place: usize) -> Result<Option<Ask>, NoMemory>
+fn adding(
+    alloc: Global,
+    device: &DeviceDef,
+    slot: u32,
+    place: usize,
+) -> Result<Option<Ask>, NoMemory>
     ensures ask { IfOk result (λ ask. ask ≡ slice_get (adding device.now slot) place) }
     ensures memory { OnErr result (is_some (slice_get (adding device.now slot) place) ≡ true) }
 {
     match place {
         0 => Ok(Some(Ask::Command(Command::AddBackend {
             slot,
-            device: device.copy()?,
+            device: Boxed::copy_of(alloc, device)?,
         }))),
         1 => Ok(Some(Ask::Command(Command::AddDevice {
             slot,
-            device: device.copy()?,
+            device: Boxed::copy_of(alloc, device)?,
         }))),
         _ => Ok(None),
     }
@@ -62,7 +67,7 @@ fn attach_ask(
     if place < leases {
         device_lease(alloc, device)
     } else {
-        adding(device, slot, place - leases)
+        adding(alloc, device, slot, place - leases)
     }
 }
 
@@ -116,6 +121,7 @@ fn detach_ask(live: &Live, wanted: &DeviceDef, place: usize) -> Option<Ask>
 
 // The guest's side of the device is added again where the host's side was not removed.
 fn detach_undo(
+    alloc: Global,
     live: &Live,
     wanted: &DeviceDef,
     of: usize,
@@ -129,18 +135,26 @@ fn detach_undo(
     }
     match device_like(live, wanted)? {
         None => Ok(None),
-        Some((slot, device)) => Ok(Some(Ask::Command(Command::AddDevice { slot, device }))),
+        Some((slot, device)) => Ok(Some(Ask::Command(Command::AddDevice {
+            slot,
+            device: Boxed::new(alloc, device)?,
+        }))),
     }
 }
 
 /// What is next after these answers where the guest's device with the key of this one is detached.
-pub fn next_to_detach(live: &Live, wanted: &DeviceDef, answers: &[Answer]) -> Result<Next, NoMemory>
+pub fn next_to_detach(
+    alloc: Global,
+    live: &Live,
+    wanted: &DeviceDef,
+    answers: &[Answer],
+) -> Result<Next, NoMemory>
     ensures next { IfOk result (λ next. next ≡ next_of (asks_left (detach_plan (device_like live.now wanted.now)) answers.now)) }
     ensures memory { OnErr result (is_ask (next_of (asks_left (detach_plan (device_like live.now wanted.now)) answers.now)) ≡ true) }
 {
     match place_after(answers) {
         Place::Plan(place) => Ok(Next::of(detach_ask(live, wanted, place))),
-        Place::Undo { of, step } => Ok(Next::of(detach_undo(live, wanted, of, step)?)),
+        Place::Undo { of, step } => Ok(Next::of(detach_undo(alloc, live, wanted, of, step)?)),
         Place::Through => Ok(Next::Finish),
     }
 }

@@ -81,7 +81,7 @@ pub fn attach_end(
     requires { HasRoomIn new (live_of state.old) }
     ensures { Leaves (seq state.old (call.Attach new.device) boot answers.now) state.new result }
 {
-    match attach_fault(state, &new.device, boot) {
+    match attach_fault(state, new.device.as_ref(), boot) {
         Some(reason) => {
             drop(new);
             texts.refused(reason)

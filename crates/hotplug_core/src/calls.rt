@@ -27,8 +27,8 @@ pub fn next(
     ensures memory { OnErr result (is_ask (next_of (still_asked state.now call.now boot answers.now)) ≡ true) }
 {
     match call {
-        Call::Attach(device) => attach_next(alloc, state, device, boot, answers),
-        Call::Detach(device) => detach_next(state, device, boot, answers),
+        Call::Attach(device) => attach_next(alloc, state, device.as_ref(), boot, answers),
+        Call::Detach(device) => detach_next(alloc, state, device.as_ref(), boot, answers),
         _ => unreachable!(),
     }
 }
@@ -40,8 +40,8 @@ pub fn parts(alloc: Global, state: &State, call: &Call) -> Result<Parts, NoMemor
     ensures { IfOk result (λ parts. Fits parts state.now call.now) }
 {
     match call {
-        Call::Attach(device) => for_attach(alloc, state, device),
-        Call::Detach(device) => for_detach(alloc, device),
+        Call::Attach(device) => for_attach(alloc, state, device.as_ref()),
+        Call::Detach(device) => for_detach(alloc, device.as_ref()),
         _ => unreachable!(),
     }
 }
@@ -64,7 +64,9 @@ fn end(
         },
         Call::Detach(device) => match parts {
             Parts::Attach { .. } => unreachable!(),
-            Parts::Detach { mac, texts } => detach_end(state, device, boot, answers, &mac, texts),
+            Parts::Detach { mac, texts } => {
+                detach_end(state, device.as_ref(), boot, answers, &mac, texts)
+            }
         },
         _ => unreachable!(),
     }

@@ -85,7 +85,7 @@ fn with_device(live: &mut Live, slot: u32, new: NewDevice)
         interfaces,
         slots,
     } = new;
-    match device {
+    match device.into_inner() {
         DeviceDef::Disk(disk) => {
             drop(interfaces);
             add_disk(live, slot, disk, disks, slots)

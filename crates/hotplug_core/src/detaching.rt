@@ -16,9 +16,11 @@ use crate::asks::next_to_detach;
 use crate::changes::detach;
 use crate::faults::{Fault, detach_fault};
 use core_rules::{CallEnd, Next, Texts, failure_of, first_bad};
+use std::alloc::Global;
 use virt_types::{Answer, DeviceDef, Live, NoMemory, RefusalCode, State, Text};
 
 fn detach_asks(
+    alloc: Global,
     live: &Option<Live>,
     device: &DeviceDef,
     answers: &[Answer],
@@ -28,12 +30,13 @@ fn detach_asks(
 {
     match live {
         None => Ok(Next::Finish),
-        Some(live) => next_to_detach(live, device, answers),
+        Some(live) => next_to_detach(alloc, live, device, answers),
     }
 }
 
 /// What is next after these answers, where the device with the key of this one is to be detached.
 pub fn detach_next(
+    alloc: Global,
     state: &State,
     device: &DeviceDef,
     boot: Option<u64>,
@@ -46,7 +49,7 @@ pub fn detach_next(
         Some(_) => Ok(Next::Finish),
         None => match state {
             State::Vacant { .. } => Ok(Next::Finish),
-            State::Held(domain) => detach_asks(&domain.live, device, answers),
+            State::Held(domain) => detach_asks(alloc, &domain.live, device, answers),
         },
     }
 }

@@ -7,15 +7,13 @@ use crate::room::RoomFor;
 use core_rules::Texts;
 use definition_words::mac_text;
 use std::alloc::Global;
-use virt_types::{
-    DeviceDef, Disk, DomainDef, Interface, Live, Mac, NoMemory, State, Text, TryCopy,
-};
+use virt_types::{Boxed, DeviceDef, Disk, DomainDef, Interface, Live, Mac, NoMemory, State, Text};
 
 /// A device that comes to a guest, with room for the guest's lists and one more.
 #[derive(Drop)]
 pub struct NewDevice {
     /// The device.
-    pub device: DeviceDef,
+    pub device: Boxed<DeviceDef>,
     /// Room for the disks, if it is one.
     pub disks: RoomFor<Disk>,
     /// Room for the interfaces, if it is one.
@@ -66,7 +64,7 @@ fn for_guest(alloc: Global, live: &Live, device: &DeviceDef) -> Result<NewDevice
 {
     let (disks, interfaces) = room_of_kind(alloc, &live.def, device)?;
     Ok(NewDevice {
-        device: device.copy()?,
+        device: Boxed::copy_of(alloc, device)?,
         disks,
         interfaces,
         slots: RoomFor::new(alloc, live.slots.as_slice().len() + 1)?,
@@ -78,7 +76,7 @@ fn without_room(alloc: Global, device: &DeviceDef) -> Result<NewDevice, NoMemory
     ensures { IfOk result (λ new. new.device ≡ device.now) }
 {
     Ok(NewDevice {
-        device: device.copy()?,
+        device: Boxed::copy_of(alloc, device)?,
         disks: RoomFor::new(alloc, 0)?,
         interfaces: RoomFor::new(alloc, 0)?,
         slots: RoomFor::new(alloc, 0)?,

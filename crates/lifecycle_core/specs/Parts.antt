@@ -11,10 +11,10 @@ use Rattle.lifecycle_core.specs.declared.memory.NewDomain.{NewDomain}
 use Rattle.lifecycle_core.specs.declared.memory.CallParts.{CallParts}
 use Rattle.lifecycle_core.specs.declared.memory.PhaseParts.{PhaseParts}
 
--- this name, for the caller and for the mark
+-- they have this name, for the caller and for the mark
 pub record AreNames (names : Names) (name : List ℕ) : Type 0 where
-  pub for_caller : names.for_caller ≡ name
-  pub for_mark : names.for_mark ≡ name
+  pub for_caller : names.for_caller.name ≡ name
+  pub for_mark : names.for_mark.name ≡ name
 
 -- the names of the domain that is there
 abbrev pub AreHeld : Option Names → State → Type 0

@@ -10,7 +10,8 @@ ghost use Rattle.core_rules.specs.declared.next.Next.TheVariants as next;
 ghost use Rattle.core_rules.specs.declared.cores.Core.TheVariants as core;
 
 use core_rules::{Next, Place, is_paused, is_running, next_of_one, place_after};
-use virt_types::{Answer, Ask, Call, Command, Domain, DomainDef, Live, NoMemory, State, TryCopy};
+use std::alloc::Global;
+use virt_types::{Answer, Ask, Boxed, Call, Command, Domain, DomainDef, Live, NoMemory, State};
 
 fn tell(command: Command, answers: &[Answer]) -> Next
     ensures { result ≡ next_of (asks_left (plain (tell command)) answers.now) }
@@ -84,14 +85,19 @@ fn is_first(answers: &[Answer]) -> bool
 }
 
 // The definition is copied only where it is asked for: no memory is wanted once that was answered.
-fn put(def: &DomainDef, autostart: bool, answers: &[Answer]) -> Result<Next, NoMemory>
+fn put(
+    alloc: Global,
+    def: &DomainDef,
+    autostart: bool,
+    answers: &[Answer],
+) -> Result<Next, NoMemory>
     ensures value { IfOk result (λ next. next ≡ next_of (asks_left (plain (ask.Put def.now autostart ∷ [])) answers.now)) }
     ensures memory { OnErr result (is_ask (next_of (asks_left (plain (ask.Put def.now autostart ∷ [])) answers.now)) ≡ true) }
 {
     if !is_first(answers) {
         return Ok(Next::Finish);
     }
-    match def.copy() {
+    match Boxed::copy_of(alloc, def) {
         Ok(definition) => Ok(Next::Ask(Ask::Put {
             definition,
             autostart,
@@ -101,6 +107,7 @@ fn put(def: &DomainDef, autostart: bool, answers: &[Answer]) -> Result<Next, NoM
 }
 
 fn put_again(
+    alloc: Global,
     stored: &Option<DomainDef>,
     autostart: bool,
     answers: &[Answer],
@@ -110,34 +117,44 @@ fn put_again(
 {
     match stored {
         None => Ok(nothing(answers)),
-        Some(def) => put(def, autostart, answers),
+        Some(def) => put(alloc, def, autostart, answers),
     }
 }
 
-fn held_next(domain: &Domain, call: &Call, answers: &[Answer]) -> Result<Next, NoMemory>
+fn held_next(
+    alloc: Global,
+    domain: &Domain,
+    call: &Call,
+    answers: &[Answer],
+) -> Result<Next, NoMemory>
     requires { core_of_call call.now ≡ core.Lifecycle }
     ensures value { IfOk result (λ next. next ≡ next_of (asks_left (held_plan domain.now call.now) answers.now)) }
     ensures memory { OnErr result (is_ask (next_of (asks_left (held_plan domain.now call.now) answers.now)) ≡ true) }
 {
     match call {
-        Call::Define(def) => put(def, domain.autostart, answers),
+        Call::Define(def) => put(alloc, def.as_ref(), domain.autostart, answers),
         Call::Undefine => Ok(next_of_one(Some(Ask::Drop(domain.uuid)), answers)),
-        Call::SetAutostart(on) => put_again(&domain.stored, *on, answers),
+        Call::SetAutostart(on) => put_again(alloc, &domain.stored, *on, answers),
         _ => Ok(guest_next(&domain.live, call, answers)),
     }
 }
 
 /// What a call asks next whose tests passed.
-pub fn next_asked(state: &State, call: &Call, answers: &[Answer]) -> Result<Next, NoMemory>
+pub fn next_asked(
+    alloc: Global,
+    state: &State,
+    call: &Call,
+    answers: &[Answer],
+) -> Result<Next, NoMemory>
     requires { core_of_call call.now ≡ core.Lifecycle }
     ensures value { IfOk result (λ next. next ≡ next_of (asks_left (plan_of state.now call.now) answers.now)) }
     ensures memory { OnErr result (is_ask (next_of (asks_left (plan_of state.now call.now) answers.now)) ≡ true) }
 {
     match state {
         State::Vacant { .. } => match call {
-            Call::Define(def) => put(def, false, answers),
+            Call::Define(def) => put(alloc, def.as_ref(), false, answers),
             _ => Ok(nothing(answers)),
         },
-        State::Held(domain) => held_next(domain, call, answers),
+        State::Held(domain) => held_next(alloc, domain, call, answers),
     }
 }

@@ -15,11 +15,13 @@ use crate::guest_steps::{destroy, reboot, resume, set_memory, set_vcpus, suspend
 use crate::memory::CallParts;
 use crate::stored_steps::{define, set_autostart, undefine};
 use core_rules::{CallEnd, Next, Texts, call_ended, failure_of, first_bad, meets_ended};
+use std::alloc::Global;
 use virt_types::{Answer, Call, NoMemory, State, TransitionList};
 
 /// What is next for a call that carries this boot, after these answers. There may be no memory for
 /// an ask, and never for the end.
 pub fn next(
+    alloc: Global,
     state: &State,
     call: &Call,
     boot: Option<u64>,
@@ -32,7 +34,7 @@ pub fn next(
     if meets_ended(state, call, boot) || failing(state, boot, call).is_some() {
         return Ok(Next::Finish);
     }
-    next_asked(state, call, answers)
+    next_asked(alloc, state, call, answers)
 }
 
 // A call but Define, whose tests passed, where each answer is Ok.
@@ -79,7 +81,7 @@ fn step(
         Call::Define(def) => {
             let CallParts { texts, new, held } = parts;
             drop(texts);
-            define(state, def, new, held, into)
+            define(state, def.as_ref(), new, held, into)
         }
         _ => plain_step(state, call, answers, parts.into_texts(), into),
     }

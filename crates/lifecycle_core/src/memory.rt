@@ -5,22 +5,23 @@ ghost use Rattle.lifecycle_core.specs.Parts.{AreHeld, AreNames, DefineFits, Fits
 use core_rules::{PhaseTexts, Texts};
 use domain_spec::OpenOperation;
 use std::alloc::Global;
-use virt_types::{Call, DomainDef, Name, NoMemory, State, TryCopy};
+use virt_types::{Boxed, Call, DomainDef, DomainRef, Name, NoMemory, State, TryCopy, Uuid};
 
-/// A domain's name, which its caller is told, and the mark keeps.
+/// How a reply names a domain, which its caller is told, and the mark keeps. The name is there; the
+/// identifier and the number are put in when it is told.
 #[derive(Drop)]
 pub struct Names {
     /// For the caller.
-    pub for_caller: Name,
+    pub for_caller: Boxed<DomainRef>,
     /// For the mark.
-    pub for_mark: Name,
+    pub for_mark: Boxed<DomainRef>,
 }
 
 /// What a definition needs that is stored.
 #[derive(Drop)]
 pub struct NewDomain {
     /// The definition.
-    pub definition: DomainDef,
+    pub definition: Boxed<DomainDef>,
     /// The name of a domain that is not there yet.
     pub name: Name,
     /// The name again, to be told of that domain.
@@ -67,31 +68,42 @@ impl PhaseParts {
     }
 }
 
-fn names_of(name: &Name) -> Result<Names, NoMemory>
+fn named(alloc: Global, name: &Name) -> Result<Boxed<DomainRef>, NoMemory>
+    ensures { IfOk result (λ reference. reference.name ≡ name.now) }
+{
+    let reference = DomainRef {
+        name: name.copy()?,
+        uuid: Uuid::nil(),
+        id: -1,
+    };
+    Boxed::new(alloc, reference)
+}
+
+fn names_of(alloc: Global, name: &Name) -> Result<Names, NoMemory>
     ensures { IfOk result (λ names. AreNames names name.now) }
 {
     Ok(Names {
-        for_caller: name.copy()?,
-        for_mark: name.copy()?,
+        for_caller: named(alloc, name)?,
+        for_mark: named(alloc, name)?,
     })
 }
 
-fn held_names(state: &State) -> Result<Option<Names>, NoMemory>
+fn held_names(alloc: Global, state: &State) -> Result<Option<Names>, NoMemory>
     ensures { IfOk result (λ names. AreHeld names state.now) }
 {
     match state {
         State::Vacant { .. } => Ok(None),
-        State::Held(domain) => Ok(Some(names_of(&domain.name)?)),
+        State::Held(domain) => Ok(Some(names_of(alloc, &domain.name)?)),
     }
 }
 
-fn new_domain(def: &DomainDef) -> Result<NewDomain, NoMemory>
+fn new_domain(alloc: Global, def: &DomainDef) -> Result<NewDomain, NoMemory>
     ensures { IfOk result (λ new. IsNew new def.now) }
 {
     Ok(NewDomain {
-        definition: def.copy()?,
+        definition: Boxed::copy_of(alloc, def)?,
         name: def.name.copy()?,
-        told: names_of(&def.name)?,
+        told: names_of(alloc, &def.name)?,
     })
 }
 
@@ -100,8 +112,8 @@ fn define_parts(alloc: Global, state: &State, def: &DomainDef) -> Result<CallPar
 {
     Ok(CallParts {
         texts: Texts::new(alloc)?,
-        new: Some(new_domain(def)?),
-        held: held_names(state)?,
+        new: Some(new_domain(alloc, def)?),
+        held: held_names(alloc, state)?,
     })
 }
 
@@ -110,7 +122,7 @@ pub fn parts(alloc: Global, state: &State, call: &Call) -> Result<CallParts, NoM
     ensures { IfOk result (λ parts. Fits parts state.now call.now) }
 {
     match call {
-        Call::Define(def) => define_parts(alloc, state, def),
+        Call::Define(def) => define_parts(alloc, state, def.as_ref()),
         _ => Ok(CallParts {
             texts: Texts::new(alloc)?,
             new: None,
@@ -124,7 +136,7 @@ fn serving_parts(alloc: Global, state: &State) -> Result<PhaseParts, NoMemory>
 {
     Ok(PhaseParts {
         texts: PhaseTexts::new(alloc, state)?,
-        held: held_names(state)?,
+        held: held_names(alloc, state)?,
     })
 }
 

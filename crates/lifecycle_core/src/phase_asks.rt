@@ -8,13 +8,13 @@ ghost use Rattle.lifecycle_core.specs.Plans.{asks_due, asks_in, leases_then_make
 
 use core_rules::{has_lease, lease_of};
 use std::alloc::Global;
-use virt_types::{Ask, Command, Interface, Live, NoMemory, Phase, State, TryCopy};
+use virt_types::{Ask, Boxed, Command, Interface, Live, NoMemory, Phase, State};
 
-fn make(live: &Live) -> Result<Option<Ask>, NoMemory>
+fn make(alloc: Global, live: &Live) -> Result<Option<Ask>, NoMemory>
     ensures { IfOk result (λ made. made ≡ Some (ask.Make live.now.def live.now.boot)) }
 {
     Ok(Some(Ask::Make {
-        definition: live.def.copy()?,
+        definition: Boxed::copy_of(alloc, &live.def)?,
         boot: live.boot,
     }))
 }
@@ -31,7 +31,13 @@ fn leases_then_make(
     ensures memory { OnErr result (is_some (slice_get (leases_then_make interfaces.now live.now) place) ≡ true) }
 {
     match interfaces {
-        [] => { if place == 0 { make(live) } else { Ok(None) } }
+        [] => {
+            if place == 0 {
+                make(alloc, live)
+            } else {
+                Ok(None)
+            }
+        }
         [first, rest @ ..] => {
             if !has_lease(first) {
                 leases_then_make(alloc, rest, live, place)

@@ -14,9 +14,19 @@ ghost use Rattle.lifecycle_core.specs.Parts.{AreHeld, AreNames, IsNew, IsNewIf};
 use crate::memory::{Names, NewDomain};
 use core_rules::{CallEnd, id_of};
 use virt_types::{
-    DEFINED_ADDED, DEFINED_UPDATED, Domain, DomainDef, DomainRef, Name, Reply, SnapList, State,
-    TransitionList, UNDEFINED_REMOVED, Uuid, Value,
+    Boxed, DEFINED_ADDED, DEFINED_UPDATED, Domain, DomainDef, DomainRef, Name, Reply, SnapList,
+    State, TransitionList, UNDEFINED_REMOVED, Uuid, Value,
 };
+
+// How a reply names a domain of this identifier and number.
+fn naming(mut named: Boxed<DomainRef>, uuid: Uuid, id: i32) -> Reply
+    ensures { result ≡ reply.Ok (value.Domain (record named { uuid = uuid; id = id })) }
+{
+    let reference = named.as_mut();
+    reference.uuid = uuid;
+    reference.id = id;
+    Reply::Ok(Value::Domain(named))
+}
 
 /// How replies name a domain, for its caller and for the mark.
 pub fn told_of(domain: &Domain, names: Names) -> CallEnd
@@ -25,16 +35,8 @@ pub fn told_of(domain: &Domain, names: Names) -> CallEnd
 {
     let id = id_of(&domain.live);
     CallEnd {
-        reply: Reply::Ok(Value::Domain(DomainRef {
-            name: names.for_caller,
-            uuid: domain.uuid,
-            id,
-        })),
-        in_mark: Reply::Ok(Value::Domain(DomainRef {
-            name: names.for_mark,
-            uuid: domain.uuid,
-            id,
-        })),
+        reply: naming(names.for_caller, domain.uuid, id),
+        in_mark: naming(names.for_mark, domain.uuid, id),
     }
 }
 
@@ -103,7 +105,7 @@ fn define_in(
     drop(name);
     drop(told);
     let Some(names) = held else { unreachable!() };
-    define_held(domain, definition, names, into)
+    define_held(domain, definition.into_inner(), names, into)
 }
 
 // A domain that was not there gets its first definition.
@@ -117,6 +119,7 @@ fn define_first(state: &mut State, boots: u64, new: NewDomain, into: &mut Transi
         name,
         told,
     } = new;
+    let definition = definition.into_inner();
     let mut domain = new_domain(&definition, name, boots);
     let end = define_held(&mut domain, definition, told, into);
     *state = State::Held(domain);

@@ -18,7 +18,7 @@ use model_domain::snapshot_names::snapshot_name;
 use model_domain::snapshots::{has_state, snapshot_named};
 use std::alloc::Global;
 use virt_types::{
-    Call, Cause, Domain, DomainDef, Live, Name, NoMemory, Op, OpKind, Phase, RunState, Snap,
+    Boxed, Call, Cause, Domain, DomainDef, Live, Name, NoMemory, Op, OpKind, Phase, RunState, Snap,
     SnapInfo, State, TryCopy, Who, both,
 };
 
@@ -58,8 +58,10 @@ fn boot_definition(domain: &Domain, call: &Call) -> Result<Option<DomainDef>, No
 {
     match call {
         Call::Start => domain.stored.copy(),
-        Call::Create(def) => given(def),
-        Call::Restore { definition, .. } | Call::Prepare { definition, .. } => given(definition),
+        Call::Create(def) => given(def.as_ref()),
+        Call::Restore { definition, .. } | Call::Prepare { definition, .. } => {
+            given(definition.as_ref())
+        }
         Call::Revert(name) => revert_definition(domain, name),
         _ => Ok(None),
     }
@@ -245,9 +247,9 @@ pub fn begin_state(alloc: Global, state: &State, who: Who, call: &Call) -> Resul
     match state {
         State::Held(domain) => begun_held(alloc, domain, who, call),
         State::Vacant { boots } => match call {
-            Call::Create(def) => begun_new(alloc, def, *boots, who, call),
+            Call::Create(def) => begun_new(alloc, def.as_ref(), *boots, who, call),
             Call::Restore { definition, .. } | Call::Prepare { definition, .. } => {
-                begun_new(alloc, definition, *boots, who, call)
+                begun_new(alloc, definition.as_ref(), *boots, who, call)
             }
             _ => Ok(State::Vacant { boots: *boots }),
         },
@@ -271,7 +273,8 @@ pub fn named_call(alloc: Global, state: &State, call: &Call) -> Result<Call, NoM
 {
     match (state, call) {
         (State::Held(domain), Call::Snapshot(info)) => {
-            Ok(Call::Snapshot(named_info(alloc, domain, info)?))
+            let info = named_info(alloc, domain, info.as_ref())?;
+            Ok(Call::Snapshot(Boxed::new(alloc, info)?))
         }
         _ => call.copy(),
     }

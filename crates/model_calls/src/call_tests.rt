@@ -386,8 +386,8 @@ fn live_tests(alloc: Global, domain: &Domain, call: &Call) -> Result<TestList, N
         Call::SetVcpus(n) => {
             inactive_or_outside(alloc, domain, *n as u64, live_vcpus(&domain.live) as u64)
         }
-        Call::Attach(new) => attach_tests(alloc, domain, new),
-        Call::Detach(old) => detach_tests(alloc, domain, old),
+        Call::Attach(new) => attach_tests(alloc, domain, new.as_ref()),
+        Call::Detach(old) => detach_tests(alloc, domain, old.as_ref()),
         Call::Kick(n) => kick_tests(alloc, domain, *n),
         Call::Reboot | Call::MemoryStats => inactive_alone(alloc, domain),
         Call::Suspend => suspend_tests(alloc, domain),
@@ -428,7 +428,7 @@ fn operation_tests(alloc: Global, domain: &Domain, call: &Call) -> Result<TestLi
         Call::Create(_) => invalid_if(alloc, domain, true),
         Call::Save(_) | Call::Perform => inactive_or_crashed(alloc, domain),
         Call::Dump(_) => inactive_alone(alloc, domain),
-        Call::Snapshot(info) => snapshot_tests(alloc, domain, &info.name),
+        Call::Snapshot(info) => snapshot_tests(alloc, domain, &info.as_ref().name),
         Call::Revert(name) => revert_tests(alloc, domain, name),
         _ => active_or_spent(alloc, domain),
     }
@@ -476,7 +476,7 @@ fn plain_tests(
         Call::Undefine => undefine_tests(alloc, domain, boot),
         Call::SetAutostart(_) => stored_tests(alloc, domain),
         Call::Abort => invalid_if(alloc, domain, !can_abort(&domain.op)),
-        Call::SnapDelete { name, .. } => deletion_tests(alloc, domain, name),
+        Call::SnapDelete { name, .. } => deletion_tests(alloc, domain, name.as_ref()),
         Call::Confirm(_) => resting_tests(alloc, domain, OpKind::MigrateOut),
         Call::Finish(_) => resting_tests(alloc, domain, OpKind::MigrateIn),
         _ => live_tests(alloc, domain, call),

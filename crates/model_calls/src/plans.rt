@@ -14,8 +14,8 @@ use model_domain::lists::{joined, single};
 use model_domain::reading::{is_paused, is_running};
 use std::alloc::Global;
 use virt_types::{
-    Ask, AskList, Call, Command, DeviceDef, Domain, DomainDef, ListOf, Live, NoMemory, State,
-    TryCopy, both,
+    Ask, AskList, Boxed, Call, Command, DeviceDef, Domain, DomainDef, ListOf, Live, NoMemory,
+    State, both,
 };
 
 fn device_lease(alloc: Global, device: &DeviceDef) -> Result<AskList, NoMemory>
@@ -52,7 +52,7 @@ fn ask_plan(alloc: Global, ask: Ask) -> Result<Plan, NoMemory>
 fn added_backend(alloc: Global, device: &DeviceDef, slot: u32) -> Result<AskList, NoMemory>
     ensures { IfOk result (λ asks. asks ≡ tell (command.AddBackend slot device.now)) }
 {
-    let device = device.copy()?;
+    let device = Boxed::copy_of(alloc, device)?;
     tell(alloc, Command::AddBackend { slot, device })
 }
 
@@ -60,7 +60,7 @@ fn added_backend(alloc: Global, device: &DeviceDef, slot: u32) -> Result<AskList
 fn added_device(alloc: Global, device: &DeviceDef, slot: u32) -> Result<AskList, NoMemory>
     ensures { IfOk result (λ asks. asks ≡ tell (command.AddDevice slot device.now)) }
 {
-    let device = device.copy()?;
+    let device = Boxed::copy_of(alloc, device)?;
     tell(alloc, Command::AddDevice { slot, device })
 }
 
@@ -157,8 +157,8 @@ fn live_plan(alloc: Global, live: &Live, call: &Call) -> Result<Plan, NoMemory>
         Call::Destroy => command_plan(alloc, Command::Quit),
         Call::SetMemory(kib) => command_plan(alloc, Command::SetMemory(*kib)),
         Call::SetVcpus(n) => command_plan(alloc, Command::SetVcpus(*n)),
-        Call::Attach(device) => joining_plan(alloc, live, device),
-        Call::Detach(device) => leaving_plan(alloc, live, device),
+        Call::Attach(device) => joining_plan(alloc, live, device.as_ref()),
+        Call::Detach(device) => leaving_plan(alloc, live, device.as_ref()),
         Call::MemoryStats => command_plan(alloc, Command::QueryMemory),
         Call::Kick(n) => command_plan(alloc, Command::Kick(n.unsigned_abs())),
         _ => Ok(ListOf::new(alloc)),
@@ -178,7 +178,7 @@ fn guest_plan(alloc: Global, live: &Option<Live>, call: &Call) -> Result<Plan, N
 fn store_plan(alloc: Global, def: &DomainDef, autostart: bool) -> Result<Plan, NoMemory>
     ensures { IfOk result (λ made. made ≡ plain (ask.Put def.now autostart ∷ [])) }
 {
-    let definition = def.copy()?;
+    let definition = Boxed::copy_of(alloc, def)?;
     ask_plan(
         alloc,
         Ask::Put {
@@ -201,7 +201,7 @@ fn held_plan(alloc: Global, domain: &Domain, call: &Call) -> Result<Plan, NoMemo
     ensures { IfOk result (λ made. made ≡ held_plan domain.now call.now) }
 {
     match call {
-        Call::Define(def) => store_plan(alloc, def, domain.autostart),
+        Call::Define(def) => store_plan(alloc, def.as_ref(), domain.autostart),
         Call::Undefine => ask_plan(alloc, Ask::Drop(domain.uuid)),
         Call::SetAutostart(on) => put_plan(alloc, &domain.stored, *on),
         _ => guest_plan(alloc, &domain.live, call),
@@ -215,7 +215,7 @@ pub fn plan_of(alloc: Global, state: &State, call: &Call) -> Result<Plan, NoMemo
     match state {
         State::Held(domain) => held_plan(alloc, domain, call),
         State::Vacant { .. } => match call {
-            Call::Define(def) => store_plan(alloc, def, false),
+            Call::Define(def) => store_plan(alloc, def.as_ref(), false),
             _ => Ok(ListOf::new(alloc)),
         },
     }

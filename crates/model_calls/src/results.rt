@@ -23,10 +23,10 @@ use model_domain::snapshots::{current_without, without_snapshot};
 use model_domain::told::{Told, tell_listeners};
 use std::alloc::Global;
 use virt_types::{
-    Answer, AnswerValue, Call, Cause, DEFINED_ADDED, DEFINED_UPDATED, DeviceDef, Domain, DomainDef,
-    EndReason, ListOf, Live, Name, NoMemory, Op, RESUMED_UNPAUSED, Refusal, Reply, RunState,
-    STOPPED_DESTROYED, SUSPENDED_PAUSED, SnapList, State, Transition, TryCopy, UNDEFINED_REMOVED,
-    Uuid, Value, both,
+    Answer, AnswerValue, Boxed, Call, Cause, DEFINED_ADDED, DEFINED_UPDATED, DeviceDef, Domain,
+    DomainDef, EndReason, ListOf, Live, Name, NoMemory, Op, RESUMED_UNPAUSED, Refusal, Reply,
+    RunState, STOPPED_DESTROYED, SUSPENDED_PAUSED, SnapList, State, Transition, TryCopy,
+    UNDEFINED_REMOVED, Uuid, Value, both,
 };
 
 /// The call is refused: nothing changes, and nobody is told.
@@ -84,10 +84,11 @@ pub fn new_domain(def: &DomainDef, boots: u64) -> Result<Domain, NoMemory>
 }
 
 // What a caller is told who defines a domain.
-fn defined_told(domain: &Domain) -> Result<Reply, NoMemory>
+fn defined_told(alloc: Global, domain: &Domain) -> Result<Reply, NoMemory>
     ensures { IfOk result (λ it. it ≡ reply.Ok (value.Domain (reference_of domain.now))) }
 {
-    Ok(Reply::Ok(Value::Domain(reference_of(domain)?)))
+    let reference = reference_of(domain)?;
+    Ok(Reply::Ok(Value::Domain(Boxed::new(alloc, reference)?)))
 }
 
 /// The definition is stored.
@@ -99,7 +100,7 @@ pub fn defined(alloc: Global, domain: &Domain, def: &DomainDef) -> Result<CallSt
     } else {
         DEFINED_ADDED
     };
-    let told = both(single(alloc, told), defined_told(domain));
+    let told = both(single(alloc, told), defined_told(alloc, domain));
     let ((mut next, def), (transitions, reply)) = both(both(domain.copy(), def.copy()), told)?;
     next.stored = Some(def);
     Ok(CallStep {
@@ -306,8 +307,8 @@ fn live_step(
         Call::Destroy => destroyed(alloc, domain, live),
         Call::SetMemory(kib) => memory_set(alloc, domain, live, *kib),
         Call::SetVcpus(n) => vcpus_set(alloc, domain, live, *n),
-        Call::Attach(new) => device_attached(alloc, domain, live, new),
-        Call::Detach(old) => device_detached(alloc, domain, live, old),
+        Call::Attach(new) => device_attached(alloc, domain, live, new.as_ref()),
+        Call::Detach(old) => device_detached(alloc, domain, live, old.as_ref()),
         Call::MemoryStats => memory_told(alloc, domain, answers),
         _ => unchanged(alloc, domain),
     }
@@ -411,12 +412,14 @@ fn held_step(
     ensures { IfOk result (λ step. step ≡ held_step domain.now call.now answers.now) }
 {
     match call {
-        Call::Define(def) => defined(alloc, domain, def),
+        Call::Define(def) => defined(alloc, domain, def.as_ref()),
         Call::Undefine => undefined(alloc, domain),
         Call::SetAutostart(on) => autostart_set(alloc, domain, *on),
         Call::Abort => abort_asked(alloc, domain),
         Call::Limit(rest) => limit_set(alloc, domain, *rest),
-        Call::SnapDelete { name, children } => snapshot_deleted(alloc, domain, name, *children),
+        Call::SnapDelete { name, children } => {
+            snapshot_deleted(alloc, domain, name.as_ref(), *children)
+        }
         _ => guest_step(alloc, domain, call, answers),
     }
 }
@@ -439,7 +442,7 @@ pub fn step_of(
     match state {
         State::Held(domain) => held_step(alloc, domain, call, answers),
         State::Vacant { boots } => match call {
-            Call::Define(def) => first_defined(alloc, def, *boots),
+            Call::Define(def) => first_defined(alloc, def.as_ref(), *boots),
             _ => Ok(done_quietly(alloc, State::Vacant { boots: *boots })),
         },
     }

@@ -127,7 +127,7 @@ fn is_in_order(alloc: Global, s: &Standing, mark: &Mark<u64>) -> Result<bool, No
                 boot: *boot,
                 asks,
                 answers,
-                reply,
+                reply: reply.as_ref(),
                 transitions,
             },
         ),
@@ -137,7 +137,7 @@ fn is_in_order(alloc: Global, s: &Standing, mark: &Mark<u64>) -> Result<bool, No
             code,
             held,
             ..
-        } => Ok(is_refused(s, *who, call, *code, held)),
+        } => Ok(is_refused(s, *who, call.as_ref(), *code, held)),
         Mark::Start {
             number,
             who,

@@ -154,7 +154,10 @@ fn migrate_load_done(
 ) -> Result<PhaseStep, NoMemory>
     ensures { IfOk result (λ step. step ≡ rests domain.now op.now [] (reply.Ok (start_value domain.now call.now))) }
 {
-    let ((next, op), value) = both(both(domain.copy(), op.copy()), start_value(domain, call))?;
+    let ((next, op), value) = both(
+        both(domain.copy(), op.copy()),
+        start_value(alloc, domain, call),
+    )?;
     Ok(rests(next, op, ListOf::new(alloc), Reply::Ok(value)))
 }
 

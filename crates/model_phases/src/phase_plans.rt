@@ -20,7 +20,7 @@ use model_domain::reading::{is_held_by_job, is_running};
 use model_domain::snapshots::{snapshot_named, snapshot_ran};
 use std::alloc::Global;
 use virt_types::{
-    Answer, AnswerValue, Ask, AskList, Bytes, Call, Command, Domain, DomainDef, ImageKind,
+    Answer, AnswerValue, Ask, AskList, Boxed, Bytes, Call, Command, Domain, DomainDef, ImageKind,
     Interface, ListOf, Live, Name, NoMemory, Op, Phase, Snap, TryCopy, both,
 };
 
@@ -65,12 +65,12 @@ pub fn loaded_of(domain: &Domain, call: &Call) -> Result<Option<Loaded>, NoMemor
             definition,
             running,
             saved,
-        } => image(definition, *running, saved),
+        } => image(definition.as_ref(), *running, saved.as_ref()),
         Call::Prepare {
             definition,
             running,
             saved,
-        } => image(definition, *running, saved),
+        } => image(definition.as_ref(), *running, saved.as_ref()),
         Call::Revert(name) => { loaded_from_named(&snapshot_named(&domain.snaps, name)?) }
         _ => Ok(None),
     }
@@ -166,8 +166,11 @@ fn write_image(
 ) -> Result<AskList, NoMemory>
     ensures { IfOk result (λ asks. asks ≡ write_image name.now kind live.now op.now answers.now) }
 {
-    let bytes = copied_bytes(alloc, &first_value(answers)?);
-    let ((name, definition), bytes) = both(both(name.copy(), live.def.copy()), bytes)?;
+    let bytes = copied_bytes(alloc, &first_value(answers)?)?;
+    let (name, (definition, bytes)) = both(
+        Boxed::copy_of(alloc, name),
+        both(Boxed::copy_of(alloc, &live.def), Boxed::new(alloc, bytes)),
+    )?;
     single(
         alloc,
         Ask::WriteImage {
@@ -270,7 +273,7 @@ fn leases(alloc: Global, interfaces: &[Interface]) -> Result<AskList, NoMemory>
 fn make(alloc: Global, live: &Live) -> Result<AskList, NoMemory>
     ensures { IfOk result (λ asks. asks ≡ ask.Make live.now.def live.now.boot ∷ []) }
 {
-    let definition = live.def.copy()?;
+    let definition = Boxed::copy_of(alloc, &live.def)?;
     single(
         alloc,
         Ask::Make {

@@ -29,8 +29,8 @@ use model_domain::snapshots::with_snapshot;
 use model_domain::told::{Told, tell_listeners};
 use std::alloc::Global;
 use virt_types::{
-    Answer, AnswerValue, Bytes, Call, Cause, Domain, DomainDef, EndReason, ListOf, Live, Name,
-    NoMemory, Op, OpKind, Phase, RESUMED_UNPAUSED, Refusal, Reply, RunState, STARTED_BOOTED,
+    Answer, AnswerValue, Boxed, Bytes, Call, Cause, Domain, DomainDef, EndReason, ListOf, Live,
+    Name, NoMemory, Op, OpKind, Phase, RESUMED_UNPAUSED, Refusal, Reply, RunState, STARTED_BOOTED,
     STARTED_FROM_SNAPSHOT, STARTED_RESTORED, STOPPED_FROM_SNAPSHOT, STOPPED_SAVED,
     SUSPENDED_PAUSED, Snap, SnapInfo, State, Transition, TryCopy, Value, both,
 };
@@ -112,11 +112,13 @@ pub fn paused_unless(alloc: Global, ran: bool) -> Result<Told, NoMemory>
 }
 
 /// What a call is given that makes a guest.
-pub fn start_value(domain: &Domain, call: &Call) -> Result<Value, NoMemory>
+pub fn start_value(alloc: Global, domain: &Domain, call: &Call) -> Result<Value, NoMemory>
     ensures { IfOk result (λ value. value ≡ start_value domain.now call.now) }
 {
     match call {
-        Call::Create(_) | Call::Prepare { .. } => Ok(Value::Domain(reference_of(domain)?)),
+        Call::Create(_) | Call::Prepare { .. } => {
+            Ok(Value::Domain(Boxed::new(alloc, reference_of(domain)?)?))
+        }
         _ => Ok(Value::Nothing),
     }
 }
@@ -545,7 +547,14 @@ fn take_done(
     match call {
         Call::Save(_) => goes_on_quietly(alloc, domain, op, Phase::Quit),
         Call::Snapshot(info) => {
-            live_taken(alloc, domain, live, op, info, &first_value(answers)?)
+            live_taken(
+                alloc,
+                domain,
+                live,
+                op,
+                info.as_ref(),
+                &first_value(answers)?,
+            )
         }
         _ => resumed_over(alloc, domain, live, op),
     }
@@ -629,7 +638,10 @@ fn cancel_done(alloc: Global, domain: &Domain, live: &Live, op: &Op) -> Result<P
 fn run_done(alloc: Global, domain: &Domain, live: &Live, call: &Call) -> Result<PhaseStep, NoMemory>
     ensures { IfOk result (λ step. step ≡ run_done domain.now live.now call.now) }
 {
-    let told = both(single(alloc, STARTED_BOOTED), start_value(domain, call));
+    let told = both(
+        single(alloc, STARTED_BOOTED),
+        start_value(alloc, domain, call),
+    );
     let (next, (told, value)) = both(with_run(domain, live, RunState::Running), told)?;
     Ok(over(State::Held(next), told, Reply::Ok(value)))
 }

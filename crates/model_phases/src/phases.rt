@@ -63,7 +63,7 @@ fn inactive_take_done(alloc: Global, domain: &Domain, call: &Call) -> Result<Pha
     ensures { IfOk result (λ step. step ≡ inactive_take_done domain.now call.now) }
 {
     match call {
-        Call::Snapshot(info) => inactive_taken(alloc, domain, info),
+        Call::Snapshot(info) => inactive_taken(alloc, domain, info.as_ref()),
         _ => given_up(alloc, domain, no_domain(alloc)?),
     }
 }

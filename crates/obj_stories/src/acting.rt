@@ -57,7 +57,7 @@ fn is_full(reply: &Reply) -> bool {
 // The state that was read.
 fn state_of(queried: &Queried) -> Option<u32> {
     match queried {
-        Queried::Read(Reply::Ok(Value::Info(info)), _) => Some(info.state.number()),
+        Queried::Read(Reply::Ok(Value::Info(info)), _) => Some(info.as_ref().state.number()),
         _ => None,
     }
 }

@@ -10,7 +10,7 @@ use std::alloc::Global;
 use std::sync::Wait;
 use std::thread::Threads;
 use story_domain::{disk, name};
-use virt_types::{Call, NoMemory};
+use virt_types::{Boxed, Call, NoMemory};
 
 // A call that is not held.
 fn call(call: Call) -> Step {
@@ -84,7 +84,7 @@ pub(crate) fn aborted<H: Threads + Wait + Copy + Send + Sync>(
     alloc: Global,
 ) -> Result<String, NoMemory> {
     let save = Call::Save(name(alloc, "s")?);
-    let attach = Call::Attach(disk(alloc)?);
+    let attach = Call::Attach(Boxed::new(alloc, disk(alloc)?)?);
     let one = vec![in alloc; call(Call::Start), held(save, 4), Step::Info]?;
     let two = vec![in alloc;
         Step::Wait(Signal::Held),

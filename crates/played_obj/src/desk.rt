@@ -43,7 +43,7 @@ fn ask_whom<G: Maker>(
             Some(monitor) => (monitor.ask(command), None),
             None => (Answer::Ok(AnswerValue::Nothing), None),
         },
-        Ask::Make { definition, boot } => match guests.make(definition, *boot) {
+        Ask::Make { definition, boot } => match guests.make(definition.as_ref(), *boot) {
             Some(link) => (Answer::Ok(AnswerValue::Nothing), Some(link)),
             None => (Answer::NoMemory, None),
         },

@@ -102,22 +102,28 @@ pub(crate) fn put_value(alloc: Global, writer: &mut Writer, value: &Value) -> Re
 {
     match value {
         Value::Nothing => Ok(()),
-        Value::Domain(domain) => put_reference(writer, domain),
-        Value::Network(network) => put_object(writer, &network.name, &network.uuid),
-        Value::Pool(pool) => put_object(writer, &pool.name, &pool.uuid),
+        Value::Domain(domain) => put_reference(writer, domain.as_ref()),
+        Value::Network(network) => {
+            let network = network.as_ref();
+            put_object(writer, &network.name, &network.uuid)
+        }
+        Value::Pool(pool) => {
+            let pool = pool.as_ref();
+            put_object(writer, &pool.name, &pool.uuid)
+        }
         Value::Text(text) => writer.put_string(text.as_str().as_bytes()),
         Value::Autostart(autostart) => writer.put_optional(*autostart),
-        Value::Info(info) => put_info(writer, info),
+        Value::Info(info) => put_info(writer, info.as_ref()),
         Value::Names(list) => put_names(writer, list.as_slice()),
         Value::Domains(list) => put_domains(writer, list.as_slice()),
         Value::Pools(list) => put_pools(writer, list.as_slice()),
         Value::Job(job) => put_job(writer, job),
         Value::Name(name) => put_name(writer, name),
-        Value::Parent(name) => put_optional_name(writer, name),
+        Value::Parent(name) => put_optional_name(writer, name.as_ref()),
         Value::Memory(memory) => writer.put_u64(*memory),
         Value::Leases(list) => put_leases(alloc, writer, list.as_slice()),
         Value::Titles(list) => put_titles(writer, list.as_slice()),
-        Value::MigratedText(guest) => put_migrated(writer, guest),
+        Value::MigratedText(guest) => put_migrated(writer, guest.as_ref()),
         _ => unreachable!(),
     }
 }

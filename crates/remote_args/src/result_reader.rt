@@ -8,7 +8,7 @@ use crate::result_item::{info, job, migrated, name, network, optional_name, pool
 use crate::result_list_reader::{domains, leases, names, pools, titles};
 use procedure_spec::{ArgFault, ResultShape};
 use std::alloc::Global;
-use virt_types::{OrNoMemory, Value};
+use virt_types::{Boxed, OrNoMemory, Value};
 use xdr_codec::Reader;
 
 // The value at the front of what is left.
@@ -21,21 +21,25 @@ fn first(
 {
     match shape {
         ResultShape::Nothing => Ok(Value::Nothing),
-        ResultShape::Domain => Ok(Value::Domain(reference(alloc, reader)?)),
-        ResultShape::Network => Ok(Value::Network(network(alloc, reader)?)),
-        ResultShape::Pool => Ok(Value::Pool(pool(alloc, reader)?)),
+        ResultShape::Domain => Ok(Value::Domain(Boxed::new(alloc, reference(alloc, reader)?)?)),
+        ResultShape::Network => Ok(Value::Network(Boxed::new(alloc, network(alloc, reader)?)?)),
+        ResultShape::Pool => Ok(Value::Pool(Boxed::new(alloc, pool(alloc, reader)?)?)),
         ResultShape::Text => Ok(Value::Text(text(alloc, reader)?)),
         ResultShape::Name => Ok(Value::Name(name(alloc, reader)?)),
-        ResultShape::OptionalName => Ok(Value::Parent(optional_name(alloc, reader)?)),
+        ResultShape::OptionalName => {
+            Ok(Value::Parent(Boxed::new(alloc, optional_name(alloc, reader)?)?))
+        }
         ResultShape::Autostart => Ok(Value::Autostart(truth(reader)?)),
         ResultShape::DoubleWord => Ok(Value::Memory(double_word(reader)?)),
         ResultShape::Names => Ok(Value::Names(names(alloc, reader)?)),
-        ResultShape::Info => Ok(Value::Info(info(reader)?)),
+        ResultShape::Info => Ok(Value::Info(Boxed::new(alloc, info(reader)?)?)),
         ResultShape::Job => Ok(Value::Job(job(reader)?)),
         ResultShape::Domains => Ok(Value::Domains(domains(alloc, reader)?)),
         ResultShape::Pools => Ok(Value::Pools(pools(alloc, reader)?)),
         ResultShape::Titles => Ok(Value::Titles(titles(alloc, reader)?)),
-        ResultShape::Migrated => Ok(Value::MigratedText(migrated(alloc, reader)?)),
+        ResultShape::Migrated => {
+            Ok(Value::MigratedText(Boxed::new(alloc, migrated(alloc, reader)?)?))
+        }
         ResultShape::Leases => Ok(Value::Leases(leases(alloc, reader)?)),
     }
 }

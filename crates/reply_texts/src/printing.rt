@@ -7,7 +7,7 @@ use domain_texts::print_domain;
 use live_print::print_live;
 use snapshot_xml::print_kept;
 use std::alloc::Global;
-use virt_types::{MigratedGuest, MigratedText, NoMemory, Reply, TryCopy, Value};
+use virt_types::{Boxed, MigratedGuest, MigratedText, NoMemory, Reply, TryCopy, Value};
 
 // The text of a guest that leaves, with its state.
 fn print_guest(alloc: Global, guest: &MigratedGuest) -> Result<MigratedText, NoMemory>
@@ -28,12 +28,15 @@ fn in_place_of(alloc: Global, value: &Value) -> Result<Option<Value>, NoMemory>
     ensures none { IfOk result (λ it. IfNone it (printed value.now ≡ value.now)) }
 {
     Ok(match value {
-        Value::Reference(row) => Some(Value::Domain(row.domain.copy()?)),
+        Value::Reference(row) => {
+            Some(Value::Domain(Boxed::copy_of(alloc, &row.as_ref().domain)?))
+        }
         Value::Definition(def) => Some(Value::Text(print_domain(alloc, def.as_ref())?)),
         Value::Live(live) => Some(Value::Text(print_live(alloc, live.as_ref())?)),
         Value::Snapshot(snap) => Some(Value::Text(print_kept(alloc, snap.as_ref())?)),
         Value::MigratedGuest(guest) => {
-            Some(Value::MigratedText(print_guest(alloc, guest.as_ref())?))
+            let text = print_guest(alloc, guest.as_ref())?;
+            Some(Value::MigratedText(Boxed::new(alloc, text)?))
         }
         _ => None,
     })

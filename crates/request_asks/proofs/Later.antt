@@ -1,5 +1,5 @@
 -- The store's pass goes on, whatever a request asks.
-use Rattle.std.proofs.Common.{◌≡◌, ◌∙◌, ◌⊎◌, ℕ, List, [], true, Option, None, Some, append-nil, ap, inl, inr, refl, subst, sym}
+use Rattle.std.proofs.Common.{◌≡◌, ◌∙◌, ℕ, List, [], true, Option, None, Some, append-nil, inl, inr, refl, subst, sym}
 use Rattle.history_spec.proofs.Beginnings.{begins_itself}
 use Rattle.history_spec.specs.Chapter.{tagged}
 use Rattle.files_disk.specs.Telling.{Told}

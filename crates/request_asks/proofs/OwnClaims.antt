@@ -1,5 +1,5 @@
 -- Definitions that claim a slot.
-use Rattle.std.proofs.Common.{◌≡◌, ◌∙◌, ℕ, List, [], Some, Result, Ok, Err, ap, refl, sym}
+use Rattle.std.proofs.Common.{◌≡◌, ◌∙◌, ℕ, List, [], Some, Ok, Err, ap, refl, sym}
 use Rattle.domain_requests.specs.Requests.{Fails}
 use Rattle.outcome_spec.specs.Shown.{text_shown}
 use Rattle.session_spec.specs.DefinitionText.{definition_in}
@@ -13,7 +13,7 @@ use Rattle.virt_types.specs.declared.memory.OrNoMemory.{OrNoMemory}
 use Rattle.virt_types.specs.declared.memory.OrNoMemory.TheVariants as or
 use Rattle.virt_types.specs.declared.refusal.Refusal.{Refusal}
 use Rattle.virt_types.specs.declared.refusal.RefusalCode.TheVariants as code
-use Rattle.request_asks.specs.Claims.{ClaimsItsOwn, IsClaimed, IsClaimedBy}
+use Rattle.request_asks.specs.Claims.{IsClaimed, IsClaimedBy}
 use Rattle.request_asks.specs.declared.claiming.Claimed.{Claimed}
 
 -- the name stays where a definition is filled in

@@ -1,5 +1,5 @@
 -- What comes of an image that was read for a restore.
-use Rattle.std.proofs.Common.{◌≡◌, ◌∙◌, ◌⊎◌, ◌++◌, ℕ, List, [], ◌∷◌, true, None, Some, Result, Ok, Err, ap, inl, inr, refl, subst, sym}
+use Rattle.std.proofs.Common.{◌≡◌, ◌∙◌, ◌++◌, ℕ, List, [], ◌∷◌, true, None, Some, Result, Ok, Err, ap, inl, inr, refl, subst, sym}
 use Rattle.domain_requests.specs.Requests.{IsUnnamed}
 use Rattle.def_keeper.specs.Chapters.{by}
 use Rattle.def_keeper.specs.declared.mark.StoreBase.{StoreBase}
@@ -8,12 +8,11 @@ use Rattle.def_keeper.specs.declared.mark.StoreAction.TheVariants as action
 use Rattle.def_keeper.specs.declared.mark.StoreMark.{StoreMark}
 use Rattle.files_disk.specs.Telling.{Told}
 use Rattle.history_spec.specs.Chapter.{tagged}
-use Rattle.outcome_spec.specs.Histories.{front_of}
 use Rattle.outcome_spec.specs.Marks.{HasLeft, StandsAt}
 use Rattle.outcome_spec.specs.Restored.{IsNotRestored, IsWhy}
 use Rattle.outcome_spec.specs.Rows.{Known, KnownRow}
 use Rattle.outcome_spec.specs.Shown.{name_shown}
-use Rattle.store_asks.specs.Restoring.{IsToldOf, as_read, saved_in, unread}
+use Rattle.store_asks.specs.Restoring.{IsToldOf, as_read}
 use Rattle.store_asks.specs.Turning.{EndsIn, HasReadSaved, ReadTells, StorePass}
 use Rattle.store_asks.specs.declared.restoring.SavedGuest.{SavedGuest}
 use Rattle.store_spec.specs.declared.image.Image.{Image}
@@ -23,9 +22,7 @@ use Rattle.virt_types.specs.declared.caller.Front.{Front}
 use Rattle.virt_types.specs.declared.memory.OrNoMemory.{OrNoMemory}
 use Rattle.virt_types.specs.declared.memory.OrNoMemory.TheVariants as or
 use Rattle.virt_types.specs.declared.refusal.Refusal.{Refusal}
-use Rattle.virt_types.specs.declared.refusal.RefusalCode.TheVariants as code
 use Rattle.virt_types.specs.declared.request.Request.TheVariants as request
-use Rattle.session_spec.specs.Refused.{refusal}
 use Rattle.request_asks.specs.Found.{IsFound, IsHeard, RestoreLeaves}
 use Rattle.request_asks.specs.Passes.{known}
 use Rattle.request_asks.specs.Said.{refused_by}

@@ -1,5 +1,5 @@
 -- What is found out by what a request says alone.
-use Rattle.std.proofs.Common.{◌≡◌, ◌∙◌, ℕ, ℤ, ◌++◌, List, [], Bool, true, false, Option, None, Some, Result, Ok, Err, ap, codes, decimal, inl, inr, refl, subst, sym}
+use Rattle.std.proofs.Common.{◌≡◌, ◌∙◌, ℕ, ℤ, ◌++◌, List, [], true, false, Option, None, Some, Ok, Err, ap, codes, decimal, inl, inr, refl, subst, sym}
 use Rattle.std.specs.Prelude.{IfSome, int_lt, pos}
 use Rattle.std.specs.Fmt.{signed_decimal}
 use Rattle.domain_requests.specs.Requests.{Fails, IsTaskOf, parsed_as, passed_one}

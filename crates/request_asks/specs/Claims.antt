@@ -1,5 +1,5 @@
 -- Definitions that claim a slot. No public clause cites these.
-use Rattle.std.specs.Prelude.{◌≡◌, ℕ, List, [], None, Some, Result, Ok, Err}
+use Rattle.std.specs.Prelude.{◌≡◌, ℕ, List, [], Some, Result, Ok, Err}
 use Rattle.outcome_spec.specs.Asked.{claim_of}
 use Rattle.outcome_spec.specs.Shown.{text_shown}
 use Rattle.session_spec.specs.DefinitionText.{definition_in}

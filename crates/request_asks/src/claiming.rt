@@ -10,14 +10,14 @@ use domain_texts::read_domain;
 use slot_holds::Hold;
 use std::alloc::Global;
 use virt_types::{
-    DomainDef, NoMemory, OrNoMemory, Random, Refusal, RefusalCode, Text, TryCopy, Uuid,
+    Boxed, DomainDef, NoMemory, OrNoMemory, Random, Refusal, RefusalCode, Text, TryCopy, Uuid, both,
 };
 
 /// A definition that lacks nothing, and the claim of the slot of its domain.
 #[derive(Drop)]
 pub(crate) struct Claimed {
     pub(crate) hold: Hold,
-    pub(crate) definition: DomainDef,
+    pub(crate) definition: Boxed<DomainDef>,
 }
 
 // The identifier of a domain of this definition.
@@ -30,8 +30,8 @@ fn identifier(definition: &DomainDef) -> Uuid
     }
 }
 
-/// Fills in what a definition lacks, and claims its slot. The name is copied first, so that no words are drawn where there
-/// is no memory for it.
+/// Fills in what a definition lacks, and claims its slot. The name is copied and the definition boxed first, so that no
+/// words are drawn where there is no memory for them.
 pub(crate) fn claim<R: Random>(
     alloc: Global,
     read: DomainDef,
@@ -39,15 +39,13 @@ pub(crate) fn claim<R: Random>(
 ) -> Result<Claimed, NoMemory>
     ensures { IsMadeOfDrawn (λ words. IsClaimed words read result) (R.drawn random.old) (R.drawn random.new) }
 {
-    let name = match read.name.copy() {
-        Ok(name) => name,
-        Err(NoMemory) => {
-            drop(read);
-            return Err(NoMemory);
-        }
+    let name = read.name.copy();
+    let (name, mut definition) = match both(name, Boxed::new(alloc, read)) {
+        Ok(made) => made,
+        Err(NoMemory) => return Err(NoMemory),
     };
-    let definition = fill_domain(alloc, read, random);
-    let uuid = identifier(&definition);
+    fill_domain(alloc, definition.as_mut(), random);
+    let uuid = identifier(definition.as_ref());
     Ok(Claimed {
         hold: Hold::Claim { name, uuid },
         definition,

@@ -10,7 +10,7 @@ use crate::claiming::{Claimed, claim_text};
 use crate::refusing::refuse_number;
 use domain_requests::Task;
 use std::alloc::Global;
-use virt_types::{Bytes, Call, NoMemory, Random, Text, TryCopy};
+use virt_types::{Boxed, Bytes, Call, NoMemory, Random, Text};
 
 /// DOMAIN_DEFINE_XML.
 pub(crate) fn define<R: Random>(alloc: Global, xml: &Text, random: &mut R) -> Asked
@@ -68,7 +68,7 @@ fn prepare_counted<R: Random>(
     requires { passed_one running ≡ None }
     ensures { IsMadeOfDrawn (λ words. IsSaid words (request.MigratePrepare xml.now running state.now) result) (R.drawn random.old) (R.drawn random.new) }
 {
-    let saved = match state.copy() {
+    let saved = match Boxed::copy_of(alloc, state) {
         Ok(saved) => saved,
         Err(NoMemory) => return Asked::NoMemory,
     };

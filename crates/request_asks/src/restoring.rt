@@ -16,7 +16,7 @@ use std::alloc::Global;
 use std::sync::Wait;
 use store_asks::{SavedGuest, SavedRead, read_saved_in};
 use turn_cell::TurnCell;
-use virt_types::{Call, Front, Name, NoMemory, OrNoMemory, Random, Text};
+use virt_types::{Boxed, Call, Front, Name, NoMemory, OrNoMemory, Random, Text};
 
 /// How far the history has come in a turn.
 fn front_in<F: Files, K: Opening>(turn: &mut KeeperTurn<F, K>) -> Front
@@ -57,6 +57,13 @@ fn restore_guest<R: Random>(alloc: Global, guest: SavedGuest, random: &mut R) ->
     ensures { IsMadeOfDrawn (λ words. IsRestoredGuest words guest result) (R.drawn random.old) (R.drawn random.new) }
 {
     let (read, running, saved) = guest.into_parts();
+    let saved = match Boxed::new(alloc, saved) {
+        Ok(saved) => saved,
+        Err(NoMemory) => {
+            drop(read);
+            return Asked::NoMemory;
+        }
+    };
     match claim(alloc, read, random) {
         Ok(claimed) => {
             let Claimed { hold, definition } = claimed;

@@ -70,7 +70,8 @@ pub fn has_shape(value: &Value, shape: ResultShape) -> bool
             shape == ResultShape::Titles
                 && (is_short_list(rows.len()) && are_short_titles(rows.as_slice()))
         }
-        Value::MigratedText(guest) => shape == ResultShape::Migrated && is_short_guest(guest),
+        Value::MigratedText(guest) => shape == ResultShape::Migrated
+            && is_short_guest(guest.as_ref()),
         _ => false,
     }
 }

@@ -54,8 +54,8 @@ module _ {F : Type 0} (disk : F → Told) (faults : F → ℕ) where
   keeper_says number (ask.Put d on) old new a it (inl (r, changed, is)) = says_so a (change_answer r) is (change_says r)
   keeper_says number (ask.Put d on) old new a it (inr none) = says_so a answer.NoMemory none.0 (refl, refl)
   keeper_says number (ask.Drop uuid) old new a it (r, changed, is) = says_so a (change_answer r) is (change_says r)
-  keeper_says number (ask.WriteImage n k d running bytes) old new a it (inl (r, written, is)) = says_so a (image_answer r) is (image_says r)
-  keeper_says number (ask.WriteImage n k d running bytes) old new a it (inr none) = says_so a answer.NoMemory none.0 (refl, refl)
+  keeper_says number (ask.WriteImage n k running d bytes) old new a it (inl (r, written, is)) = says_so a (image_answer r) is (image_says r)
+  keeper_says number (ask.WriteImage n k running d bytes) old new a it (inr none) = says_so a answer.NoMemory none.0 (refl, refl)
   keeper_says number (ask.Lease network mac) old new a it (is, same) = says_so a (answer.Refused no_network) is (refl, refl)
   keeper_says number (ask.Command c) old new a it answered = absurd it
   keeper_says number (ask.Make d boot) old new a it answered = absurd it
@@ -68,7 +68,7 @@ module _ {F : Type 0} (disk : F → Told) (faults : F → ℕ) where
 pub is_answered : {F : Type 0} (disk : F → Told) (faults : F → ℕ) (number : ℕ) (q : Ask) (old new : Keeping F) → IsForStore q → KeeperAnswers disk faults number q old new None → ⊥
 is_answered disk faults number (ask.Put d on) old new it answered = answered
 is_answered disk faults number (ask.Drop uuid) old new it answered = answered
-is_answered disk faults number (ask.WriteImage n k d running bytes) old new it answered = answered
+is_answered disk faults number (ask.WriteImage n k running d bytes) old new it answered = answered
 is_answered disk faults number (ask.Lease network mac) old new it answered = answered
 is_answered disk faults number (ask.Command c) old new it answered = it
 is_answered disk faults number (ask.Make d boot) old new it answered = it
@@ -186,8 +186,8 @@ module _ {M E Z G F : Type 0} (ends faults : M → ℕ) (exchanges : M → Optio
   fits (ask.Drop uuid) (Some m) after old new from to a link h = store_says disk counts (ask.Drop uuid) from to a tt h.store
   fits (ask.Lease network mac) None after old new from to a link h = store_says disk counts (ask.Lease network mac) from to a tt h.store
   fits (ask.Lease network mac) (Some m) after old new from to a link h = store_says disk counts (ask.Lease network mac) from to a tt h.store
-  fits (ask.WriteImage n k d running bytes) None after old new from to a link h = store_says disk counts (ask.WriteImage n k d running bytes) from to a tt h.store
-  fits (ask.WriteImage n k d running bytes) (Some m) after old new from to a link h = store_says disk counts (ask.WriteImage n k d running bytes) from to a tt h.store
+  fits (ask.WriteImage n k running d bytes) None after old new from to a link h = store_says disk counts (ask.WriteImage n k running d bytes) from to a tt h.store
+  fits (ask.WriteImage n k running d bytes) (Some m) after old new from to a link h = store_says disk counts (ask.WriteImage n k running d bytes) from to a tt h.store
 
   pub linked : (q : Ask) (before after : Option M) (old new : G) (from to : StorePass) (a : Answer) (link : Option (Link M E Z)) → Does q before after old new from to a link → is_some link ≡ comes q (is_ok_answer a)
   linked (ask.Make d boot) before after old new from to a link h =
@@ -196,7 +196,7 @@ module _ {M E Z G F : Type 0} (ends faults : M → ℕ) (exchanges : M → Optio
   linked (ask.Put d on) before after old new from to a link h = ap is_some h.maker.1
   linked (ask.Drop uuid) before after old new from to a link h = ap is_some h.maker.1
   linked (ask.Lease network mac) before after old new from to a link h = ap is_some h.maker.1
-  linked (ask.WriteImage n k d running bytes) before after old new from to a link h = ap is_some h.maker.1
+  linked (ask.WriteImage n k running d bytes) before after old new from to a link h = ap is_some h.maker.1
 
   pub monitor_stays : (q : Ask) (before after : Option M) (old new : G) (from to : StorePass) (a : Answer) (link : Option (Link M E Z)) → Does q before after old new from to a link → is_some after ≡ is_some before
   monitor_stays (ask.Command c) before after old new from to a link h = sent_stays ends faults exchanges c before after a h.guest
@@ -204,7 +204,7 @@ module _ {M E Z G F : Type 0} (ends faults : M → ℕ) (exchanges : M → Optio
   monitor_stays (ask.Put d on) before after old new from to a link h = ap is_some h.guest
   monitor_stays (ask.Drop uuid) before after old new from to a link h = ap is_some h.guest
   monitor_stays (ask.Lease network mac) before after old new from to a link h = ap is_some h.guest
-  monitor_stays (ask.WriteImage n k d running bytes) before after old new from to a link h = ap is_some h.guest
+  monitor_stays (ask.WriteImage n k running d bytes) before after old new from to a link h = ap is_some h.guest
 
   make_counted : (after : Option M) (before : Option M) (a : Answer) (r : Result (Link M E Z) Fault) → after ≡ before → a ≡ made_answer (is_some before) r → IsCounted ends faults after a
   make_counted None before a r same is = tt
@@ -218,7 +218,7 @@ module _ {M E Z G F : Type 0} (ends faults : M → ℕ) (exchanges : M → Optio
   counted (ask.Put d on) before after old new from to a link h = store_counted ends faults after a (store_says disk counts (ask.Put d on) from to a tt h.store)
   counted (ask.Drop uuid) before after old new from to a link h = store_counted ends faults after a (store_says disk counts (ask.Drop uuid) from to a tt h.store)
   counted (ask.Lease network mac) before after old new from to a link h = store_counted ends faults after a (store_says disk counts (ask.Lease network mac) from to a tt h.store)
-  counted (ask.WriteImage n k d running bytes) before after old new from to a link h = store_counted ends faults after a (store_says disk counts (ask.WriteImage n k d running bytes) from to a tt h.store)
+  counted (ask.WriteImage n k running d bytes) before after old new from to a link h = store_counted ends faults after a (store_says disk counts (ask.WriteImage n k running d bytes) from to a tt h.store)
 
   -- it is tied to the store as it was
   pub serves : (q : Ask) (before after : Option M) (old new : G) (from to : StorePass) (a : Answer) (link : Option (Link M E Z)) (report : List (Ask × Answer)) (first : StorePass)
@@ -228,7 +228,7 @@ module _ {M E Z G F : Type 0} (ends faults : M → ℕ) (exchanges : M → Optio
   serves (ask.Put d on) before after old new from to a link report first h s = serves_store disk counts (ask.Put d on) a report first from to tt s h.store
   serves (ask.Drop uuid) before after old new from to a link report first h s = serves_store disk counts (ask.Drop uuid) a report first from to tt s h.store
   serves (ask.Lease network mac) before after old new from to a link report first h s = serves_store disk counts (ask.Lease network mac) a report first from to tt s h.store
-  serves (ask.WriteImage n k d running bytes) before after old new from to a link report first h s = serves_store disk counts (ask.WriteImage n k d running bytes) a report first from to tt s h.store
+  serves (ask.WriteImage n k running d bytes) before after old new from to a link report first h s = serves_store disk counts (ask.WriteImage n k running d bytes) a report first from to tt s h.store
 
   -- and to the maker
   pub makes : (q : Ask) (before after : Option M) (old new : G) (from to : StorePass) (a : Answer) (link : Option (Link M E Z)) (report : List (Ask × Answer)) (first : ℕ)
@@ -244,8 +244,8 @@ module _ {M E Z G F : Type 0} (ends faults : M → ℕ) (exchanges : M → Optio
       makes_on (ask.Drop uuid) a report first (unmade_count old) (unmade_count new) s (same_count unmade_count old new h.maker.0) (λ x n e lost. cc)
   makes (ask.Lease network mac) before after old new from to a link report first h s =
       makes_on (ask.Lease network mac) a report first (unmade_count old) (unmade_count new) s (same_count unmade_count old new h.maker.0) (λ x n e lost. cc)
-  makes (ask.WriteImage n k d running bytes) before after old new from to a link report first h s =
-      makes_on (ask.WriteImage n k d running bytes) a report first (unmade_count old) (unmade_count new) s (same_count unmade_count old new h.maker.0) (λ x n e lost. cc)
+  makes (ask.WriteImage n k running d bytes) before after old new from to a link report first h s =
+      makes_on (ask.WriteImage n k running d bytes) a report first (unmade_count old) (unmade_count new) s (same_count unmade_count old new h.maker.0) (λ x n e lost. cc)
 
   -- so is the report with this ask
   pub keeps : (q : Ask) (before after : Option M) (old new : G) (from to : StorePass) (a : Answer) (link : Option (Link M E Z)) (report now : List (Ask × Answer)) (first : StorePass) (count : ℕ)

@@ -14,7 +14,7 @@ use Rattle.store_asks.specs.Told.{IsActionOf}
 abbrev pub is_stored : Ask → Bool
 is_stored (ask.Put d autostart) = true
 is_stored (ask.Drop uuid) = true
-is_stored (ask.WriteImage name kind d running bytes) = true
+is_stored (ask.WriteImage name kind running d bytes) = true
 is_stored other = false
 
 -- the asks of the store among these, with their answers

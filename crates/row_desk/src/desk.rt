@@ -54,7 +54,12 @@ fn ask_whom<'a, R: Wait, G: Maker, F: Files + Drop, K: Opening>(
 {
     match asked {
         Ask::Command(command) => (send(monitor, command), None),
-        Ask::Make { definition, boot } => make(guests, monitor.is_some(), definition, *boot),
+        Ask::Make { definition, boot } => make(
+            guests,
+            monitor.is_some(),
+            definition.as_ref(),
+            *boot,
+        ),
         Ask::Put { .. } | Ask::Drop(_) | Ask::Lease { .. } | Ask::WriteImage { .. } => {
             (store.ask(asked), None)
         }

@@ -23,8 +23,8 @@ saved_in (Some loaded) = loaded.saved
 
 -- the ask that writes what was taken; only a save and a dump write
 abbrev pub written : Live → Op → Call → List Answer → Ask
-written l op (call.Save name) answers = ask.WriteImage name image.Save l.def op.was_running (copied_bytes (first_value answers))
-written l op (call.Dump name) answers = ask.WriteImage name image.Dump l.def op.was_running (copied_bytes (first_value answers))
+written l op (call.Save name) answers = ask.WriteImage name image.Save op.was_running l.def (copied_bytes (first_value answers))
+written l op (call.Dump name) answers = ask.WriteImage name image.Dump op.was_running l.def (copied_bytes (first_value answers))
 written l op other answers = ask.Command command.CopyTake
 
 -- the ask that a step makes

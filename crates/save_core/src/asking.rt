@@ -15,17 +15,19 @@ use core_rules::{Next, carries_ended, first_value, place_after};
 use domain_spec::OpenOperation;
 use std::alloc::Global;
 use virt_types::{
-    Answer, AnswerValue, Ask, Bytes, Call, Command, Domain, ImageKind, Live, MOST_STATE_BYTES,
-    Name, NoMemory, Op, State, TryCopy, both,
+    Answer, AnswerValue, Ask, Boxed, Bytes, Call, Command, Domain, ImageKind, Live,
+    MOST_STATE_BYTES, Name, NoMemory, Op, State, TryCopy, both,
 };
 
 // The state that a copy has handed over. Bytes above 4,096, or none, are no state.
-fn copied_bytes(alloc: Global, value: Option<&AnswerValue>) -> Result<Bytes, NoMemory>
+fn copied_bytes(alloc: Global, value: Option<&AnswerValue>) -> Result<Boxed<Bytes>, NoMemory>
     ensures { IfOk result (λ bytes. bytes ≡ copied_bytes (option_map (λ v. v.now) value.entry)) }
 {
     match value {
-        Some(AnswerValue::Bytes(bytes)) if bytes.len() <= MOST_STATE_BYTES => bytes.copy(),
-        _ => Bytes::copy_of(alloc, [].as_slice()),
+        Some(AnswerValue::Bytes(bytes)) if bytes.len() <= MOST_STATE_BYTES => {
+            Boxed::copy_of(alloc, bytes)
+        }
+        _ => Boxed::new(alloc, Bytes::copy_of(alloc, [].as_slice())?),
     }
 }
 
@@ -47,11 +49,14 @@ fn image(
     op: &Op,
     answers: &[Answer],
 ) -> Result<Ask, NoMemory>
-    ensures { IfOk result (λ a. a ≡ ask.WriteImage name.now kind live.now.def op.now.was_running (copied_bytes (first_value answers.now))) }
+    ensures { IfOk result (λ a. a ≡ ask.WriteImage name.now kind op.now.was_running live.now.def (copied_bytes (first_value answers.now))) }
 {
     let (name, (definition, bytes)) = both(
-        name.copy(),
-        both(live.def.copy(), copied_bytes(alloc, first_value(answers))),
+        Boxed::copy_of(alloc, name),
+        both(
+            Boxed::copy_of(alloc, &live.def),
+            copied_bytes(alloc, first_value(answers)),
+        ),
     )?;
     Ok(Ask::WriteImage {
         name,

@@ -42,9 +42,9 @@ pub fn loaded_of<'a>(domain: &'a Domain, call: &'a Call) -> Option<LoadedFrom<'a
             running,
             saved,
         } => Some(LoadedFrom {
-            definition,
+            definition: definition.as_ref(),
             ran: *running,
-            saved,
+            saved: saved.as_ref(),
         }),
         Call::Revert(name) => match domain.snaps.find(name) {
             None => None,

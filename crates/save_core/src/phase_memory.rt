@@ -15,7 +15,7 @@ use core_rules::{CallEnd, KeptText, PhaseTexts, reference_of, slots_at_start};
 use domain_spec::OpenOperation;
 use std::alloc::Global;
 use virt_types::{
-    Call, Domain, Live, Name, NoMemory, Op, Phase, Reply, State, TryCopy, Value, both,
+    Boxed, Call, Domain, Live, Name, NoMemory, Op, Phase, Reply, State, TryCopy, Value, both,
 };
 
 /// All memory that the due phase of an operation needs from its first ask on.
@@ -185,20 +185,25 @@ fn loaded_guest(
     }
 }
 
-fn start_value(domain: &Domain, call: &Call) -> Result<Value, NoMemory>
+fn start_value(alloc: Global, domain: &Domain, call: &Call) -> Result<Value, NoMemory>
     ensures { IfOk result (λ value. value ≡ start_value domain.now call.now) }
 {
     match call {
-        Call::Create(_) | Call::Prepare { .. } => Ok(Value::Domain(reference_of(domain)?)),
+        Call::Create(_) | Call::Prepare { .. } => {
+            Ok(Value::Domain(Boxed::new(alloc, reference_of(domain)?)?))
+        }
         _ => Ok(Value::Nothing),
     }
 }
 
 // What the call is told whose guest came, twice.
-fn start_told(domain: &Domain, call: &Call) -> Result<CallEnd, NoMemory>
+fn start_told(alloc: Global, domain: &Domain, call: &Call) -> Result<CallEnd, NoMemory>
     ensures { IfOk result (λ told. Says told (reply.Ok (start_value domain.now call.now))) }
 {
-    let (one, other) = both(start_value(domain, call), start_value(domain, call))?;
+    let (one, other) = both(
+        start_value(alloc, domain, call),
+        start_value(alloc, domain, call),
+    )?;
     Ok(CallEnd {
         reply: Reply::Ok(one),
         in_mark: Reply::Ok(other),
@@ -260,7 +265,7 @@ fn guest_parts(
     match needed_by(op.phase) {
         Needed::Nothing => {}
         Needed::Guest => parts.guest = loaded_guest(alloc, domain, op, call)?,
-        Needed::Told => parts.told = start_told(domain, call)?,
+        Needed::Told => parts.told = start_told(alloc, domain, call)?,
         Needed::Room => parts.leaving = Some(LeavingRoom::new(alloc, &live.def)?),
     }
     Ok(parts)

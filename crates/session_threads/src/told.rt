@@ -10,7 +10,7 @@ use virt_types::{NoMemory, Value};
 fn done(alloc: Global, asked: Asked, payload: &[u8]) -> Result<String, NoMemory> {
     match &read_reply(alloc, &request(alloc, asked)?, payload) {
         Ok(Value::Info(info)) => {
-            let state = info.state.number();
+            let state = info.as_ref().state.number();
             Ok(format!(in alloc; "Ok, state {state}")?)
         }
         Ok(_) => Ok(String::from_str(alloc, "Ok")?),

@@ -1,5 +1,5 @@
 -- The phases of this part, among all phases.
-use Rattle.std.proofs.Common.{◌≡◌, ◌∙◌, ◌++◌, List, [], Option, None, Some, IfSome, IsSome, false, if◌then◌else◌, refl, sym, ap}
+use Rattle.std.proofs.Common.{◌≡◌, ◌∙◌, ◌++◌, List, [], Option, None, Some, IfSome, IsSome, false, if◌then◌else◌, refl, subst, sym, ap}
 use Rattle.domain_spec.specs.Types.{Answer, Call, Domain, Live, Op, Phase, SnapInfo, State}
 use Rattle.domain_spec.specs.Types.call
 use Rattle.domain_spec.specs.Types.command
@@ -7,7 +7,7 @@ use Rattle.domain_spec.specs.Types.phase
 use Rattle.domain_spec.specs.Types.reply
 use Rattle.domain_spec.specs.Types.state
 use Rattle.domain_spec.specs.declared.open.OpenOperation.{OpenOperation}
-use Rattle.domain_spec.specs.declared.step.Outcome.{Outcome}
+use Rattle.domain_spec.specs.declared.step.PhaseStep.{PhaseStep}
 use Rattle.domain_spec.specs.Asks.{asks_left, undone_by}
 use Rattle.domain_spec.specs.Call.{tell, tell_if}
 use Rattle.domain_spec.specs.CopyResult.{over}
@@ -66,13 +66,13 @@ phase_is_take phase.MigrateBack c e s = cc
 phase_is_take phase.MigrateRun c e s = cc
 phase_is_take phase.MigrateDrop c e s = cc
 
--- a phase that asks something, of a call for a snapshot
+-- what the phase that takes a snapshot leaves, a phase leaves that asks something, of a call for a snapshot
 pub taken_on :
-    (d : Domain) (op : Option Op) (info : SnapInfo) (answers : List Answer) (mark : Outcome) → IsSome op → is_nothing op ≡ false → core_on op (call.Snapshot info) ≡ core.Snapshot
-    → IfSome op (λ o. mark ≡ (take_done d d.live o info answers).outcome) → mark ≡ (done_on d op (call.Snapshot info) answers).outcome
-taken_on d None info answers mark there busy part h = cc
-taken_on d (Some op) info answers mark there busy part h =
-    h ∙ ap (λ step. step.outcome) (sym (done_take d d.live op info answers (phase_is_take op.phase (call.Snapshot info) busy part)))
+    (d : Domain) (op : Option Op) (info : SnapInfo) (answers : List Answer) (P : PhaseStep → Type 0) → IsSome op → is_nothing op ≡ false → core_on op (call.Snapshot info) ≡ core.Snapshot
+    → IfSome op (λ o. P (take_done d d.live o info answers)) → P (done_on d op (call.Snapshot info) answers)
+taken_on d None info answers P there busy part h = absurd (cc)
+taken_on d (Some op) info answers P there busy part h =
+    subst P (sym (done_take d d.live op info answers (phase_is_take op.phase (call.Snapshot info) busy part))) h
 
 copy_taken : (l : Live) (op : Op) (c : Call) (answers : List Answer) → core_of_take c ≡ core.Snapshot → take_asks l op c answers ≡ tell command.CopyTake ++ tell_if (resumes l op) command.Cont
 copy_taken l op (call.Snapshot info) answers e = refl

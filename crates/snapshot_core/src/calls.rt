@@ -42,7 +42,7 @@ fn deletion_for(alloc: Global, state: &State, call: &Call) -> Result<Option<Dele
         (State::Held(domain), Call::SnapDelete { name, children }) => Ok(Some(Deletion::new(
             alloc,
             &domain.snaps,
-            name,
+            name.as_ref(),
             *children,
         )?)),
         _ => Ok(None),
@@ -132,12 +132,14 @@ fn finish_held(
     let Parts { texts, deletion } = parts;
     match call {
         Call::SnapDelete { name, children } => match deletion {
-            Some(deletion) => finish_deletion(domain, name, *children, answers, texts, deletion),
+            Some(deletion) => {
+                finish_deletion(domain, name.as_ref(), *children, answers, texts, deletion)
+            }
             None => unreachable!(),
         },
         Call::Snapshot(info) => {
             drop(deletion);
-            finish_snapshot(domain, info, answers, texts)
+            finish_snapshot(domain, info.as_ref(), answers, texts)
         }
         Call::Revert(name) => {
             drop(deletion);

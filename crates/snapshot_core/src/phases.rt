@@ -195,9 +195,14 @@ fn finish_done(
     }
     drop(current);
     match call {
-        Call::Snapshot(info) => {
-            finish_take(domain, info, answers, taking, texts.into_texts(), into)
-        }
+        Call::Snapshot(info) => finish_take(
+            domain,
+            info.as_ref(),
+            answers,
+            taking,
+            texts.into_texts(),
+            into,
+        ),
         _ => unreachable!(),
     }
 }

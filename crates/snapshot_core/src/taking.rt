@@ -138,7 +138,7 @@ pub(crate) fn taking_for(
     ensures { IfOk result (λ taking. FitsTaking taking domain.now call.now) }
 {
     match call {
-        Call::Snapshot(info) => taken(alloc, domain, info),
+        Call::Snapshot(info) => taken(alloc, domain, info.as_ref()),
         _ => Ok(None),
     }
 }

@@ -194,7 +194,7 @@ module _ {F : Type 0} (told : F → Told) (faults : F → ℕ) where
   }
 
   left_image : (number : ℕ) (name : List ℕ) (k : ImageKind) (d : DomainDef) (running : Bool) (bytes : List ℕ) (old new : Keeping F) (r : Result (Unit {0}) Fault)
-      → IsWritten told faults number name (image_of k d running bytes) old new r → Left number (ask.WriteImage name k d running bytes) old new (Some (image_answer r))
+      → IsWritten told faults number name (image_of k d running bytes) old new r → Left number (ask.WriteImage name k running d bytes) old new (Some (image_answer r))
   left_image number name k d running bytes old new (Ok done) written = record {
     more = by number (action.ImageWritten name (image_of k d running bytes) (Ok tt)) ∷ [];
     changes = same_chapter told number _ old new (refl, tt) written.marks;
@@ -220,10 +220,10 @@ module _ {F : Type 0} (told : F → Told) (faults : F → ℕ) where
   left_by_ask number (ask.Put d autostart) old new None it = absurd it
   left_by_ask number (ask.Drop uuid) old new (Some a) it = left_drop number uuid old new a it
   left_by_ask number (ask.Drop uuid) old new None it = absurd it
-  left_by_ask number (ask.WriteImage name k d running bytes) old new (Some a) (inl (r, written, is)) =
-      subst (λ (x : Answer). Left number (ask.WriteImage name k d running bytes) old new (Some x)) (sym is) (left_image number name k d running bytes old new r written)
-  left_by_ask number (ask.WriteImage name k d running bytes) old new (Some a) (inr none) = left_none number _ old new a none
-  left_by_ask number (ask.WriteImage name k d running bytes) old new None it = absurd it
+  left_by_ask number (ask.WriteImage name k running d bytes) old new (Some a) (inl (r, written, is)) =
+      subst (λ (x : Answer). Left number (ask.WriteImage name k running d bytes) old new (Some x)) (sym is) (left_image number name k d running bytes old new r written)
+  left_by_ask number (ask.WriteImage name k running d bytes) old new (Some a) (inr none) = left_none number _ old new a none
+  left_by_ask number (ask.WriteImage name k running d bytes) old new None it = absurd it
   left_by_ask number (ask.Lease network mac) old new (Some a) (is, same) = record {
     more = [];
     changes = nothing_changes (meaning told) number old new same;

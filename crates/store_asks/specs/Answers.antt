@@ -28,7 +28,7 @@ module _ {F : Type 0} (told : F → Told) (faults : F → ℕ) where
   abbrev pub HasAnswered : ℕ → Ask → Keeping F → Keeping F → Option Answer → Type 0
   HasAnswered number (ask.Put d autostart) old new (Some a) = Changes number (put_of d autostart) old new a ⊎ HasNone old new a
   HasAnswered number (ask.Drop uuid) old new (Some a) = Changes number (drop_of uuid) old new a
-  HasAnswered number (ask.WriteImage name k d running bytes) old new (Some a) =
+  HasAnswered number (ask.WriteImage name k running d bytes) old new (Some a) =
       ((r : Result (Unit {0}) Fault) × IsWritten told faults number name (image_of k d running bytes) old new r × (a ≡ image_answer r))
       ⊎ HasNone old new a
   HasAnswered number (ask.Lease network mac) old new (Some a) = (a ≡ answer.Refused no_network) × (new ≡ old)

@@ -46,7 +46,7 @@ told_image (Err failed) = answer.Device
 abbrev pub IsActionOf : Ask → Front → Answer → StoreAction → Type 0
 IsActionOf (ask.Put d autostart) front a (action.Changed c r moment) = (c ≡ put_of d autostart) × (a ≡ told_change front r)
 IsActionOf (ask.Drop uuid) front a (action.Changed c r moment) = (c ≡ drop_of uuid) × (a ≡ told_change front r)
-IsActionOf (ask.WriteImage name k d running bytes) front a (action.ImageWritten n i r) =
+IsActionOf (ask.WriteImage name k running d bytes) front a (action.ImageWritten n i r) =
     (n ≡ name) × (i ≡ image_of k d running bytes) × (a ≡ told_image r)
 IsActionOf other front a d = ⊥
 

@@ -42,7 +42,7 @@ pub fn answer_in<F: Files, K: Opening>(
         Ask::Put {
             definition,
             autostart,
-        } => match put_of(alloc, definition, *autostart) {
+        } => match put_of(alloc, definition.as_ref(), *autostart) {
             Ok(change) => Some(make(turn, change)),
             Err(NoMemory) => Some(Answer::NoMemory),
         },
@@ -59,8 +59,8 @@ pub fn answer_in<F: Files, K: Opening>(
             definition,
             running,
             bytes,
-        } => match image_of(alloc, *kind, definition, *running, bytes) {
-            Ok(image) => Some(image_answer(write_image_in(turn, name, &image))),
+        } => match image_of(alloc, *kind, definition.as_ref(), *running, bytes.as_ref()) {
+            Ok(image) => Some(image_answer(write_image_in(turn, name.as_ref(), &image))),
             Err(NoMemory) => Some(Answer::NoMemory),
         },
         Ask::Lease { .. } => Some(lease_answer()),

@@ -12,8 +12,8 @@ use std::test::Fail;
 use store_asks::{ask_store, read_saved};
 use turn_cell::TurnCell;
 use virt_types::{
-    Answer, AnswerValue, Ask, Bytes, Command, DomainDef, ImageKind, Mac, Name, NoMemory,
-    OrNoMemory, Refusal, Text, TryCopy,
+    Answer, AnswerValue, Ask, Boxed, Bytes, Command, DomainDef, ImageKind, Mac, Name, NoMemory,
+    OrNoMemory, Refusal, Text,
 };
 
 const TEXT: &str =
@@ -32,7 +32,7 @@ fn definition(alloc: Global, last: u8) -> Result<DomainDef, NoMemory> {
 
 fn put(alloc: Global, last: u8) -> Result<Ask, NoMemory> {
     Ok(Ask::Put {
-        definition: definition(alloc, last)?,
+        definition: Boxed::new(alloc, definition(alloc, last)?)?,
         autostart: true,
     })
 }
@@ -155,11 +155,11 @@ fn a_save_is_read_back_and_a_dump_is_none(rt: HostRuntime) -> Result<(), Fail> {
     let called = name(alloc, "s")?;
     let (pass, absent) = read(&rt, alloc, &cell, pass, &called).ok_or("no answer")?;
     let save = Ask::WriteImage {
-        name: called.copy()?,
+        name: Boxed::copy_of(alloc, &called)?,
         kind: ImageKind::Save,
-        definition: definition(alloc, 1)?,
+        definition: Boxed::new(alloc, definition(alloc, 1)?)?,
         running: true,
-        bytes: Bytes::copy_of(alloc, b"\x01\xff".as_slice())?,
+        bytes: Boxed::new(alloc, Bytes::copy_of(alloc, b"\x01\xff".as_slice())?)?,
     };
     let (pass, written) = ask(&rt, alloc, &cell, pass, &save).ok_or("no ticket")?;
     let (pass, saved) = read(&rt, alloc, &cell, pass, &called).ok_or("no answer")?;

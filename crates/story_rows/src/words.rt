@@ -21,7 +21,7 @@ fn put_refusal(row: &mut Row, refusal: &Refusal) {
 /// A reply: `Ok`, what was read of the state, or the number of the refusal with what it is about.
 pub fn put_reply(row: &mut Row, reply: &Reply) {
     match reply {
-        Reply::Ok(Value::Info(info)) => put_info(row, info),
+        Reply::Ok(Value::Info(info)) => put_info(row, info.as_ref()),
         Reply::Ok(_) => row.put("Ok"),
         Reply::No(refusal) => put_refusal(row, refusal),
     }

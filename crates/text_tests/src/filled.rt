@@ -59,18 +59,18 @@ const FILLED: &str = "<domain type='qemu'>
 
 fn filled(alloc: Global, text: &str, first: u64) -> Option<Text> {
     let tree = read_tree(alloc, text.as_bytes()).ok()?;
-    let def = domain_xml::read(alloc, &tree).ok()?;
+    let mut def = domain_xml::read(alloc, &tree).ok()?;
     let mut random = Rising { next: first };
-    let full = domain_xml::fill_domain(alloc, def, &mut random);
-    domain_xml::print_domain(alloc, &full).ok()
+    domain_xml::fill_domain(alloc, &mut def, &mut random);
+    domain_xml::print_domain(alloc, &def).ok()
 }
 
 fn device_filled(alloc: Global, text: &str, first: u64) -> Option<Text> {
     let tree = read_tree(alloc, text.as_bytes()).ok()?;
-    let device = device_xml::read(alloc, &tree).ok()?;
+    let mut device = device_xml::read(alloc, &tree).ok()?;
     let mut random = Rising { next: first };
-    let full = device_xml::fill_device(device, &mut random);
-    device_xml::print_device(alloc, &full).ok()
+    device_xml::fill_device(&mut device, &mut random);
+    device_xml::print_device(alloc, &device).ok()
 }
 
 // The third word ends in ff:ff:ff, which the second interface has; the fourth in 00:00:00, which the

@@ -3,6 +3,7 @@ ghost use Rattle.std.specs.Prelude.{◌≡◌, ◌≢◌, IfNone, IfSome};
 ghost use Rattle.virt_types.specs.declared.ask.ImageKind.{ImageKind as TheImageKind};
 ghost use Rattle.virt_types.specs.Numbers.{image_number};
 
+use crate::boxed::Boxed;
 use crate::bytes::Bytes;
 use crate::copy::{TryCopy, both};
 use crate::device_def::DeviceDef;
@@ -38,14 +39,14 @@ pub enum Command {
         /// The device's slot.
         slot: u32,
         /// The device.
-        device: DeviceDef,
+        device: Boxed<DeviceDef>,
     },
     /// Get the guest's side of a device.
     AddDevice {
         /// The device's slot.
         slot: u32,
         /// The device.
-        device: DeviceDef,
+        device: Boxed<DeviceDef>,
     },
     /// Lose the guest's side of the device at this slot.
     RemoveDevice(u32),
@@ -151,21 +152,22 @@ impl ImageKind {
     }
 }
 
-/// What a call asks: a command of the guest's monitor, or one of the five asks of the desk.
+/// What a call asks: a command of the guest's monitor, or one of the five asks of the desk. What is
+/// large is boxed, so that an ask takes 40 bytes.
 pub enum Ask {
     /// This command to the guest's monitor.
     Command(Command),
     /// Make a guest.
     Make {
         /// Of this definition.
-        definition: DomainDef,
+        definition: Boxed<DomainDef>,
         /// The number of its boot.
         boot: u64,
     },
     /// Store a definition.
     Put {
         /// Which one.
-        definition: DomainDef,
+        definition: Boxed<DomainDef>,
         /// Whether the daemon starts the domain when it starts itself.
         autostart: bool,
     },
@@ -181,15 +183,15 @@ pub enum Ask {
     /// Write a guest's state to a file.
     WriteImage {
         /// The name of the file, without its ending.
-        name: Name,
+        name: Boxed<Name>,
         /// What the image holds.
         kind: ImageKind,
-        /// The definition of the guest.
-        definition: DomainDef,
         /// Whether the guest ran.
         running: bool,
+        /// The definition of the guest.
+        definition: Boxed<DomainDef>,
         /// The state of the guest.
-        bytes: Bytes,
+        bytes: Boxed<Bytes>,
     },
 }
 

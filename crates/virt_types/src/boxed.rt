@@ -41,6 +41,26 @@ impl<T> Boxed<T> {
         })
     }
 
+    /// A copy of this value, in a box.
+    pub fn copy_of(alloc: Global, value: &T) -> Result<Boxed<T>, NoMemory>
+    where
+        T: TryCopy + Drop,
+        ensures { IfOk result (λ boxed. boxed ≡ value.now) }
+    {
+        Boxed::new(alloc, value.copy()?)
+    }
+
+    /// The box with this value in place of its own. It takes no memory.
+    pub fn with(self, value: T) -> Boxed<T>
+    where
+        T: Drop,
+        ensures { result ≡ value }
+    {
+        let mut boxed = self;
+        *boxed.as_mut() = value;
+        boxed
+    }
+
     /// The value without its box.
     pub fn into_inner(self) -> T
         ensures { result ≡ self }
@@ -67,6 +87,6 @@ impl<T> Boxed<T> {
 
 impl<T: TryCopy + Drop> TryCopy for Boxed<T> {
     fn copy(&self) -> Result<Boxed<T>, NoMemory> {
-        Boxed::new(*Box::allocator(&self.value), self.value.copy()?)
+        Boxed::copy_of(*Box::allocator(&self.value), self.as_ref())
     }
 }

@@ -1,4 +1,5 @@
 // What is asked of a domain's cell: calls, which leave marks, and queries, which read.
+use crate::boxed::Boxed;
 use crate::bytes::Bytes;
 use crate::copy::{TryCopy, both};
 use crate::device_def::DeviceDef;
@@ -8,7 +9,7 @@ use crate::memory::NoMemory;
 use crate::name::Name;
 
 /// A call on a domain's cell. The last nine begin an operation, and `Confirm` and `Finish` take up one
-/// that rests.
+/// that rests. What is large is boxed, so that a call takes 32 bytes.
 pub enum Call {
     /// The guest is to pause.
     Suspend,
@@ -21,7 +22,7 @@ pub enum Call {
     /// The guest is ended at once.
     Destroy,
     /// This becomes the stored definition.
-    Define(DomainDef),
+    Define(Boxed<DomainDef>),
     /// The stored definition is removed.
     Undefine,
     /// Whether the daemon starts the domain when it starts itself.
@@ -31,9 +32,9 @@ pub enum Call {
     /// The processors that the guest has.
     SetVcpus(u32),
     /// The guest gets this device.
-    Attach(DeviceDef),
+    Attach(Boxed<DeviceDef>),
     /// The guest loses the device with the key of this one: a disk's target, an interface's MAC.
-    Detach(DeviceDef),
+    Detach(Boxed<DeviceDef>),
     /// How much memory the guest has.
     MemoryStats,
     /// The guest does something of its own: 1 shuts down, 2 panics, 3 crashes, 4 stops, 5 goes on.
@@ -43,7 +44,7 @@ pub enum Call {
     /// A snapshot is removed.
     SnapDelete {
         /// Which one.
-        name: Name,
+        name: Boxed<Name>,
         /// Whether its children go with it. Else they take its parent.
         children: bool,
     },
@@ -56,22 +57,22 @@ pub enum Call {
     /// A guest is started of the stored definition.
     Start,
     /// A guest is started of this definition, in a vacant cell.
-    Create(DomainDef),
+    Create(Boxed<DomainDef>),
     /// A guest is started from a saved state.
     Restore {
         /// The definition that the guest had.
-        definition: DomainDef,
+        definition: Boxed<DomainDef>,
         /// Whether the guest ran.
         running: bool,
         /// The state of the guest.
-        saved: Bytes,
+        saved: Boxed<Bytes>,
     },
     /// The guest's state is saved under this name, and the guest ends.
     Save(Name),
     /// The guest's state is written under this name.
     Dump(Name),
     /// A snapshot is taken.
-    Snapshot(SnapInfo),
+    Snapshot(Boxed<SnapInfo>),
     /// The snapshot of this name is gone back to.
     Revert(Name),
     /// The guest is made ready to go on at another host, and rests.
@@ -79,11 +80,11 @@ pub enum Call {
     /// A guest of another host is made here, and rests.
     Prepare {
         /// The definition that the guest had there.
-        definition: DomainDef,
+        definition: Boxed<DomainDef>,
         /// Whether the guest ran.
         running: bool,
         /// The state of the guest.
-        saved: Bytes,
+        saved: Boxed<Bytes>,
     },
 }
 

@@ -131,6 +131,12 @@ pub struct DomainInfo {
     pub vcpus: u32,
 }
 
+impl TryCopy for DomainInfo {
+    fn copy(&self) -> Result<DomainInfo, NoMemory> {
+        Ok(*self)
+    }
+}
+
 /// The operation that is under way on a domain.
 #[derive(Clone, Copy, Debug, PartialEq, Eq)]
 pub struct JobInfo {
@@ -204,22 +210,22 @@ impl TryCopy for MigratedText {
 
 /// What a call or a query that was done gives. The last five are what calls and queries read of a
 /// domain's cell, of which the driver makes rows and texts; no reply on the wire has them. What is
-/// large is boxed, so that a value takes 64 bytes.
+/// large is boxed, so that a value takes 32 bytes.
 pub enum Value {
     /// Nothing.
     Nothing,
     /// A domain.
-    Domain(DomainRef),
+    Domain(Boxed<DomainRef>),
     /// A network.
-    Network(NetworkRef),
+    Network(Boxed<NetworkRef>),
     /// A pool.
-    Pool(PoolRef),
+    Pool(Boxed<PoolRef>),
     /// The text of a definition.
     Text(Text),
     /// Whether the daemon starts it when it starts itself.
     Autostart(bool),
     /// What a domain has.
-    Info(DomainInfo),
+    Info(Boxed<DomainInfo>),
     /// Names, by rising name.
     Names(NameList),
     /// All domains.
@@ -231,7 +237,7 @@ pub enum Value {
     /// The name of a snapshot or volume that was made.
     Name(Name),
     /// The parent of a snapshot.
-    Parent(Option<Name>),
+    Parent(Boxed<Option<Name>>),
     /// How much memory a guest has, in KiB.
     Memory(u64),
     /// The leases of a network, by rising address.
@@ -239,9 +245,9 @@ pub enum Value {
     /// All domains with their titles, by rising name.
     Titles(TitleRowList),
     /// A guest that leaves for another host.
-    MigratedText(MigratedText),
+    MigratedText(Boxed<MigratedText>),
     /// How the wire refers to a domain, and its state.
-    Reference(DomainRow),
+    Reference(Boxed<DomainRow>),
     /// A definition.
     Definition(Boxed<DomainDef>),
     /// The live part of a domain.
@@ -290,7 +296,7 @@ impl TryCopy for Value {
             Value::Pool(it) => Value::Pool(it.copy()?),
             Value::Text(it) => Value::Text(it.copy()?),
             Value::Autostart(it) => Value::Autostart(*it),
-            Value::Info(it) => Value::Info(*it),
+            Value::Info(it) => Value::Info(it.copy()?),
             Value::Names(it) => Value::Names(it.copy()?),
             Value::Domains(it) => Value::Domains(it.copy()?),
             Value::Pools(it) => Value::Pools(it.copy()?),

@@ -115,17 +115,18 @@ fn status(alloc: Global) -> Result<Status, NoMemory> {
 fn prepare(alloc: Global) -> Result<Call, NoMemory> {
     let (definition, saved) = both(definition(alloc), bytes(alloc))?;
     Ok(Call::Prepare {
-        definition,
+        definition: Boxed::new(alloc, definition)?,
         running: true,
-        saved,
+        saved: Boxed::new(alloc, saved)?,
     })
 }
 
-fn info(alloc: Global) -> Result<SnapInfo, NoMemory> {
-    Ok(SnapInfo {
+fn info(alloc: Global) -> Result<Boxed<SnapInfo>, NoMemory> {
+    let info = SnapInfo {
         name: Some(name(alloc)?),
         description: Some(text(alloc)?),
-    })
+    };
+    Boxed::new(alloc, info)
 }
 
 fn lease(alloc: Global) -> Result<Ask, NoMemory> {
@@ -158,15 +159,16 @@ fn on_domain(alloc: Global) -> Result<Request, NoMemory> {
     })
 }
 
-fn row(alloc: Global) -> Result<DomainRow, NoMemory> {
-    Ok(DomainRow {
+fn row(alloc: Global) -> Result<Boxed<DomainRow>, NoMemory> {
+    let row = DomainRow {
         domain: DomainRef {
             name: name(alloc)?,
             uuid: uuid(),
             id: -1,
         },
         state: DomainState::ShutOff,
-    })
+    };
+    Boxed::new(alloc, row)
 }
 
 fn titles(alloc: Global) -> Result<Value, NoMemory> {
@@ -177,12 +179,13 @@ fn titles(alloc: Global) -> Result<Value, NoMemory> {
     Ok(Value::Titles(list(alloc, row)?))
 }
 
-fn migrated(alloc: Global) -> Result<MigratedText, NoMemory> {
-    Ok(MigratedText {
+fn migrated(alloc: Global) -> Result<Boxed<MigratedText>, NoMemory> {
+    let guest = MigratedText {
         definition: text(alloc)?,
         running: true,
         state: bytes(alloc)?,
-    })
+    };
+    Boxed::new(alloc, guest)
 }
 
 fn lost(alloc: Global) -> Result<Note, NoMemory> {

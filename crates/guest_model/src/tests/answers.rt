@@ -1,16 +1,19 @@
 use super::fixtures::{Said, assert_says, guest};
+use std::alloc::Global;
 use std::test::Fail;
 use virt_types::{
-    Bytes, Command, DeviceDef, EndReason, Interface, InterfaceType, ScriptAct, ScriptEntry,
+    Boxed, Bytes, Command, DeviceDef, EndReason, Interface, InterfaceType, NoMemory, ScriptAct,
+    ScriptEntry,
 };
 
-fn interface() -> DeviceDef {
-    DeviceDef::Interface(Interface {
+fn interface(alloc: Global) -> Result<Boxed<DeviceDef>, NoMemory> {
+    let interface = Interface {
         kind: InterfaceType::Bridge,
         mac: None,
         source: None,
         model: None,
-    })
+    };
+    Boxed::new(alloc, DeviceDef::Interface(interface))
 }
 
 fn at(boot: u64, command: u64, act: ScriptAct) -> ScriptEntry {
@@ -33,14 +36,14 @@ fn a_guest_without_a_script_obeys(rt: HostRuntime) -> Result<(), Fail> {
         (
             Command::AddBackend {
                 slot: 2,
-                device: interface(),
+                device: interface(rt.alloc())?,
             },
             Said::Done,
         ),
         (
             Command::AddDevice {
                 slot: 2,
-                device: interface(),
+                device: interface(rt.alloc())?,
             },
             Said::Done,
         ),

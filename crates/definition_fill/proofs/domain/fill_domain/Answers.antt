@@ -15,11 +15,11 @@ returns g c =
     let macs = c.fill_macs.ensures in
     let old = c.into_vec-interfaces.result in
     let new = c.fill_macs.new.interfaces in
-    let before : c.as_mut_slice.result.now ≡ c.args.def.interfaces = cc in
+    let before : c.as_mut_slice.result.now ≡ c.args.def.now.interfaces = cc in
     let after : c.of.result ≡ new =
     c.of.ensures ∙ all_kept old.len new (drop (length new) old.items) (c.fill_macs.auto.interfaces ∙ c.as_mut_slice.ensures.len) in
-    let filled : AreMacsFilled macs.0 [] c.args.def.interfaces c.of.result =
-    subst (AreMacsFilled macs.0 [] c.args.def.interfaces) (sym after)
+    let filled : AreMacsFilled macs.0 [] c.args.def.now.interfaces c.of.result =
+    subst (AreMacsFilled macs.0 [] c.args.def.now.interfaces) (sym after)
     (subst (λ is. AreMacsFilled macs.0 [] is new) before macs.1) in (
       uuid.0 ++ macs.0,
       record { for_uuid = uuid.0; for_macs = macs.0; uuid = uuid.1; macs = filled; others = refl; order = refl },

@@ -1,11 +1,6 @@
-use Rattle.std.proofs.Common.{ℕ, List, ap, subst, sym, ◌∙◌}
-use Rattle.domain_requests.specs.Requests.{Fails}
+use Rattle.std.proofs.Common.{ap, sym, ◌∙◌}
 use Rattle.session_spec.specs.DefinitionText.{definition_in}
-use Rattle.session_spec.specs.Refused.{refusal}
-use Rattle.virt_types.specs.declared.refusal.RefusalCode.TheVariants as code
-use Rattle.request_asks.specs.Claims.{IsClaimedBy}
-use Rattle.request_asks.proofs.Drawn.{made_of_none}
-use Rattle.request_asks.proofs.OwnClaims.{claims_text, refuses_text}
+use Rattle.request_asks.proofs.OwnClaims.{claims_text}
 use Rattle.request_asks.proofs.claiming.claim_text.Goals as goal
 
 pub returns-in-Ok-claim : goal.returns-in-Ok-claim

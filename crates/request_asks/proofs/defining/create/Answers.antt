@@ -1,4 +1,4 @@
-use Rattle.std.proofs.Common.{ℤ, refl, subst, sym}
+use Rattle.std.proofs.Common.{refl, subst, sym}
 use Rattle.virt_types.specs.declared.request.Request.TheVariants as request
 use Rattle.request_asks.specs.Said.{IsSaid}
 use Rattle.request_asks.proofs.Saying.{said_create, text_refused}

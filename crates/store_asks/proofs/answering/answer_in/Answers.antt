@@ -9,7 +9,7 @@ pub returns-in-Ok-clause-told : goal.returns-in-Ok-clause-told
 returns-in-Ok-clause-told g c =
     subst (λ (q : Ask). Tells c.args.turn.now.pass.number q c.make.result c.make.new.turn.value.history) (sym c.in-Put.is)
     (put_tells c.args.turn.now.pass.number c.in-Put.definition c.in-Put.autostart c.make.result c.make.new.turn.value.history
-    (subst (λ (x : Change). ChangeTells c.args.turn.now.pass.number x c.make.result c.make.new.turn.value.history) c.in-Ok.ensures.change c.make.ensures.told))
+    (subst (λ (x : Change). ChangeTells c.args.turn.now.pass.number x c.make.result c.make.new.turn.value.history) (rw c.as_ref.ensures at c.in-Ok.ensures.change) c.make.ensures.told))
 
 pub returns-in-Drop-clause-told : goal.returns-in-Drop-clause-told
 returns-in-Drop-clause-told g c =
