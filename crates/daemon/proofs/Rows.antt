@@ -1,13 +1,13 @@
 -- The rows that a daemon closes its driver with are all of the driver's rows.
 use Rattle.std.proofs.Common.{◌≡◌, ◌∙◌, ◌+◌, ◌++◌, ◌≤◌, ◌^◌, ℕ, List, [], ◌∷◌, Option, arith, ap, length, length-append, map, subst, sym}
 use Rattle.std.specs.List.{All}
+use Rattle.std.proofs.lemmas.List.{nil_from_length}
 use Rattle.std.proofs.lemmas.List.Elements.{All-cons, All-nil}
-use Rattle.daemon.specs.Six.{all_six}
+use Rattle.six_rows.specs.Six.{all_six}
 use Rattle.daemon.proofs.Keeping.{keeps_itself}
 use Rattle.driver.specs.Cells.{BecomesMany, DriverView, IsRowOf}
 use Rattle.driver_close.specs.Closed.{IsWhole}
-use Rattle.driver_close.specs.OfOpening.{HasCells}
-use Rattle.driver_close.proofs.Fresh.{one_row_is_whole}
+use Rattle.driver_close.proofs.OneRow.{one_still_whole}
 use Rattle.driver_close.proofs.Parts.{split_whole, still_whole}
 use Rattle.files_disk.specs.Telling.{Told}
 use Rattle.held_tasks.specs.OfRows.{DriverRow, IsReadyRow, KeepsParts, parts_of}
@@ -16,18 +16,8 @@ use Rattle.pass_rows.specs.Cutting.{cell_of}
 use Rattle.pass_rows.specs.Rows.{HasRowParts, KeepsPasses}
 use Rattle.row_session.specs.declared.connection.SixRows.{SixRows}
 use Rattle.virt_types.specs.Limits.{most_domains}
-use Rattle.virt_types.specs.declared.request.Request.{Request}
-use Rattle.virt_types.specs.declared.status.Status.{Status}
 
 module _ {G : Type 0} where
-  -- the row of the first passes
-  pub opened_whole : {F : Type 0} (told : F → Told) (files : F) (row : DriverRow G) (starts : List Request) (statuses : List (Option Status)) → HasCells told files row starts statuses → IsWhole (row ∷ [])
-  opened_whole told files row starts statuses cells = one_row_is_whole told cells.domains cells.kept row cells.first
-
-  -- a row that keeps its parts
-  pub one_still_whole : (row now : DriverRow G) → KeepsParts row now → IsWhole (row ∷ []) → IsWhole (now ∷ [])
-  one_still_whole row now keeps whole = still_whole (row ∷ []) (now ∷ []) (keeps, tt) whole
-
   -- what a daemon keeps of its row, it keeps where the row called the driver
   pub stands_still : {P Q : Type 0} (d : DriverView) (row now : DriverRow G) → IsRowOf d row × IsReadyRow row × IsWhole (row ∷ []) × P × Q → KeepsParts row now → IsRowOf d now → IsReadyRow now → IsRowOf d now × IsReadyRow now × IsWhole (now ∷ []) × P × Q
   stands_still d row now (was_own, was_ready, whole, empty, room) keeps own ready = (own, ready, one_still_whole row now keeps whole, empty, room)
@@ -64,6 +54,19 @@ module _ {G : Type 0} where
   pub put_back : (six now : SixRows (DriverRow G)) (then : List (DriverRow G)) → now ≡ record six { fifth = now.fifth } → then ≡ all_six now → then ≡ all_six (record six { fifth = now.fifth })
   put_back six now then others put = put ∙ ap (λ (s : SixRows (DriverRow G)). all_six s) others
 
+  -- the last six rows are all where there are six
+  none_left : (rows left : List (DriverRow G)) (six : SixRows (DriverRow G)) → length rows ≡ 6 → rows ≡ left ++ all_six six → left ≡ []
+  none_left rows left six long is =
+      let taken = ap length is ∙ length-append left (all_six six) in
+      nil_from_length left (omega (arith, long, taken))
+
+  pub six_are_all : (rows left : List (DriverRow G)) (six : SixRows (DriverRow G)) → length rows ≡ 6 → rows ≡ left ++ all_six six → rows ≡ all_six six
+  six_are_all rows left six long is = is ∙ ap (λ (l : List (DriverRow G)). l ++ all_six six) (none_left rows left six long is)
+
+  -- and so are those that are put back
+  pub six_put_back : (rows left then : List (DriverRow G)) (six now : SixRows (DriverRow G)) → length rows ≡ 6 → rows ≡ left ++ all_six six → then ≡ left ++ all_six now → then ≡ all_six now
+  six_put_back rows left then six now long is put = put ∙ ap (λ (l : List (DriverRow G)). l ++ all_six now) (none_left rows left six long is)
+
   -- what holds of six rows holds of them once the fifth is another of which it holds
   six_all : (P : DriverRow G → Type 0) (six : SixRows (DriverRow G)) (now : DriverRow G) → All P (all_six six) → P now → All P (all_six (record six { fifth = now }))
   six_all P six now all new =
@@ -85,11 +88,7 @@ module _ {G : Type 0} where
       subst (λ (l : List (DriverRow G)). All P l) (sym put) (six_all P six fifth (subst (λ (l : List (DriverRow G)). All P l) taken all) new)
 
   module _ {F : Type 0} (told : F → Told) (maker : G → ℕ) (row : DriverRow G) (rows : List (DriverRow G)) (many : BecomesMany told maker 6 row rows) where
-    -- six rows are made
-    pub six_long : length rows ≡ 6
-    six_long = ap length many.is_split.rows_are ∙ length-append many.is_split.new _ ∙ many.is_split.count_is
-
-    -- and they are all rows, also where the fifth called the driver
+    -- the six that were made are all rows, also where the fifth called the driver
     pub put_back_whole : (then : List (DriverRow G)) (six : SixRows (DriverRow G)) (fifth : DriverRow G) → rows ≡ all_six six → then ≡ all_six (record six { fifth = fifth })
         → KeepsParts six.fifth fifth → HasRowParts 6 row → length row.domains ≡ most_domains → IsWhole (row ∷ []) → IsWhole then
     put_back_whole then six fifth taken put keeps has slots whole =

@@ -2,7 +2,7 @@
 use Rattle.std.proofs.Common.{◌≡◌, ℕ, List, [], ◌∷◌, Option, inl, inr, refl, subst}
 use Rattle.daemon.specs.Closing.{IsEndedWith}
 use Rattle.daemon.specs.Serving.{HasServedOne, Reported}
-use Rattle.daemon.specs.Six.{all_six}
+use Rattle.six_rows.specs.Six.{all_six}
 use Rattle.daemon.specs.declared.closing.Closed.{Closed}
 use Rattle.driver.specs.Cells.{BecomesMany}
 use Rattle.driver_service.specs.Calling.{HasCalledDriver}

@@ -1,7 +1,7 @@
 -- One connection of a daemon.
 use Rattle.std.specs.Prelude.{◌≡◌, ◌⊎◌, ℕ, List, [], ◌∷◌, Option}
 use Rattle.daemon.specs.Closing.{IsEndedWith}
-use Rattle.daemon.specs.Six.{all_six}
+use Rattle.six_rows.specs.Six.{all_six}
 use Rattle.daemon.specs.declared.closing.Closed.{Closed}
 use Rattle.driver.specs.Cells.{BecomesMany}
 use Rattle.driver_service.specs.Calling.{HasCalledDriver}

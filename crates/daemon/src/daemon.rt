@@ -10,7 +10,6 @@ ghost use Rattle.service_spec.specs.Activities.{hand};
 ghost use Rattle.session_spec.specs.Course.{IsServedWhole, IsWhole};
 
 use crate::closing::{Closed, close};
-use crate::six::{put_six, take_six};
 use crate::starting::{Outcomes, make_all, room_for};
 use def_keeper::Opening;
 use driver::{Driver, RowList};
@@ -22,6 +21,7 @@ use monitor_link::Guests;
 use packet::{Sink, Source};
 use pass_rows::RowListOf;
 use row_session::{End, serve};
+use six_rows::{put_six, take_six};
 use std::alloc::Global;
 use std::marker::Model;
 use std::sync::Wait;

@@ -4,7 +4,6 @@
 
 mod closing;
 mod daemon;
-mod six;
 mod starting;
 
 pub use closing::Closed;

@@ -2,6 +2,5 @@ pub mod Crossing
 pub mod Ended
 pub mod Keeping
 pub mod Rows
-pub mod Taken
 pub mod Turning
 pub mod Whole

@@ -5,7 +5,7 @@ use Rattle.std.specs.List.{All, AllZip}
 use Rattle.driver.specs.Cells.{DriverView, IsRowOf}
 use Rattle.driver_sessions.proofs.Keeping.{keeps_itself, session_keeps}
 use Rattle.driver_sessions.specs.Serving.{IsServed, MayServe}
-use Rattle.driver_sessions.specs.Six.{all_six}
+use Rattle.six_rows.specs.Six.{all_six}
 use Rattle.driver_sessions.specs.Seats.{Seat, rows_of}
 use Rattle.driver_sessions.specs.declared.session.Served.{Served}
 use Rattle.driver_sessions.specs.declared.session.Session.{Session}

@@ -1,5 +1,4 @@
 pub mod OfDrivers
-pub mod Six
 pub mod Turned
 pub mod Seats
 pub mod Serving

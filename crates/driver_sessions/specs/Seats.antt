@@ -1,6 +1,6 @@
 -- Those who have six rows of a driver each.
 use Rattle.std.specs.Prelude.{List, [], ◌∷◌}
-use Rattle.driver_sessions.specs.Six.{all_six}
+use Rattle.six_rows.specs.Six.{all_six}
 use Rattle.driver_sessions.specs.Turned.{turned}
 use Rattle.held_tasks.specs.OfRows.{DriverRow}
 use Rattle.row_session.specs.declared.connection.SixRows.{SixRows}

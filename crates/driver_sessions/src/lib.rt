@@ -5,7 +5,6 @@ mod closing;
 mod seats;
 mod serving;
 mod session;
-mod six;
 
 pub use closing::{Left, serve_and_close};
 pub use driver::Driver;

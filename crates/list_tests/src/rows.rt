@@ -4,7 +4,7 @@ ghost use Rattle.pass_rows.specs.Resting.{IsIdle};
 ghost use Rattle.list_tests.specs.Still.{meaning};
 
 use crate::still::Still;
-use pass_rows::{PassState, Passes, RestingPass, RowListOf, RowOf, RowsOf};
+use pass_rows::{PassState, Passes, RestingPass, RowListOf, RowOf};
 use std::alloc::Global;
 use std::test::Fail;
 use turn_cell::TurnCell;
@@ -40,26 +40,12 @@ fn seven_rows(alloc: Global) -> Option<TestRows> {
 }
 
 #[test]
-fn six_rows_are_taken_and_put_back(rt: HostRuntime) -> Result<(), Fail> {
+fn rows_that_rest_are_idle(rt: HostRuntime) -> Result<(), Fail> {
     let mut rows = seven_rows(rt.alloc()).ok_or("memory")?;
-    assert!(rt; rows.len() == 7);
-    let Some(six) = RowsOf::of(&mut rows) else {
-        return Err("none".into());
-    };
-    assert!(rt; rows.len() == 1);
-    six.put_back(&mut rows);
     assert!(rt; rows.len() == 7);
     assert!(rt; rows.is_idle());
-    Ok(())
-}
-
-#[test]
-fn of_five_rows_no_six_are_taken(rt: HostRuntime) -> Result<(), Fail> {
-    let mut rows = seven_rows(rt.alloc()).ok_or("memory")?;
     assert!(rt; rows.pop().is_some());
-    assert!(rt; rows.pop().is_some());
-    assert!(rt; RowsOf::of(&mut rows).is_none());
-    assert!(rt; rows.len() == 5);
+    assert!(rt; rows.len() == 6);
     Ok(())
 }
 

@@ -2,6 +2,5 @@ pub mod Resting
 pub mod Cutting
 pub mod Others
 pub mod Rows
-pub mod Six
 pub mod Joining
 pub mod Closing

@@ -8,7 +8,6 @@ mod passes;
 mod resting;
 mod row;
 mod row_list;
-mod six_rows;
 mod splitting;
 
 pub use laws::{all_close, parts_add_up, rows_gather};
@@ -16,4 +15,3 @@ pub use passes::{OtherPasses, Passes};
 pub use resting::{PassState, RestingPass};
 pub use row::RowOf;
 pub use row_list::RowListOf;
-pub use six_rows::RowsOf;

@@ -1,5 +1,5 @@
 use Rattle.std.proofs.Common.{[], ◌∷◌, ◌∙◌, ap, arith, length, length-append}
-use Rattle.driver_sessions.specs.Six.{all_six}
+use Rattle.six_rows.specs.Six.{all_six}
 use Rattle.driver_sessions.proofs.Turning.{one_gets}
 use Rattle.driver_sessions.proofs.seats.seat_all.Goals as goal
 

@@ -1,5 +1,5 @@
 use Rattle.std.proofs.Common.{[], ◌∷◌, arith}
-use Rattle.driver_sessions.specs.Six.{all_six}
+use Rattle.six_rows.specs.Six.{all_six}
 use Rattle.driver_sessions.specs.Seats.{holders_of, rows_of}
 use Rattle.driver_sessions.proofs.Turning.{one_gives}
 use Rattle.driver_sessions.proofs.seats.unseat_all.Goals as goal

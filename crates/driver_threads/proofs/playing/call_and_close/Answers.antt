@@ -1,7 +1,9 @@
 use Rattle.std.proofs.Common.{ℕ, arith, subst}
 use Rattle.driver.specs.Cells.{BecomesMany}
 use Rattle.std.proofs.lemmas.Option.{IfSome_then}
-use Rattle.driver_threads.proofs.Whole.{back_own, back_some, back_whole, made_some, made_whole, may_call, whole_has}
+use Rattle.driver_threads.proofs.Whole.{back_own, back_some, back_whole, may_call}
+use Rattle.driver_close.proofs.OneRow.{many_some, many_whole, whole_has}
+use Rattle.held_tasks.specs.declared.counting.CountingMaker.{CountingMaker}
 use Rattle.driver_threads.proofs.playing.call_and_close.Goals as goal
 
 pub more-requires-clause-parts : goal.more-requires-clause-parts
@@ -11,7 +13,7 @@ pub act_by-requires-after_bounds : goal.act_by-requires-after_bounds
 act_by-requires-after_bounds g c κs within = may_call c.args.driver c.in-Ok.rows.list c.in-Ok.ensures.own c.in-Ok.ensures.ready
 
 pub close_all-requires-clause-some : goal.close_all-requires-clause-some
-close_all-requires-clause-some g c κs within = back_some c.args.driver c.in-Ok.rows.list c.in_ok-rows-in-Ok.rows.list c.in_ok-rows-in-Ok.ensures (made_some g.F.Files.told (λ maker. g.G.Guests.faults maker.guests) _ c.args.row c.in-Ok.rows.list c.in-Ok.ensures.ok)
+close_all-requires-clause-some g c κs within = back_some c.args.driver c.in-Ok.rows.list c.in_ok-rows-in-Ok.rows.list c.in_ok-rows-in-Ok.ensures (many_some g.F.Files.told (λ (m : CountingMaker _). g.G.Guests.faults m.maker.guests) _ c.args.row c.in-Ok.rows.list c.in-Ok.ensures.ok)
 
 pub close_all-requires-clause-own : goal.close_all-requires-clause-own
 close_all-requires-clause-own g c κs within = back_own c.args.driver c.in-Ok.rows.list c.in_ok-rows-in-Ok.rows.list c.in_ok-rows-in-Ok.ensures
@@ -19,7 +21,7 @@ close_all-requires-clause-own g c κs within = back_own c.args.driver c.in-Ok.ro
 pub close_all-requires-clause-whole : goal.close_all-requires-clause-whole
 close_all-requires-clause-whole g c κs within =
     back_whole c.args.driver c.in-Ok.rows.list c.in_ok-rows-in-Ok.rows.list c.in_ok-rows-in-Ok.ensures
-    (made_whole g.F.Files.told (λ maker. g.G.Guests.faults maker.guests) _ c.args.row c.in-Ok.rows.list (omega (arith, c.if-count-gt-MOST.false)) c.requires.may_call.ready.slots c.requires.whole c.in-Ok.ensures.ok)
+    (many_whole g.F.Files.told (λ (m : CountingMaker _). g.G.Guests.faults m.maker.guests) _ c.args.row c.in-Ok.rows.list c.in-Ok.ensures.ok (omega (arith, c.if-count-gt-MOST.false)) c.requires.may_call.ready.slots c.requires.whole)
 
 pub returns-in_ok-rows-in-Ok : goal.returns-in_ok-rows-in-Ok
 returns-in_ok-rows-in-Ok g c =

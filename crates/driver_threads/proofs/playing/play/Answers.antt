@@ -1,5 +1,6 @@
 use Rattle.std.proofs.lemmas.Option.{IfSome_then}
-use Rattle.driver_threads.proofs.Whole.{comes_whole, opened_whole}
+use Rattle.driver_close.proofs.OneRow.{opened_whole}
+use Rattle.driver_threads.proofs.Whole.{comes_whole}
 use Rattle.driver_threads.proofs.playing.play.Goals as goal
 
 pub call_and_close-requires-clause-whole : goal.call_and_close-requires-clause-whole

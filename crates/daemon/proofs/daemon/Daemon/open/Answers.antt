@@ -1,4 +1,4 @@
-use Rattle.daemon.proofs.Rows.{opened_whole}
+use Rattle.driver_close.proofs.OneRow.{opened_whole}
 use Rattle.daemon.proofs.daemon.Daemon.open.Goals as goal
 
 pub invariant_of-result : goal.invariant_of-result

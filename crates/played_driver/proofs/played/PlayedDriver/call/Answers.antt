@@ -1,7 +1,7 @@
 use Rattle.std.proofs.Common.{subst}
 use Rattle.held_tasks.specs.OfOutcomes.{HasOutcome}
 use Rattle.held_tasks.specs.OfRows.{known_row}
-use Rattle.played_driver.proofs.Alone.{one_still_whole}
+use Rattle.driver_close.proofs.OneRow.{one_still_whole}
 use Rattle.played_driver.specs.Played.{PlayedView}
 use Rattle.played_driver.proofs.played.PlayedDriver.call.Goals as goal
 

@@ -1,4 +1,4 @@
-use Rattle.played_driver.proofs.Alone.{opened_whole}
+use Rattle.driver_close.proofs.OneRow.{opened_whole}
 use Rattle.played_driver.proofs.played.PlayedDriver.open.Goals as goal
 
 pub invariant_of-result : goal.invariant_of-result

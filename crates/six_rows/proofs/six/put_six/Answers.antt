@@ -1,5 +1,5 @@
-use Rattle.driver_sessions.proofs.Taken.{six_put}
-use Rattle.driver_sessions.proofs.six.put_six.Goals as goal
+use Rattle.six_rows.proofs.Taken.{six_put}
+use Rattle.six_rows.proofs.six.put_six.Goals as goal
 
 pub returns-clause-list : goal.returns-clause-list
 returns-clause-list g c =

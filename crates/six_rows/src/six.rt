@@ -1,13 +1,13 @@
-// Six rows of a list.
+// Six rows of a list, as many as one session takes.
 ghost use Rattle.std.specs.Prelude.{◌≡◌, ◌≤◌, ◌+◌, ◌++◌, length};
-ghost use Rattle.driver_sessions.specs.Six.{all_six};
+ghost use Rattle.six_rows.specs.Six.{all_six};
 
 use pass_rows::{RowListOf, RowOf};
 use row_session::SixRows;
 use turn_cell::Kept;
 
-/// Takes the last six rows.
-pub(crate) fn take_six<L: Kept, S: Kept, D: Kept, G>(
+/// Takes the last six rows of a list, in order. It then has room for six more.
+pub fn take_six<L: Kept, S: Kept, D: Kept, G>(
     rows: &mut RowListOf<L, S, D, G>,
 ) -> SixRows<RowOf<L, S, D, G>>
     requires { 6 ≤ length rows.old.list }
@@ -30,8 +30,8 @@ pub(crate) fn take_six<L: Kept, S: Kept, D: Kept, G>(
     }
 }
 
-/// Puts six rows after the others, into room that is there.
-pub(crate) fn put_six<L: Kept, S: Kept, D: Kept, G>(
+/// Puts six rows after the others, in order, into room that is there.
+pub fn put_six<L: Kept, S: Kept, D: Kept, G>(
     rows: &mut RowListOf<L, S, D, G>,
     six: SixRows<RowOf<L, S, D, G>>,
 )

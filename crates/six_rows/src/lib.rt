@@ -1,0 +1,6 @@
+//! Six rows of a list, as many as one session takes.
+#![tactic(auto)]
+
+mod six;
+
+pub use six::{put_six, take_six};
