@@ -1,7 +1,6 @@
 -- A task in a slot: what its parts need, and what they come to.
-use Rattle.std.proofs.Common.{◌≡◌, ◌<◌, ◌++◌, ℕ, List, ◌∷◌, false, length, map, get_or, Option, sym, ap, ◌∙◌, subst, arith}
+use Rattle.std.proofs.Common.{◌≡◌, ◌++◌, ℕ, List, ◌∷◌, false, length, map, get_or, Option, sym, ap, ◌∙◌, subst}
 use Rattle.std.specs.List.{All}
-use Rattle.std.proofs.lemmas.List.{length-map}
 use Rattle.atomic_table.specs.Seated.{TableId}
 use Rattle.driver_cells.specs.OfCells.{meaning, nothing_kept}
 use Rattle.driver_cells.specs.OfObjects.{DomainPass, Seen}
@@ -28,39 +27,16 @@ use Rattle.held_tasks.proofs.Lists.{one_of, value_in}
 abbrev pub row_with : {G : Type 0} → ListPassed → StorePass → List DomainPass → CountingMaker G → DriverRow G
 row_with list store domains guests = record { list = list; store = store; domains = domains; guests = guests }
 
-module _ {G : Type 0} (slot : ℕ) (list store : TableId) (cells : List TableId) (row : DriverRow G) (can : HoldsSlot slot list store cells row) (l : ListPassed) (s : StorePass) (domains : List DomainPass) (guests : CountingMaker G) (is : row ≡ row_with l s domains guests) where
-  pub slot_in : slot < length domains
-  slot_in = subst (λ (r : DriverRow G). slot < length r.domains) is can.within
+module _ {G : Type 0} (slot : ℕ) (list store : TableId) (cells : List TableId) (row : DriverRow G) (can : HoldsSlot slot list store cells row) (l : ListPassed) (s : StorePass) (domains : List DomainPass) (guests : CountingMaker G) (is : row ≡ row_with l s domains guests) (first : List DomainPass) (old : DomainPass) (rest : List DomainPass) (was : domains ≡ first ++ old ∷ rest) (at : length first ≡ slot) where
+  pub domain_idle : IsIdle meaning old
+  domain_idle =
+      let all : All (IsIdle meaning) domains = subst (λ (r : DriverRow G). All (IsIdle meaning) r.domains) is can.idle in
+      one_of (IsIdle meaning) first old rest (subst (λ (ps : List DomainPass). All (IsIdle meaning) ps) was all)
 
-  pub slot_in_cells : slot < length cells
-  slot_in_cells =
-      let same : length (map cell_of row.domains) ≡ length cells = ap (λ (c : List TableId). length c) can.own.domains_are in
-      let long = length-map row.domains cell_of in
-      let within = can.within in
-      omega (arith, same, long, within)
-
-  pub list_own : l.cell ≡ list
-  list_own = sym (ap (λ (r : DriverRow G). r.list.cell) is) ∙ can.own.list_is
-
-  pub list_fresh : l.spent ≡ false
-  list_fresh = sym (ap (λ (r : DriverRow G). r.list.spent) is) ∙ can.fresh
-
-  pub store_own : s.cell ≡ store
-  store_own = sym (ap (λ (r : DriverRow G). r.store.cell) is) ∙ can.own.store_is
-
-  pub store_fresh : s.spent ≡ false
-  store_fresh = sym (ap (λ (r : DriverRow G). r.store.spent) is) ∙ can.store_fresh
-
-  module _ (first : List DomainPass) (old : DomainPass) (rest : List DomainPass) (was : domains ≡ first ++ old ∷ rest) (at : length first ≡ slot) where
-    pub domain_idle : IsIdle meaning old
-    domain_idle =
-        let all : All (IsIdle meaning) domains = subst (λ (r : DriverRow G). All (IsIdle meaning) r.domains) is can.idle in
-        one_of (IsIdle meaning) first old rest (subst (λ (ps : List DomainPass). All (IsIdle meaning) ps) was all)
-
-    pub domain_own : (d : TableId) → d ≡ get_or cells slot d → old.cell ≡ d
-    domain_own d there =
-        let cells_are : map cell_of (first ++ old ∷ rest) ≡ cells = ap (λ (l : List DomainPass). map cell_of l) (sym was) ∙ (sym (ap (λ (r : DriverRow G). map cell_of r.domains) is) ∙ can.own.domains_are) in
-        value_in cell_of first old rest slot cells d at cells_are ∙ sym there
+  pub domain_own : (d : TableId) → d ≡ get_or cells slot d → old.cell ≡ d
+  domain_own d there =
+      let cells_are : map cell_of (first ++ old ∷ rest) ≡ cells = ap (λ (l : List DomainPass). map cell_of l) (sym was) ∙ (sym (ap (λ (r : DriverRow G). map cell_of r.domains) is) ∙ can.own.domains_are) in
+      value_in cell_of first old rest slot cells d at cells_are ∙ sym there
 
 -- what is known of the pass that is put back
 pub keeps_empty : (old new : DomainPass) → (new.spent ≡ false → new.share ≡ old.share) → old.share ≡ nothing_kept → new.spent ≡ false → new.share ≡ nothing_kept
