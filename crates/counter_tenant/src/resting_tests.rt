@@ -110,7 +110,7 @@ fn a_mark_of_another_thread_ends_a_rest(rt: HostRuntime) -> Result<(), Fail> {
 }
 
 #[test]
-fn turns_without_marks_end_no_rest(rt: HostRuntime) -> Result<(), Fail> {
+fn turns_without_marks_end_no_rest_and_it_ends_by_itself(rt: HostRuntime) -> Result<(), Fail> {
     let Ok((cell, pass)) = TurnCell::new_at(rt.alloc(), Counter::new(rt.alloc()), 0) else {
         return Err("memory".into());
     };
@@ -126,32 +126,6 @@ fn turns_without_marks_end_no_rest(rt: HostRuntime) -> Result<(), Fail> {
     );
     assert!(rt; looked.is_some());
     let (_, taken) = rested.ok_or("spent")?;
-    assert!(rt; taken.as_millis() >= WHOLE_REST);
-    Ok(())
-}
-
-#[test]
-fn a_rest_ends_by_itself(rt: HostRuntime) -> Result<(), Fail> {
-    let Ok((cell, pass)) = TurnCell::new_at(rt.alloc(), Counter::new(rt.alloc()), 0) else {
-        return Err("memory".into());
-    };
-    let (_, taken) = rest_after_a_look(&rt, &cell, pass).ok_or("spent")?;
     assert!(rt; taken.as_millis() >= WHOLE_REST && taken < Duration::from_secs(2));
-    Ok(())
-}
-
-#[test]
-fn a_mark_that_was_left_before_lets_no_rest_begin(rt: HostRuntime) -> Result<(), Fail> {
-    let Ok((cell, pass)) = TurnCell::new_at(rt.alloc(), Counter::new(rt.alloc()), 0) else {
-        return Err("memory".into());
-    };
-    let (one, other) = cell.split(pass);
-    let Ok(_) = add_once(&rt, &cell, other, 1) else {
-        return Err("spent".into());
-    };
-    let start = Instant::now(&rt).ok().ok_or("no clock")?;
-    let _ = cell.rest(&rt, one);
-    let taken = start.elapsed(&rt).ok().ok_or("no clock")?;
-    assert!(rt; taken.as_millis() < WHOLE_REST);
     Ok(())
 }

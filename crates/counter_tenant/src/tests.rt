@@ -1,8 +1,6 @@
 ghost use Rattle.std.specs.Prelude.{◌≡◌, IfSome, true};
 
 use super::*;
-use history_spec::{Stamp, Tally};
-use std::mem::size_of;
 use std::sync::Wait;
 use std::test::Fail;
 use turn_cell::TurnCell;
@@ -43,29 +41,6 @@ fn two_threads_count_to_two_thousand(rt: HostRuntime) -> Result<(), Fail> {
     for _ in 0..20 {
         assert!(rt; count_by_two(&rt, rt.alloc(), 1000) == Some(2000));
     }
-    Ok(())
-}
-
-#[test]
-fn a_pass_is_small_and_stamps_take_no_bytes(rt: HostRuntime) {
-    assert!(rt; size_of::<CounterPass>() <= 16);
-    assert!(rt; size_of::<Stamp>() == 0);
-    assert!(rt; size_of::<Tally>() == 0);
-}
-
-#[test]
-fn a_total_that_would_not_fit_is_refused(rt: HostRuntime) -> Result<(), Fail> {
-    let Ok((cell, pass)) = TurnCell::new_at(rt.alloc(), Counter::new(rt.alloc()), 0) else {
-        return Err("memory".into());
-    };
-    let Ok(pass) = add_once(&rt, &cell, pass, u64::MAX) else {
-        return Err("spent".into());
-    };
-    let Err((pass, fault)) = add_once(&rt, &cell, pass, 1) else {
-        panic!(rt; "the total has wrapped")
-    };
-    assert!(rt; fault == NotAdded::Fault(AddFault::TooMuch));
-    assert!(rt; cell.close(pass).len() == 1);
     Ok(())
 }
 

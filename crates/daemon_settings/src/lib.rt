@@ -5,8 +5,6 @@ mod lines;
 mod loading;
 mod reading;
 mod settings;
-#[cfg(test)]
-mod tests;
 
 pub use loading::load_settings;
 pub use reading::read_settings;

@@ -4,8 +4,6 @@
 mod command;
 mod listing;
 mod read;
-#[cfg(test)]
-mod tests;
 
 pub use command::DaemonCommand;
 pub use listing::command_list;

@@ -6,8 +6,6 @@ mod numbers;
 mod reading;
 mod refusing;
 mod task;
-#[cfg(test)]
-mod tests;
 mod texts;
 
 pub use reading::{parse, task_of};

@@ -7,8 +7,6 @@ mod open;
 mod opened;
 mod row_list;
 mod slots;
-#[cfg(test)]
-mod tests;
 
 pub use driver_cells::{Cells, Chronicle, DomainCell, DomainObj, Row};
 pub use driver_store::DriverFault;

@@ -5,8 +5,6 @@ mod counts;
 mod exchange;
 mod fake;
 mod link;
-#[cfg(test)]
-mod tests;
 
 pub use counts::Counts;
 pub use exchange::Exchange;

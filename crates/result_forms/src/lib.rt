@@ -2,7 +2,5 @@
 #![tactic(auto)]
 
 mod shape;
-#[cfg(test)]
-mod tests;
 
 pub use shape::has_shape;

@@ -1,4 +1,3 @@
 mod calls;
 mod events;
-mod faults;
 mod link;

@@ -5,8 +5,6 @@ mod check;
 mod checked;
 mod judging;
 mod lines;
-#[cfg(test)]
-mod tests;
 
 pub use check::check_store;
 pub use checked::{Checked, status_of};

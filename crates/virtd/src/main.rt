@@ -12,8 +12,6 @@ mod process;
 mod say;
 mod serving;
 mod status;
-#[cfg(test)]
-mod tests;
 mod top;
 mod world;
 

@@ -1,4 +1,4 @@
-// Calls and their answers.
+// A call that is refused.
 ghost use Rattle.std.specs.Prelude.{◌<◌};
 
 use super::link::{OPENED, PING, bytes_of, client, list, open};
@@ -7,22 +7,6 @@ use std::alloc::Global;
 use std::process::Abort;
 use std::test::Fail;
 use virt_types::{NoMemory, RefusalCode, Reply, Value};
-
-#[test]
-fn a_call_is_sent_and_answered(rt: HostRuntime) -> Result<(), Fail> {
-    let bytes = bytes_of(rt.alloc(), &[&OPENED])?;
-    let mut client = client(
-        rt.alloc(),
-        MemorySource::new(bytes),
-        MemorySink::new(rt.alloc()),
-    )?;
-    assert!(rt; matches!(&client.call(&open()), Ok(Reply::Ok(Value::Nothing))));
-    let sent = bytes_of(rt.alloc(), &[&[0x24, 0x2000_8086, 1, 1, 0, 1, 0, 0, 0]])?;
-    let (source, sink) = client.close();
-    assert_eq!(rt; sink.bytes(), sent.as_slice());
-    assert_eq!(rt; source.left().len(), 0);
-    Ok(())
-}
 
 // `invalid argument: -1 0`, as the second reply.
 const REFUSED: [u32; 25] = [
@@ -67,8 +51,9 @@ fn check(rt: &impl Abort, alloc: Global, most: usize) -> Result<(), NoMemory>
         }
         _ => assert!(rt; false, "no refusal"),
     }
-    let (_, sink) = client.close();
+    let (source, sink) = client.close();
     assert_eq!(rt; sink.bytes().len(), 0x24 + 0x20);
+    assert_eq!(rt; source.left().len(), 0);
     Ok(())
 }
 

@@ -1,5 +1,5 @@
 // Events beside calls.
-use super::link::{FOREIGN, OPENED, PING, RESUMED, SUSPENDED, bytes_of, client, open};
+use super::link::{OPENED, PING, RESUMED, SUSPENDED, bytes_of, client, open};
 use crate::{Client, ClientFault};
 use packet::memory::{MemorySink, MemorySource};
 use std::process::Abort;
@@ -35,34 +35,5 @@ fn events_before_a_reply_come_out_in_order(rt: HostRuntime) -> Result<(), Fail> 
     let end = OrNoMemory::Fault(ClientFault::End);
     assert!(rt; matches!(client.next_note(), Err(fault) if fault == end));
     assert!(rt; matches!(client.call(&open()), Err(fault) if fault == end));
-    Ok(())
-}
-
-#[test]
-fn a_reply_that_no_call_waits_for_is_a_fault(rt: HostRuntime) -> Result<(), Fail> {
-    let bytes = bytes_of(rt.alloc(), &[&OPENED, &OPENED])?;
-    let mut client = client(
-        rt.alloc(),
-        MemorySource::new(bytes),
-        MemorySink::new(rt.alloc()),
-    )?;
-    assert!(rt; client.call(&open()).is_ok());
-    let stray = OrNoMemory::Fault(ClientFault::WrongSerial { sent: 1, got: 1 });
-    assert!(rt; matches!(client.next_note(), Err(fault) if fault == stray));
-    Ok(())
-}
-
-#[test]
-fn an_event_that_is_no_note_is_a_fault_for_good(rt: HostRuntime) -> Result<(), Fail> {
-    let bytes = bytes_of(rt.alloc(), &[&SUSPENDED, &FOREIGN, &OPENED])?;
-    let mut client = client(
-        rt.alloc(),
-        MemorySource::new(bytes),
-        MemorySink::new(rt.alloc()),
-    )?;
-    event(&rt, &mut client, 3)?;
-    let foreign = OrNoMemory::Fault(ClientFault::BadPayload);
-    assert!(rt; matches!(client.next_note(), Err(fault) if fault == foreign));
-    assert!(rt; matches!(client.call(&open()), Err(fault) if fault == foreign));
     Ok(())
 }

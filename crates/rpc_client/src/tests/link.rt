@@ -50,26 +50,6 @@ pub(super) const RESUMED: [u32; 16] = [
     0,
 ];
 
-/// An event of the domain `a` that names a live boot, which no event does.
-pub(super) const FOREIGN: [u32; 16] = [
-    0x40,
-    0x2000_8f01,
-    1,
-    12,
-    2,
-    0,
-    0,
-    1,
-    0x6100_0000,
-    0,
-    0,
-    0,
-    0,
-    1,
-    3,
-    0,
-];
-
 /// A keepalive PING.
 pub(super) const PING: [u32; 7] = [0x1c, 0x6b65_6570, 1, 1, 2, 0, 0];
 

@@ -1,5 +1,0 @@
-use Rattle.std.proofs.Common.{length}
-use Rattle.model_domain.proofs.devices.+slots_from.Given as goal
-
-abbrev pub decreases-slots_from : goal.decreases-slots_from
-decreases-slots_from l = length l.devices.now

@@ -1,5 +1,0 @@
-use Rattle.played_obj.specs.Free.{IsPartOf}
-use Rattle.obj_stories.proofs.acting.watch.Given as goal
-
-abbrev pub invariant-loop : goal.invariant-loop
-invariant-loop g l = IsPartOf l.obj l.pass
