@@ -121,29 +121,12 @@ impl Tester {
         self.book.stop(uuid)
     }
 
-    fn lease_to(&mut self, name: &str, mac: Mac) -> Result<u32, OrNoMemory<LeaseFault>> {
+    pub(crate) fn lease(&mut self, name: &str, last: u8) -> Result<u32, OrNoMemory<LeaseFault>> {
         if self.book.chapter() >= 1 << 62 {
             return Err(OrNoMemory::NoMemory);
         }
         let name = Text::copy_of(self.alloc, name)?;
-        self.book.lease(&name, mac)
-    }
-
-    pub(crate) fn lease(&mut self, name: &str, last: u8) -> Result<u32, OrNoMemory<LeaseFault>> {
-        self.lease_to(name, mac(last))
-    }
-
-    // To an interface of another maker, of which there are many.
-    pub(crate) fn lease_wide(
-        &mut self,
-        name: &str,
-        number: u32,
-    ) -> Result<u32, OrNoMemory<LeaseFault>> {
-        let [_, _, high, low] = number.to_be_bytes();
-        let mac = Mac {
-            bytes: [2, 0, 0, 0, high, low],
-        };
-        self.lease_to(name, mac)
+        self.book.lease(&name, mac(last))
     }
 
     pub(crate) fn list(&self) -> Result<NetRowList, Fail> {

@@ -1,15 +1,9 @@
 // A book of pools whose one user is pass 0.
-ghost use Rattle.pool_spec.specs.declared.book.PoolCall.{PoolCall};
-ghost use Rattle.pool_spec.specs.PoolCalls.{IsStored};
-ghost use Rattle.pool_spec.specs.PoolHistory.{CanCall};
-
 use crate::refusals::spent;
 use pool_core::PoolBook;
 use std::alloc::Global;
 use std::test::Fail;
-use virt_types::{
-    ListOf, Name, NameList, PoolDef, PoolRowList, PoolType, Refusal, Text, Uuid, VolDef,
-};
+use virt_types::{ListOf, Name, NameList, PoolDef, PoolType, Refusal, Text, Uuid, VolDef};
 
 pub(crate) fn name(alloc: Global, text: &str) -> Result<Name, Fail> {
     match Name::read(alloc, text.as_bytes()) {
@@ -73,32 +67,6 @@ impl Tester {
         self.book.define(def)
     }
 
-    // Where it may be defined, the store refuses.
-    pub(crate) fn define_refused(&mut self, def: PoolDef) -> Result<(), Refusal> {
-        if self.book.chapter() >= 1 << 62 {
-            return Err(spent(self.alloc));
-        }
-        self.book.may_define(&def)?;
-        refuse(&mut self.book, &def, spent(self.alloc));
-        Ok(())
-    }
-
-    pub(crate) fn undefine(&mut self, uuid: Uuid) -> Result<(), Refusal> {
-        if self.book.chapter() >= 1 << 62 {
-            return Err(spent(self.alloc));
-        }
-        self.book.may_undefine(uuid)?;
-        self.book.undefine(uuid)
-    }
-
-    pub(crate) fn autostart(&mut self, uuid: Uuid, on: bool) -> Result<(), Refusal> {
-        if self.book.chapter() >= 1 << 62 {
-            return Err(spent(self.alloc));
-        }
-        self.book.may_autostart(uuid, on)?;
-        self.book.autostart(uuid, on)
-    }
-
     pub(crate) fn start(&mut self, uuid: Uuid) -> Result<(), Refusal> {
         if self.book.chapter() >= 1 << 62 {
             return Err(spent(self.alloc));
@@ -127,13 +95,6 @@ impl Tester {
         self.book.drop_volume(uuid, name)
     }
 
-    pub(crate) fn list(&self) -> Result<PoolRowList, Fail> {
-        match self.book.list() {
-            Ok(rows) => Ok(rows),
-            Err(_) => Err("memory".into()),
-        }
-    }
-
     pub(crate) fn volumes(&self, uuid: Uuid) -> Result<NameList, Refusal> {
         self.book.volumes(uuid)
     }
@@ -141,17 +102,4 @@ impl Tester {
     pub(crate) fn volume(&self, uuid: Uuid, name: &Name) -> Result<VolDef, Refusal> {
         self.book.volume(uuid, name)
     }
-
-    pub(crate) fn marks(&self) -> u64 {
-        self.book.marks()
-    }
-}
-
-// The store refused the definition of this pool.
-fn refuse(book: &mut PoolBook, _def: &PoolDef, refusal: Refusal)
-    ghost asked: { PoolCall }
-    requires stored { IsStored asked }
-    requires can { CanCall asked book.old }
-{
-    book.refuse(refusal);
 }

@@ -70,13 +70,3 @@ pub(crate) fn define<F: Files>(
     let entry = entry(alloc, name)?;
     Ok(change(keeper, Change::Put { kind, uuid, entry }))
 }
-
-/// Drops the definition with this number.
-pub(crate) fn drop_definition<F: Files>(
-    keeper: &mut Keeper<F, Brand>,
-    kind: BookKind,
-    number: u8,
-) -> Answer {
-    let uuid = uuid(number);
-    change(keeper, Change::Drop { kind, uuid })
-}

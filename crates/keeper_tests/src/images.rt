@@ -1,12 +1,11 @@
-// Images among the definitions of a keeper.
-use crate::changes::{Answer, define};
+// Faults while a keeper writes and reads an image.
 use crate::failing::failing_at;
 use crate::keepers::TestKeeper;
 use crate::names::name;
 use files_disk::MemFiles;
 use std::alloc::Global;
 use std::test::Fail;
-use store_spec::{BookKind, Image, ImageFault};
+use store_spec::{Image, ImageFault};
 use virt_types::{Bytes, Fault, ImageKind, NoMemory, OrNoMemory, Text};
 
 fn image(alloc: Global) -> Result<Image, NoMemory> {
@@ -44,33 +43,9 @@ fn write(alloc: Global, keeper: &mut TestKeeper) -> Result<Result<(), Fault>, No
 }
 
 #[test]
-fn each_call_leaves_one_mark(rt: HostRuntime) -> Result<(), Fail> {
-    let alloc = rt.alloc();
-    let Ok((mut keeper, _found)) = TestKeeper::open(alloc, MemFiles::new(alloc)) else {
-        return Err(Fail::from(NoMemory));
-    };
-    assert_eq!(rt;
-        define(alloc, &mut keeper, BookKind::Domain, 1, "a")?,
-        Answer::Done
-    );
-    assert_eq!(rt;
-        read(alloc, &mut keeper)?,
-        Found::Fault(ImageFault::NoImage)
-    );
-    assert_eq!(rt; write(alloc, &mut keeper)?, Ok(()));
-    assert_eq!(rt; read(alloc, &mut keeper)?, Found::Image);
-    assert_eq!(rt; keeper.marks(), 4);
-    let (files, _) = keeper.close();
-    assert_eq!(rt;
-        files.operations().len(),
-        9,
-        "an opening, a define, and a write of an image"
-    );
-    Ok(())
-}
-
-#[test]
-fn a_fault_of_the_store_is_told_in_that_call_alone(rt: HostRuntime) -> Result<(), Fail> {
+fn a_fault_in_each_call_of_an_image_is_told_in_that_call_alone(
+    rt: HostRuntime,
+) -> Result<(), Fail> {
     let alloc = rt.alloc();
     for number in 3..8u64 {
         let files = MemFiles::new(alloc).failing(failing_at(alloc, number)?);

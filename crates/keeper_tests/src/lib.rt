@@ -1,5 +1,5 @@
-//! Tests of the files of a store and of the keeper of its definitions, apart from them: the directory and its files,
-//! images, and the keeper. So each of these crates is proved once, and what is built on them waits for no test.
+//! Tests of the keeper of definitions over files in memory: a fault in each call, and a crash at each stop. Those files
+//! answer their calls as a real directory does.
 #![tactic(auto)]
 
 #[cfg(test)]
@@ -9,13 +9,7 @@ mod changes;
 #[cfg(test)]
 mod crashes;
 #[cfg(test)]
-mod examinations;
-#[cfg(test)]
 mod failing;
-#[cfg(test)]
-mod faults;
-#[cfg(test)]
-mod image_files;
 #[cfg(test)]
 mod images;
 #[cfg(test)]
@@ -25,12 +19,6 @@ mod names;
 #[cfg(test)]
 mod openings;
 #[cfg(test)]
-mod real_keepers;
-#[cfg(test)]
-mod renames;
-#[cfg(test)]
 mod rewriting;
-#[cfg(test)]
-mod rows;
 #[cfg(test)]
 mod stops;

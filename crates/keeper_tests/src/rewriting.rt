@@ -3,11 +3,11 @@ use crate::changes::{Answer, define};
 use crate::keepers::TestKeeper;
 use crate::openings::both_versions;
 use def_keeper::Found;
-use files_disk::{Files, MemFiles};
+use files_disk::MemFiles;
 use std::alloc::Global;
 use std::test::Fail;
 use store_spec::{BookKind, Version};
-use virt_types::{NoMemory, Text};
+use virt_types::NoMemory;
 
 // How many of the definitions that are found have each version.
 fn versions_of(found: &Found) -> (usize, usize) {
@@ -67,25 +67,5 @@ fn each_stop_of_a_rewriting_leaves_both_definitions(rt: HostRuntime) -> Result<(
         Some((1, 1))
     );
     assert_eq!(rt; left(alloc, &files, done, 2)?, Some((0, 2)));
-    Ok(())
-}
-
-// The bytes of a network named n1, without a title, whose text has five bytes.
-const NETWORK: &str = "def 2 autostart=no name=n1\ntitle=\nlength=5\n<a/>\n";
-
-#[test]
-fn a_put_is_written_byte_for_byte(rt: HostRuntime) -> Result<(), Fail> {
-    let alloc = rt.alloc();
-    let Ok((mut keeper, _found)) = TestKeeper::open(alloc, MemFiles::new(alloc)) else {
-        return Err(Fail::from(NoMemory));
-    };
-    assert_eq!(rt;
-        define(alloc, &mut keeper, BookKind::Network, 7, "n1")?,
-        Answer::Done
-    );
-    let (mut files, _) = keeper.close();
-    let name = Text::copy_of(alloc, "network-07070707-0707-0707-0707-070707070707.def")?;
-    let bytes = files.read(&name);
-    assert!(rt; matches!(&bytes, Ok(Some(bytes)) if bytes.as_slice() == NETWORK.as_bytes()));
     Ok(())
 }

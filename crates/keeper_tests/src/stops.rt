@@ -120,32 +120,3 @@ fn a_fault_in_each_call_is_told_in_that_call_alone(rt: HostRuntime) -> Result<()
     }
     Ok(())
 }
-
-#[test]
-fn a_name_of_another_is_refused_and_nothing_is_written(rt: HostRuntime) -> Result<(), Fail> {
-    let alloc = rt.alloc();
-    let mut keeper = keeper(alloc, MemFiles::new(alloc));
-    assert_eq!(rt;
-        define(alloc, &mut keeper, BookKind::Domain, 0, "a")?,
-        Answer::Done
-    );
-    assert_eq!(rt;
-        define(alloc, &mut keeper, BookKind::Domain, 1, "a")?,
-        Answer::Kept
-    );
-    assert_eq!(rt;
-        define(alloc, &mut keeper, BookKind::Domain, 0, "b")?,
-        Answer::Done
-    );
-    assert_eq!(rt;
-        define(alloc, &mut keeper, BookKind::Domain, 1, "a")?,
-        Answer::Done
-    );
-    let (files, _) = keeper.close();
-    assert_eq!(rt;
-        files.operations().len(),
-        12,
-        "the refused one wrote nothing"
-    );
-    Ok(())
-}

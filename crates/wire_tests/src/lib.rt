@@ -1,16 +1,8 @@
-//! Tests of what goes over the wire, apart from the crates that read and write it: items of XDR, packets, and the
-//! payloads of the procedures. So those are proved once, and what is built on them waits for no test.
+//! Tests of what no program of the repository reads or writes yet: calls as a client writes them, replies and messages as it
+//! reads them, also of procedures that are not served.
 #![tactic(auto)]
 
-#[cfg(test)]
-mod feeding;
-#[cfg(test)]
-mod items;
-#[cfg(test)]
-mod memory;
 #[cfg(test)]
 mod payloads;
 #[cfg(test)]
 mod words;
-#[cfg(test)]
-mod writing;

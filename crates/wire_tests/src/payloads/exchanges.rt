@@ -250,14 +250,13 @@ fn each_is_read_and_written(rt: HostRuntime) -> Result<(), Fail> {
     Ok(())
 }
 
-// Each call and each reply, cut after each of its bytes, has an item that passes the end, and with
-// one byte more that byte is left.
+// Each reply, cut after each of its bytes, has an item that passes the end, and with one byte more that byte is left.
 #[test]
-fn each_is_whole(rt: HostRuntime) -> Result<(), Fail> {
+fn each_reply_is_whole(rt: HostRuntime) -> Result<(), Fail> {
     let alloc = rt.alloc();
     for (program, number, call, reply) in exchanges() {
         let header = header(program, 1, number);
-        let (mut call, mut reply) = (bytes_of(alloc, call)?, bytes_of(alloc, reply)?);
+        let (call, mut reply) = (bytes_of(alloc, call)?, bytes_of(alloc, reply)?);
         for cut in 0..reply.len() {
             let fault = reply_fault(alloc, &header, &call, &reply[..cut]);
             assert!(rt; matches!(fault, Some(ArgFault::Xdr(XdrFault::Short { .. }))));
@@ -265,14 +264,6 @@ fn each_is_whole(rt: HostRuntime) -> Result<(), Fail> {
         let at = reply.len() as u64;
         reply.push(0)?;
         let fault = reply_fault(alloc, &header, &call, &reply);
-        assert_eq!(rt; fault, Some(ArgFault::Xdr(XdrFault::Extra { at })));
-        for cut in 0..call.len() {
-            let fault = call_fault(alloc, &header, &call[..cut]);
-            assert!(rt; matches!(fault, Some(ArgFault::Xdr(XdrFault::Short { .. }))));
-        }
-        let at = call.len() as u64;
-        call.push(0)?;
-        let fault = call_fault(alloc, &header, &call);
         assert_eq!(rt; fault, Some(ArgFault::Xdr(XdrFault::Extra { at })));
     }
     Ok(())
