@@ -20,6 +20,10 @@ DEADLINE = 20.0
 PIECE = 65_536
 
 
+#: As the only word of a session: the daemon is started without any.
+NO_WORDS = object()
+
+
 class Hang(Exception):
     """Something did not come before the deadline."""
 
@@ -109,8 +113,9 @@ class _Drain:
 class Session:
     """One run of the daemon with pipes to it.
 
-    Without words it is `stdio` on the place's store. `stdin`, `stdout` and `stderr` are as for
-    `subprocess.Popen`; only with pipes are there replies and lines to be read.
+    Without words it is `stdio` on the place's store; `NO_WORDS` is a command line without words.
+    `stdin`, `stdout` and `stderr` are as for `subprocess.Popen`; only with pipes are there replies
+    and lines to be read. `before` is called in the new process, before it becomes the daemon.
     """
 
     def __init__(
@@ -120,14 +125,17 @@ class Session:
         stdin=subprocess.PIPE,
         stdout=subprocess.PIPE,
         stderr=subprocess.PIPE,
+        before: Callable[[], None] | None = None,
     ):
-        arguments = [str(word) for word in words] or ["stdio", str(place.directory)]
+        if not words:
+            words = ("stdio", place.directory)
         self.process = subprocess.Popen(
-            [str(place.binary), *arguments],
+            [str(place.binary), *(str(word) for word in words if word is not NO_WORDS)],
             stdin=stdin,
             stdout=stdout,
             stderr=stderr,
             cwd=place.root,
+            preexec_fn=before,
         )
         place.keep(self)
         self._output = _Drain(self.process.stdout) if self.process.stdout else None
@@ -175,6 +183,17 @@ class Session:
             return None
 
         return self._await(taken, f"the reply to call {serial}")
+
+    def next_message(self) -> Packet:
+        """Wait for what the daemon says unasked, and take the first of it."""
+
+        def taken() -> Packet | None:
+            for at, packet in enumerate(self._arrived):
+                if packet.kind != REPLY:
+                    return self._arrived.pop(at)
+            return None
+
+        return self._await(taken, "a message")
 
     def packets(self, count: int) -> list[Packet]:
         """Wait until so many packets have come, and take them in the order of their coming."""
