@@ -127,6 +127,14 @@ def _strings(value: list[str]) -> bytes:
     return _word(len(value)) + b"".join(_string(item) for item in value)
 
 
+def _domains(value: list[tuple[Domain, int]]) -> bytes:
+    return _word(len(value)) + b"".join(_domain(item) + _word(state) for item, state in value)
+
+
+def _titles(value: list[tuple[str, str]]) -> bytes:
+    return _word(len(value)) + b"".join(_string(name) + _string(title) for name, title in value)
+
+
 _SPELLERS = {
     "word": _word,
     "state": _word,
@@ -142,6 +150,8 @@ _SPELLERS = {
     "domain": _domain,
     "object": _object,
     "names": _strings,
+    "domains": _domains,
+    "titles": _titles,
 }
 
 
@@ -157,6 +167,32 @@ def call(name: str, serial: int, *values: object) -> Packet:
     procedure = PROCEDURES[name]
     payload = spell(procedure.arguments, values)
     return Packet(procedure.program, VERSION, procedure.number, CALL, serial, 0, payload)
+
+
+def reply(name: str, serial: int, *values: object) -> Packet:
+    """The reply to a call of the procedure with that name, which was done."""
+    procedure = PROCEDURES[name]
+    payload = spell(procedure.results, values)
+    return Packet(procedure.program, VERSION, procedure.number, REPLY, serial, 0, payload)
+
+
+def refused(name: str, serial: int, code: int, kept: str | None = None) -> Packet:
+    """The reply to a call of the procedure with that name, which was refused."""
+    procedure = PROCEDURES[name]
+    payload = b"".join(
+        (
+            _word(code),
+            _word(QEMU_DRIVER),
+            _optional_string(MESSAGES[code]),
+            _word(ERROR_LEVEL),
+            _word(0),  # no domain
+            _optional_string(kept or None),
+            bytes(8),  # two texts that are absent
+            bytes(8),  # two numbers
+            _word(0),  # no network
+        )
+    )
+    return Packet(procedure.program, VERSION, procedure.number, REPLY, serial, 1, payload)
 
 
 # Reading
