@@ -21,6 +21,10 @@ VERBS = {"file", "folder", "remove", "run", "ends", "says", "prints", "kill", "h
 WITH_BYTES = {">", "<", "file", "has"}
 
 
+#: How what is said begins where it is bytes, and no name of a procedure and no value.
+BYTES = {">": re.compile(r"[0-9a-f]{2}"), "<": re.compile(r"[0-9a-f]{8} [0-9a-f]{8}")}
+
+
 def read_rows(path: Path) -> list[Row]:
     """The rows of a file."""
     rows: list[Row] = []
@@ -53,7 +57,7 @@ def _read_line(
     steps = rows[-1].steps
     if text[0] in "<>":
         said = text[1:].strip()
-        if not re.match(r"[0-9a-f]{8}", said):
+        if not BYTES[text[0]].match(said):
             steps.append(Step("call" if text[0] == ">" else "answer", said, number, remark))
             return remark
         steps.append(Step(text[0], "", number, remark))
