@@ -28,16 +28,11 @@ class Leaving:
 
 @dataclass(frozen=True)
 class Request:
-    """A call: the procedure's name and its arguments."""
+    """A call: the procedure's name, its arguments, and the domain that its line names, if any."""
 
     procedure: str
     arguments: tuple[object, ...]
-
-    @property
-    def domain(self) -> Domain | None:
-        """The domain that the call names, if it names one."""
-        first = self.arguments[0] if self.arguments else None
-        return first if isinstance(first, Domain) else None
+    domain: Domain | None = None
 
 
 def identifier(last: str) -> UUID:
@@ -95,6 +90,10 @@ class Words:
         """The domain that the words 1 and 2 name."""
         return Domain(self[1], identifier(self[2]))
 
+    def definition(self, count: int) -> str:
+        """The definition of that domain, whose script comes after so many words."""
+        return definition(self[1], self[2], self.after(count))
+
     @property
     def object(self) -> Object:
         """The network or pool that the words 1 and 2 name."""
@@ -144,7 +143,19 @@ _WITH_A_TEXT: dict[str, tuple[str, Callable[[str], str]]] = {
     "revert": ("SNAP_REVERT", str),
 }
 
-#: All other verbs: the procedure, and its arguments by the words.
+#: Other verbs with `NAME N`: the procedure, and its arguments by the words.
+_WITH_A_DOMAIN: dict[str, tuple[str, Callable[[Words], tuple[object, ...]]]] = {
+    "define": ("DOMAIN_DEFINE_XML", lambda words: (words.definition(3),)),
+    "create": ("DOMAIN_CREATE_XML", lambda words: (words.definition(3), 0)),
+    "dump": ("DOMAIN_CORE_DUMP", lambda words: (words.domain, words[3], 0)),
+    "reboot": ("DOMAIN_REBOOT", lambda words: (words.domain, 0)),
+    "text": ("DOMAIN_GET_XML_DESC", lambda words: (words.domain, 0)),
+    "slots": ("DOMAIN_GET_XML_DESC", lambda words: (words.domain, 0)),
+    "stored-text": ("DOMAIN_GET_XML_DESC", lambda words: (words.domain, STORED)),
+    "delete": ("SNAP_DELETE", lambda words: (words.domain, words[3], words.number(4))),
+}
+
+#: Verbs of the connection, of networks and of pools.
 _OTHERS: dict[str, tuple[str, Callable[[Words], tuple[object, ...]]]] = {
     "open": ("CONNECT_OPEN", lambda words: (None, 0)),
     "list": ("LIST_ALL", lambda words: ()),
@@ -152,22 +163,8 @@ _OTHERS: dict[str, tuple[str, Callable[[Words], tuple[object, ...]]]] = {
     "defined": ("CONNECT_LIST_DEFINED_DOMAINS", lambda words: (words.number(1),)),
     "lookup": ("DOMAIN_LOOKUP_BY_NAME", lambda words: (words[1],)),
     "lookup-uuid": ("DOMAIN_LOOKUP_BY_UUID", lambda words: (identifier(words[1]),)),
-    "define": (
-        "DOMAIN_DEFINE_XML",
-        lambda words: (definition(words[1], words[2], words.after(3)),),
-    ),
     "define-text": ("DOMAIN_DEFINE_XML", lambda words: (words.after(1),)),
-    "create": (
-        "DOMAIN_CREATE_XML",
-        lambda words: (definition(words[1], words[2], words.after(3)), 0),
-    ),
     "restore": ("DOMAIN_RESTORE", lambda words: (words[1],)),
-    "dump": ("DOMAIN_CORE_DUMP", lambda words: (words.domain, words[3], 0)),
-    "reboot": ("DOMAIN_REBOOT", lambda words: (words.domain, 0)),
-    "text": ("DOMAIN_GET_XML_DESC", lambda words: (words.domain, 0)),
-    "slots": ("DOMAIN_GET_XML_DESC", lambda words: (words.domain, 0)),
-    "stored-text": ("DOMAIN_GET_XML_DESC", lambda words: (words.domain, STORED)),
-    "delete": ("SNAP_DELETE", lambda words: (words.domain, words[3], words.number(4))),
     "defined-networks": ("CONNECT_LIST_DEFINED_NETWORKS", lambda words: (1,)),
     "networks": ("CONNECT_LIST_NETWORKS", lambda words: (1,)),
     "network-define": ("NETWORK_DEFINE_XML", lambda words: (words[1],)),
@@ -185,8 +182,7 @@ def _prepare(words: Words, left: Leaving | None) -> Request:
     """`prepare`: the guest that left last comes. `prepare NAME N RUNNING STATE ..`: another one."""
     if words.get(1):
         state = b"" if words[4] == "-" else bytes.fromhex(words[4])
-        text = definition(words[1], words[2], words.after(5))
-        return Request("MIGRATE_PREPARE", (text, words.number(3), state))
+        return Request("MIGRATE_PREPARE", (words.definition(5), words.number(3), state), words.domain)
     if left is None:
         raise Unreadable("no guest left before it is to come")
     return Request("MIGRATE_PREPARE", (left.definition, left.running, left.state))
@@ -199,12 +195,15 @@ def request_of(line: str, left: Leaving | None) -> Request:
     if verb == "prepare":
         return _prepare(words, left)
     if verb in _OF_A_DOMAIN:
-        return Request(_OF_A_DOMAIN[verb], (words.domain,))
+        return Request(_OF_A_DOMAIN[verb], (words.domain,), words.domain)
     if verb in _WITH_A_NUMBER:
-        return Request(_WITH_A_NUMBER[verb], (words.domain, words.number(3)))
+        return Request(_WITH_A_NUMBER[verb], (words.domain, words.number(3)), words.domain)
     if verb in _WITH_A_TEXT:
         procedure, made_of = _WITH_A_TEXT[verb]
-        return Request(procedure, (words.domain, made_of(words.after(3))))
+        return Request(procedure, (words.domain, made_of(words.after(3))), words.domain)
+    if verb in _WITH_A_DOMAIN:
+        procedure, arguments = _WITH_A_DOMAIN[verb]
+        return Request(procedure, arguments(words), words.domain)
     if verb in _OTHERS:
         procedure, arguments = _OTHERS[verb]
         return Request(procedure, arguments(words))
