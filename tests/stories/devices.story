@@ -1,5 +1,9 @@
 Devices that come and go, and what is set of a guest. Devices take the slots from 0x02 on.
 
+Each line has a request, and after `=>` what it is answered. (2,0) and the like are the events that
+listeners are to be told by it; nobody can listen yet, so they are kept for a later player, and not
+compared. After `|` is the domain's state then. README.md has all of the notation.
+
 == disks take the slots in order
 define a 1 => domain a 00000000-0000-4000-8000-000000000001, id -1 | shut off
 start a 1 => ok (2,0) | running

@@ -1,5 +1,9 @@
 Lives of domains, and what many calls leave as it was.
 
+Each line has a request, and after `=>` what it is answered. (2,0) and the like are the events that
+listeners are to be told by it; nobody can listen yet, so they are kept for a later player, and not
+compared. After `|` is the domain's state then. README.md has all of the notation.
+
 == a guest that stopped itself is resumed
 define a 1 => domain a 00000000-0000-4000-8000-000000000001, id -1 (0,0) | shut off
 start a 1 => ok (2,0) | running
@@ -129,3 +133,16 @@ perform a 1 => a running guest, state 0000000000000800 (3,0) | paused
 job a 1 => job migrate-out, rests, 0 left
 save a 1 s => 68 migrate-out | paused
 confirm a 1 1 => ok (5,3) | shut off
+
+== one domain through ten rounds
+define a 1 => domain a 00000000-0000-4000-8000-000000000001, id -1 | shut off
+start a 1 => ok (2,0) | running
+10 rounds
+  suspend a 1 => ok (3,0)
+  lookup a => domain a 00000000-0000-4000-8000-000000000001, id 1
+  resume a 1 => ok (4,0)
+  info a 1 => state 1, 2048 of 2048 KiB, vcpus 2
+  define a 1 => domain a 00000000-0000-4000-8000-000000000001, id 1 (0,1)
+end
+  domain a 00000000-0000-4000-8000-000000000001 ok
+  was running a boot 1, running

@@ -4,6 +4,10 @@ that comes is sent LoadState, and a finish sends Cont or Quit.
 
 A call that what rests does not let in looks for three seconds before it is refused with 68.
 
+Each line has a request, and after `=>` what it is answered. (2,0) and the like are the events that
+listeners are to be told by it; nobody can listen yet, so they are kept for a later player, and not
+compared. After `|` is the domain's state then. README.md has all of the notation.
+
 == a guest goes on at the other host
 define a 1 slow 3 => domain a 00000000-0000-4000-8000-000000000001, id -1 | shut off
 start a 1 => ok (2,0) | running
@@ -88,7 +92,7 @@ stats a 1 => 2048 KiB | paused
 finish a 1 1 => 55 paused | paused
 confirm a 1 0 => ok (4,0) | running
 
-== another operation begins beside one that rests
+== no other operation begins beside one that rests
 define a 1 => domain a 00000000-0000-4000-8000-000000000001, id -1 | shut off
 start a 1 => ok (2,0) | running
 perform a 1 => a running guest, state 0000000000000800 (3,0) | paused
@@ -105,6 +109,13 @@ stats a 1 => 68 migrate-in | paused
 destroy a 1 => 68 migrate-in (5,1) | shut off
 finish a 1 1 => 201 boot 1 | shut off
 start a 1 => ok (2,0) | running
+
+== a guest ends that came
+# A destroy ends it, as above, and no domain is left; but the migration rests until it is taken up.
+prepare a 1 1 0000000000000800 => domain a 00000000-0000-4000-8000-000000000001, id 1 | paused
+destroy a 1 => 68 migrate-in (5,1) | gone
+finish a 1 1 => 201 boot 1 | gone
+finish a 1 1 => 42 00000000-0000-4000-8000-000000000001 | gone
 
 == a destroy ends a guest that was to leave
 define a 1 => domain a 00000000-0000-4000-8000-000000000001, id -1 | shut off

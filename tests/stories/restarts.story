@@ -1,6 +1,10 @@
 Daemons that end and start again on the same directory, and what they find there. `check` says what is
 in the files; what a daemon finds of guests that ran, it says on standard error as it starts.
 
+Each line has a request, and after `=>` what it is answered. Under `end` is what was said and what is in
+the files; `told of` has the events that listeners were to be told of a domain, which nobody can hear
+yet, so they are kept for a later player, and not compared. README.md has all of the notation.
+
 == What was defined is there again, by rising name; a domain that is not stored is gone
 define b 2 => domain b 00000000-0000-4000-8000-000000000002, id -1
 define a 1 => domain a 00000000-0000-4000-8000-000000000001, id -1

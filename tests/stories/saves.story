@@ -2,6 +2,10 @@ Guests are saved, restored and dumped; a copy of a guest's state is given up. A 
 runs sends Stop, CopyBegin, CopyPoll until nothing is left, CopyTake and Quit, a dump ends with Cont in
 place of Quit, and one that is given up with CopyCancel and Cont.
 
+Each line has a request, and after `=>` what it is answered. (2,0) and the like are the events that
+listeners are to be told by it; nobody can listen yet, so they are kept for a later player, and not
+compared. After `|` is the domain's state then. README.md has all of the notation.
+
 == a guest is saved and restored
 define a 1 => domain a 00000000-0000-4000-8000-000000000001, id -1 | shut off
 start a 1 => ok (2,0) | running
@@ -65,13 +69,13 @@ save a 1 s => 9 class 1 (3,0) (4,0) | running
 save a 1 s => 9 class 1 (3,0) (4,0) | running
 save a 1 s => ok (3,0) (5,4) | shut off
 
-== a save begins without a guest
+== no save begins without a guest
 define a 1 => domain a 00000000-0000-4000-8000-000000000001, id -1 | shut off
 save a 1 s => 55 shut off | shut off
 dump a 1 d => 55 shut off | shut off
 restore s => 9 class 21 | shut off
 
-== a guest is to end whose state was not written
+== a guest does not end whose state was not written
 define a 1 => domain a 00000000-0000-4000-8000-000000000001, id -1 | shut off
 start a 1 => ok (2,0) | running
 block s.part
@@ -81,7 +85,7 @@ unblock s.part
 save a 1 s => ok (3,0) (5,4) | shut off
 restore s => ok (2,2) | running
 
-== a save goes on whose boot has ended
+== a save does not go on whose boot has ended
 define a 1 boot 1 command 5 end => domain a 00000000-0000-4000-8000-000000000001, id -1 | shut off
 start a 1 => ok (2,0) | running
 save a 1 s => 201 boot 1 (3,0) (5,2) | shut off

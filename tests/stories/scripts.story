@@ -2,6 +2,10 @@ Guests that end, refuse or are lost while a call is away, as their scripts say: 
 the B-th boot. Since a start sends two commands, the third one is the first of the next call. So what a
 call asks of its guest is seen by where the script meets it.
 
+Each line has a request, and after `=>` what it is answered. (2,0) and the like are the events that
+listeners are to be told by it; nobody can listen yet, so they are kept for a later player, and not
+compared. After `|` is the domain's state then. README.md has all of the notation.
+
 == boot 1 command 1 end
 define a 1 boot 1 command 1 end => domain a 00000000-0000-4000-8000-000000000001, id -1 | shut off
 start a 1 => 201 boot 1 (5,2) | shut off

@@ -1,6 +1,10 @@
 Snapshots are taken, deleted and gone back to. Which one is the current one is seen by the parent of the
 next that is taken.
 
+Each line has a request, and after `=>` what it is answered. (2,0) and the like are the events that
+listeners are to be told by it; nobody can listen yet, so they are kept for a later player, and not
+compared. After `|` is the domain's state then. README.md has all of the notation.
+
 == children take the parent of a snapshot that goes
 define a 1 => domain a 00000000-0000-4000-8000-000000000001, id -1 | shut off
 start a 1 => ok (2,0) | running
@@ -85,14 +89,14 @@ parent a 1 snap2 => snap1
 snapshot a 1 s => s | shut off
 parent a 1 s => snap2
 
-== a snapshot's children are dropped where it goes alone
+== a snapshot's child stays where it goes alone
 define a 1 => domain a 00000000-0000-4000-8000-000000000001, id -1 | shut off
 snapshot a 1 parent => parent | shut off
 snapshot a 1 child => child | shut off
 delete a 1 parent 0 => ok | shut off
 delete a 1 child 0 => ok | shut off
 
-== a snapshot's children stay where they are to go with it
+== a snapshot's child goes with it where it is to
 define a 1 => domain a 00000000-0000-4000-8000-000000000001, id -1 | shut off
 snapshot a 1 parent => parent | shut off
 snapshot a 1 child => child | shut off

@@ -1,5 +1,8 @@
-A guest is started and ended, by calls and by itself. After the reply stands what listeners are to be
-told, which nobody compares yet, and after the bar the domain's state, which is asked for.
+A guest is started and ended, by calls and by itself.
+
+Each line has a request, and after `=>` what it is answered. (2,0) and the like are the events that
+listeners are to be told by it; nobody can listen yet, so they are kept for a later player, and not
+compared. After `|` is the domain's state then. README.md has all of the notation.
 
 == a domain without a stored definition goes with its guest
 define a 1 => domain a 00000000-0000-4000-8000-000000000001, id -1 (0,0) | shut off

@@ -30,7 +30,7 @@ class Host:
         if self._session is not None:
             raise Failed("a daemon serves the directory, which is to be changed or checked")
 
-    def end(self) -> list[str]:
+    def end(self) -> str:
         """Close the daemon's input, wait for its end, and say what it said and left.
 
         The files have to say just what the daemon told of its definitions before.
@@ -41,13 +41,13 @@ class Host:
         lines = self._ended(session)
         for name, told in definitions.items():
             self._compare(name, told)
-        return lines + self.checked()
+        return "\n".join([*lines, *self._checked()])
 
-    def close(self) -> tuple[Packet, list[str]]:
+    def close(self) -> tuple[Packet, str]:
         """The reply to CONNECT_CLOSE, and what the daemon said, which ends by itself then."""
         session = self._running()
         reply = session.ask("CONNECT_CLOSE")
-        return reply, self._ended(session)
+        return reply, "\n".join(self._ended(session))
 
     def stop(self) -> None:
         """End the daemon, if one runs, at the end of a story. It has to end well and in silence."""
@@ -83,8 +83,11 @@ class Host:
         if has != told:
             raise Failed(f"{name} is not what the daemon told\n  wanted {told!r}\n  came   {has!r}")
 
-    def checked(self) -> list[str]:
+    def checked(self) -> str:
         """What `check` says of the directory, each line with what its file says besides."""
+        return "\n".join(self._checked())
+
+    def _checked(self) -> list[str]:
         self._idle()
         ended = self.place.run("check", self.place.directory)
         printed = ended.unread.decode().splitlines()

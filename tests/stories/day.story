@@ -1,6 +1,10 @@
 A day of two hosts. All of it is one story, with one daemon on each host until the line `end`: eleven
 domains come and go, one takes the place of another, and one guest is moved from host to host and
-back. What is under `end` says in the end what listeners were to be told of each domain.
+back.
+
+Each line has a request, and after `=>` what it is answered. Under `end` is what was said and what is in
+the files; `told of` has the events that listeners were to be told of a domain, which nobody can hear
+yet, so they are kept for a later player, and not compared. README.md has all of the notation.
 
 == Two hosts through a day
 # An image of a save whose state is packed, which no restore reads: the magic, version 1, a save, the
