@@ -244,6 +244,11 @@ class Session:
                 output.news.wait(left)
         raise NoReply(f"the output ended before {what}{self._last_words()}")
 
+    def left(self) -> list[Packet]:
+        """The packets that came and were not taken, of a session that was killed."""
+        self._split_output()
+        return self._arrived
+
     def _split_output(self) -> None:
         packets, rest = split(bytes(self._output.bytes[self._looked_at :]))
         self._looked_at = len(self._output.bytes) - len(rest)
