@@ -30,7 +30,7 @@ def _has_autostart(directory: Path, identifier: str) -> bool:
 def _status(directory: Path, name: str, boot: str) -> str:
     """What the status file of this boot says of it."""
     for path in sorted(directory.glob("run-*.sta")):
-        told = _STATUS.fullmatch(path.read_text())
+        told = _STATUS.fullmatch(path.read_text(errors="replace"))
         if told is not None and (told["name"], told["boot"]) == (name, boot):
             state = int(told["state"])
             text = STATES.get(state, str(state))
