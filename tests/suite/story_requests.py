@@ -41,7 +41,7 @@ def identifier(last: str) -> UUID:
 
 
 def definition(name: str, last: str, script: str = "") -> str:
-    """The definition of stories: 2,048 KiB, two processors, no devices, a guest with this script."""
+    """The definition of stories, with 2,048 KiB, two processors and a guest with this script."""
     return (
         f"<domain type='qemu'><name>{name}</name><uuid>{identifier(last)}</uuid>"
         f"<title>The domain {name}</title><metadata><guest>{script}</guest></metadata>"
@@ -182,7 +182,8 @@ def _prepare(words: Words, left: Leaving | None) -> Request:
     """`prepare`: the guest that left last comes. `prepare NAME N RUNNING STATE ..`: another one."""
     if words.get(1):
         state = b"" if words[4] == "-" else bytes.fromhex(words[4])
-        return Request("MIGRATE_PREPARE", (words.definition(5), words.number(3), state), words.domain)
+        arguments = (words.definition(5), words.number(3), state)
+        return Request("MIGRATE_PREPARE", arguments, words.domain)
     if left is None:
         raise Unreadable("no guest left before it is to come")
     return Request("MIGRATE_PREPARE", (left.definition, left.running, left.state))
