@@ -32,7 +32,7 @@ from suite.procedures import BY_NUMBER, DRIVER_PROGRAM, MESSAGES, SECOND_PROGRAM
 from suite.wire import Domain as Reference
 from suite.wire import Packet, Refusal, refusal
 
-MOST_DOMAINS = 64
+MOST_DOMAINS = 256
 MOST_NAMES = 1_024
 MOST_TITLE_BYTES = 1_024
 #: The bit of a text's flags that asks for the stored definition.

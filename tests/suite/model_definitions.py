@@ -29,7 +29,8 @@ class Draws:
     that comes in its place says the address. It has to begin as each address that is drawn.
     """
 
-    _TOKEN = re.compile("52:54:00:drawn-[0-9]+;")
+    #: As long as an address, so that a text has the length that it will have.
+    _TOKEN = re.compile("52:54:00:#[0-9]{7}")
     _ADDRESS = "(52:54:00(?::[0-9a-f]{2}){3})"
 
     def __init__(self) -> None:
@@ -38,7 +39,7 @@ class Draws:
 
     def address(self) -> DrawnAddress:
         """An address that is drawn and not known yet."""
-        new = DrawnAddress(f"52:54:00:drawn-{len(self._addresses)};")
+        new = DrawnAddress(f"52:54:00:#{len(self._addresses):07}")
         self._addresses[new.token] = new
         return new
 
@@ -47,10 +48,15 @@ class Draws:
         tokens = self._TOKEN.findall(wanted)
         if tokens:
             pieces = self._TOKEN.split(wanted)
-            match = re.fullmatch(self._ADDRESS.join(map(re.escape, pieces)), came)
+            form = self._ADDRESS.join(map(re.escape, pieces))
+            match = re.fullmatch(form, came)
             for token, address in zip(tokens, match.groups() if match else ()):
                 self._addresses[token].known = self._addresses[token].known or address
         return self._TOKEN.sub(lambda token: str(self._addresses[token.group()]), wanted)
+
+    def has_unknown(self, content: bytes) -> bool:
+        """Whether the content has an address that no text has shown yet."""
+        return self._TOKEN.search(content.decode(errors="replace")) is not None
 
     def fill_device(self, device: "Device") -> "Device":
         """The device with an address where it is an interface without one."""

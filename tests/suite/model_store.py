@@ -29,10 +29,11 @@ BAD_IMAGE = 22
 
 @dataclass(frozen=True)
 class Entry:
-    """A stored definition."""
+    """A stored definition. A text that was put there by hand stays as it is until the next put."""
 
     definition: DomainDefinition
     autostart: bool
+    by_hand: str | None = None
 
     @property
     def name(self) -> str:
@@ -40,7 +41,7 @@ class Entry:
 
     def content(self) -> str:
         """The file of version 2."""
-        text = print_domain(self.definition)
+        text = self.by_hand or print_domain(self.definition)
         head = f"def 2 autostart={'yes' if self.autostart else 'no'} name={self.name}\n"
         return f"{head}title={self.title}\nlength={len(text.encode())}\n{text}"
 
@@ -103,14 +104,19 @@ class Store:
     dumps: dict[str, Image] = field(default_factory=dict)
     unread: set[str] = field(default_factory=set)
 
-    def take_reports(self) -> list[str]:
-        """What an opening says of the status files, by rising names; then they are gone."""
+    def reports(self) -> list[str]:
+        """What is said of the status files, by rising names."""
         reports = {name: "was running ? boot ?" for name in self.unread}
         for identifier, status in self.statuses.items():
             reports[status_file(identifier)] = f"was running {status.name} boot {status.boot}"
+        return [reports[name] for name in sorted(reports)]
+
+    def take_reports(self) -> list[str]:
+        """What an opening says of the status files; then they are gone."""
+        reports = self.reports()
         self.unread.clear()
         self.statuses.clear()
-        return [reports[name] for name in sorted(reports)]
+        return reports
 
     def image(self, name: str) -> Image:
         """The image of a save, or the refusal of a restore."""
