@@ -3,7 +3,7 @@
 from collections.abc import Callable
 from dataclasses import dataclass
 
-from suite.daemon import Place
+from suite.daemon import Hang, NoReply, Place
 from suite.wire import Malformed, Packet, show, split
 
 #: How many bytes are shown around the first that differs.
@@ -12,6 +12,10 @@ AROUND = 16
 
 class Failed(Exception):
     """A case came out otherwise than it should. Its text says what was wanted and what came."""
+
+
+#: What says by itself why a case failed; of all else the place in the suite is wanted too.
+EXPECTED = (Failed, Hang, NoReply, Malformed)
 
 
 @dataclass(frozen=True)

@@ -3,10 +3,11 @@
 Nothing here sleeps: a wait ends with what it waits for, or fails at its deadline.
 """
 
+import socket
 import subprocess
 import threading
 import time
-from collections.abc import Callable
+from collections.abc import Callable, Sequence
 from dataclasses import dataclass
 from pathlib import Path
 
@@ -18,6 +19,10 @@ DEADLINE = 20.0
 
 #: How many bytes are read from a pipe at once.
 PIECE = 65_536
+
+
+#: As the only word of a session: the daemon is started without any.
+NO_WORDS = object()
 
 
 class Hang(Exception):
@@ -50,6 +55,8 @@ class Place:
     def __init__(self, binary: Path, root: Path):
         self.binary = binary
         self.root = root
+        #: In pieces of how many bytes each session is given its input; None for all at once.
+        self.pieces: int | None = None
         self.directory = root / "store"
         self.directory.mkdir(parents=True)
         self._sessions: list["Session"] = []
@@ -106,11 +113,17 @@ class _Drain:
             raise Hang("a pipe of the daemon stays open")
 
 
+def _records() -> tuple[socket.socket, socket.socket]:
+    """Two ends of a socket of which each read gives just what one write gave."""
+    return socket.socketpair(socket.AF_UNIX, socket.SOCK_SEQPACKET)
+
+
 class Session:
     """One run of the daemon with pipes to it.
 
-    Without words it is `stdio` on the place's store. `stdin`, `stdout` and `stderr` are as for
-    `subprocess.Popen`; only with pipes are there replies and lines to be read.
+    Without words it is `stdio` on the place's store; `NO_WORDS` is a command line without words.
+    `stdin`, `stdout` and `stderr` are as for `subprocess.Popen`; only with pipes are there replies
+    and lines to be read. `under` are the words of a program that becomes the daemon.
     """
 
     def __init__(
@@ -120,15 +133,23 @@ class Session:
         stdin=subprocess.PIPE,
         stdout=subprocess.PIPE,
         stderr=subprocess.PIPE,
+        under: Sequence[str] = (),
     ):
-        arguments = [str(word) for word in words] or ["stdio", str(place.directory)]
+        if not words:
+            words = ("stdio", place.directory)
+        self._input = None
+        if place.pieces is not None and stdin is subprocess.PIPE:
+            self._input, stdin = _records()
+        self._pieces = place.pieces
         self.process = subprocess.Popen(
-            [str(place.binary), *arguments],
+            [*under, str(place.binary), *(str(word) for word in words if word is not NO_WORDS)],
             stdin=stdin,
             stdout=stdout,
             stderr=stderr,
             cwd=place.root,
         )
+        if self._input is not None:
+            stdin.close()
         place.keep(self)
         self._output = _Drain(self.process.stdout) if self.process.stdout else None
         self._errors = _Drain(self.process.stderr) if self.process.stderr else None
@@ -144,12 +165,19 @@ class Session:
         watch = threading.Timer(DEADLINE, self.process.kill)
         watch.start()
         try:
-            self.process.stdin.write(given)
-            self.process.stdin.flush()
+            self._write(given)
         except BrokenPipeError:
             self.refused_input = True
         finally:
             watch.cancel()
+
+    def _write(self, given: bytes) -> None:
+        if self._input is None:
+            self.process.stdin.write(given)
+            self.process.stdin.flush()
+            return
+        for begin in range(0, len(given), self._pieces):
+            self._input.send(given[begin : begin + self._pieces])
 
     def call(self, name: str, *values: object) -> object:
         """Call a procedure, wait for its reply, and give what it says (`wire.value_of`)."""
@@ -175,6 +203,17 @@ class Session:
             return None
 
         return self._await(taken, f"the reply to call {serial}")
+
+    def next_message(self) -> Packet:
+        """Wait for what the daemon says unasked, and take the first of it."""
+
+        def taken() -> Packet | None:
+            for at, packet in enumerate(self._arrived):
+                if packet.kind != REPLY:
+                    return self._arrived.pop(at)
+            return None
+
+        return self._await(taken, "a message")
 
     def packets(self, count: int) -> list[Packet]:
         """Wait until so many packets have come, and take them in the order of their coming."""
@@ -205,6 +244,11 @@ class Session:
                 output.news.wait(left)
         raise NoReply(f"the output ended before {what}{self._last_words()}")
 
+    def left(self) -> list[Packet]:
+        """The packets that came and were not taken, of a session that was killed."""
+        self._split_output()
+        return self._arrived
+
     def _split_output(self) -> None:
         packets, rest = split(bytes(self._output.bytes[self._looked_at :]))
         self._looked_at = len(self._output.bytes) - len(rest)
@@ -218,6 +262,8 @@ class Session:
 
     def close_input(self) -> None:
         """Say that nothing more comes."""
+        if self._input is not None:
+            self._input.close()
         if self.process.stdin is not None:
             try:
                 self.process.stdin.close()

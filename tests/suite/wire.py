@@ -31,7 +31,11 @@ ERROR_LEVEL = 2
 
 
 class Malformed(Exception):
-    """Bytes that are no packet, or a payload that spells no value of its shape."""
+    """A payload that spells no value of its shapes, and the place of its first fault."""
+
+    def __init__(self, place: int, why: str):
+        super().__init__(f"{why} at {place}")
+        self.place = place
 
 
 @dataclass(frozen=True)
@@ -127,6 +131,14 @@ def _strings(value: list[str]) -> bytes:
     return _word(len(value)) + b"".join(_string(item) for item in value)
 
 
+def _domains(value: list[tuple[Domain, int]]) -> bytes:
+    return _word(len(value)) + b"".join(_domain(item) + _word(state) for item, state in value)
+
+
+def _titles(value: list[tuple[str, str]]) -> bytes:
+    return _word(len(value)) + b"".join(_string(name) + _string(title) for name, title in value)
+
+
 _SPELLERS = {
     "word": _word,
     "state": _word,
@@ -142,6 +154,8 @@ _SPELLERS = {
     "domain": _domain,
     "object": _object,
     "names": _strings,
+    "domains": _domains,
+    "titles": _titles,
 }
 
 
@@ -159,59 +173,100 @@ def call(name: str, serial: int, *values: object) -> Packet:
     return Packet(procedure.program, VERSION, procedure.number, CALL, serial, 0, payload)
 
 
+def reply(name: str, serial: int, *values: object) -> Packet:
+    """The reply to a call of the procedure with that name, which was done."""
+    procedure = PROCEDURES[name]
+    payload = spell(procedure.results, values)
+    return Packet(procedure.program, VERSION, procedure.number, REPLY, serial, 0, payload)
+
+
+def refused(name: str, serial: int, code: int, kept: str | None = None) -> Packet:
+    """The reply to a call of the procedure with that name, which was refused."""
+    procedure = PROCEDURES[name]
+    payload = b"".join(
+        (
+            _word(code),
+            _word(QEMU_DRIVER),
+            _optional_string(MESSAGES[code]),
+            _word(ERROR_LEVEL),
+            _word(0),  # no domain
+            _optional_string(kept or None),
+            bytes(8),  # two texts that are absent
+            bytes(8),  # two numbers
+            _word(0),  # no network
+        )
+    )
+    return Packet(procedure.program, VERSION, procedure.number, REPLY, serial, 1, payload)
+
+
 # Reading
 
 
 class Reader:
-    """Reads items from the left of a payload. Each fault says its place in the payload."""
+    """Reads items from the left of a payload, and tells the place of the first fault."""
 
     def __init__(self, payload: bytes):
         self.payload = payload
         self.place = 0
 
-    def take(self, count: int) -> bytes:
-        """The next bytes, just so many."""
+    def _take(self, count: int, begin: int) -> bytes:
+        """The next bytes, just so many, of the item that begins at this place."""
         if count > len(self.payload) - self.place:
-            raise Malformed(f"an item at {self.place} passes the payload's end")
+            raise Malformed(begin, "an item passes the end")
         piece = self.payload[self.place : self.place + count]
         self.place += count
         return piece
 
     def word(self) -> int:
         """An unsigned integer of four bytes."""
-        return struct.unpack(">I", self.take(4))[0]
+        return struct.unpack(">I", self._take(4, self.place))[0]
 
     def integer(self) -> int:
         """A signed integer of four bytes."""
-        return struct.unpack(">i", self.take(4))[0]
+        return struct.unpack(">i", self._take(4, self.place))[0]
 
     def long(self) -> int:
         """An unsigned integer of eight bytes."""
-        return struct.unpack(">Q", self.take(8))[0]
+        return struct.unpack(">Q", self._take(8, self.place))[0]
 
     def flag(self) -> bool:
         """A boolean, which has just two spellings."""
+        begin = self.place
         word = self.word()
         if word > 1:
-            raise Malformed(f"the boolean before {self.place} is {word}")
+            raise Malformed(begin, f"a boolean is {word}")
         return word == 1
 
     def opaque(self, most: int) -> bytes:
         """Variable opaque data of at most so many bytes, with its padding of zeros."""
-        length = self.word()
-        if length > most:
-            raise Malformed(f"the length before {self.place} is {length}, more than {most}")
-        value = self.take(length)
-        if any(self.take(-length % 4)):
-            raise Malformed(f"the padding before {self.place} is not zeros")
+        value, padding, after = self._data(most)
+        self._test_padding(padding, after)
         return value
 
     def string(self, most: int = LONGEST_STRING) -> str:
-        """A string, which is UTF-8."""
+        """A string, which is UTF-8. That comes before the padding is looked at."""
+        value, padding, after = self._data(most)
         try:
-            return self.opaque(most).decode()
+            text = value.decode()
         except UnicodeDecodeError as fault:
-            raise Malformed(f"the string before {self.place} is not UTF-8") from fault
+            raise Malformed(after - len(value) + fault.start, "no UTF-8") from fault
+        self._test_padding(padding, after)
+        return text
+
+    def _data(self, most: int) -> tuple[bytes, bytes, int]:
+        """The bytes of variable opaque data, its padding, and the place of the padding."""
+        begin = self.place
+        length = struct.unpack(">I", self._take(4, begin))[0]
+        if length > most:
+            raise Malformed(begin, f"a length of {length}, above {most},")
+        whole = self._take(length + -length % 4, begin)
+        return whole[:length], whole[length:], begin + 4 + length
+
+    @staticmethod
+    def _test_padding(padding: bytes, after: int) -> None:
+        wrong = next((at for at, byte in enumerate(padding) if byte), None)
+        if wrong is not None:
+            raise Malformed(after + wrong, "padding that is not 0")
 
     def optional_string(self) -> str | None:
         """A string that may be absent."""
@@ -219,7 +274,7 @@ class Reader:
 
     def identifier(self) -> UUID:
         """The 16 bytes of an identifier."""
-        return UUID(bytes=self.take(16))
+        return UUID(bytes=self._take(16, self.place))
 
     def domain(self) -> Domain:
         """A domain: name, identifier and number."""
@@ -230,16 +285,17 @@ class Reader:
         return Object(self.string(), self.identifier())
 
     def _list(self, item) -> list:
+        begin = self.place
         count = self.word()
         if count > LONGEST_LIST:
-            raise Malformed(f"the list before {self.place} has {count} entries")
+            raise Malformed(begin, f"a list of {count} entries")
         return [item() for _ in range(count)]
 
     def items(self, shapes: tuple[str, ...]) -> tuple[object, ...]:
         """Values of these shapes, and nothing after them."""
         values = tuple(self._read(shape) for shape in shapes)
         if self.place != len(self.payload):
-            raise Malformed(f"something is left at {self.place}, after the last item")
+            raise Malformed(self.place, "bytes after the last item")
         return values
 
     def _read(self, shape: str) -> object:
@@ -285,7 +341,7 @@ def _refusal_of(payload: bytes) -> Refusal:
     kept = reader.optional_string()
     rest = (reader.flag(), reader.flag(), reader.word(), reader.word(), reader.flag())
     if level != ERROR_LEVEL or about or any(rest) or reader.place != len(payload):
-        raise Malformed(f"no refusal as docs/PROTOCOL.md has it: {payload.hex(' ', 4)}")
+        raise Malformed(0, f"no refusal as the protocol has it: {payload.hex(' ', 4)}")
     return Refusal(code, domain, message, kept)
 
 
@@ -302,15 +358,15 @@ def value_of(packet: Packet) -> object:
     """
     if packet.kind == MESSAGE:
         if packet.procedure not in EVENTS:
-            raise Malformed(f"no message {packet.procedure}")
+            raise Malformed(0, f"no message {packet.procedure}")
         return Reader(packet.payload).items(EVENTS[packet.procedure].items)
     if packet.kind != REPLY:
-        raise Malformed("not a reply")
+        raise Malformed(0, "a call, where a reply is wanted")
     if packet.status == 1:
         return _refusal_of(packet.payload)
     procedure = BY_NUMBER.get((packet.program, packet.procedure))
     if procedure is None:
-        raise Malformed(f"a reply of an unknown procedure {packet.procedure} that is no refusal")
+        raise Malformed(0, f"what procedure {packet.procedure} has answered")
     return _one(Reader(packet.payload).items(procedure.results))
 
 
@@ -318,8 +374,17 @@ def arguments_of(packet: Packet) -> tuple[object, ...]:
     """The arguments of a call. Raises `Malformed` where the payload spells none."""
     procedure = BY_NUMBER.get((packet.program, packet.procedure))
     if procedure is None:
-        raise Malformed(f"a call of an unknown procedure {packet.procedure}")
+        raise Malformed(0, f"a call of the unknown procedure {packet.procedure}")
     return Reader(packet.payload).items(procedure.arguments)
+
+
+def first_fault(shapes: tuple[str, ...], payload: bytes) -> int | None:
+    """The place of the first fault of a payload of these shapes; None where it has none."""
+    try:
+        Reader(payload).items(shapes)
+    except Malformed as fault:
+        return fault.place
+    return None
 
 
 def split(stream: bytes) -> tuple[list[Packet], bytes]:

@@ -4,6 +4,7 @@ Nothing here starts the daemon: where these fail, no other case of the suite tel
 """
 
 import re
+from functools import lru_cache
 from pathlib import Path
 from uuid import UUID
 
@@ -31,7 +32,9 @@ EXAMPLE = {
 }
 
 
-def _examples() -> dict[str, tuple[bytes, bytes]]:
+@lru_cache
+def examples_of_the_protocol() -> dict[str, tuple[bytes, bytes]]:
+    """A call and a reply of each procedure, as whole packets."""
     text = PROTOCOL.read_text()
     lines = re.findall(r"^\| \d+ (\w+) \| `([0-9a-f]+)`<br>`([0-9a-f]+)` \|$", text, re.M)
     return {name: (bytes.fromhex(one), bytes.fromhex(other)) for name, one, other in lines}
@@ -45,7 +48,7 @@ def _example_of(name: str) -> tuple[object, ...]:
 
 @case("the suite itself", "each example of the protocol's document is read and written so")
 def examples(_: Place) -> None:
-    found = _examples()
+    found = examples_of_the_protocol()
     check(sorted(PROCEDURES), sorted(found), "the procedures with an example")
     for name, (asked, answered) in found.items():
         packets, rest = split(asked + answered)
