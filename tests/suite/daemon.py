@@ -11,11 +11,11 @@ from collections.abc import Callable, Sequence
 from dataclasses import dataclass
 from pathlib import Path
 
-from suite.procedures import REPLY
-from suite.wire import Packet, call, split, value_of
+from suite.procedures import CALL, REPLY
+from suite.wire import Packet, call, show, split, value_of
 
 #: A wait that takes longer than this many seconds is a hang, and a failure.
-DEADLINE = 20.0
+DEADLINE = 60.0
 
 #: How many bytes are read from a pipe at once.
 PIECE = 65_536
@@ -30,7 +30,7 @@ class Hang(Exception):
 
 
 class NoReply(Exception):
-    """The daemon's output ended before the reply that was waited for."""
+    """The reply that was waited for can not come any more, or another came in its place."""
 
 
 @dataclass(frozen=True)
@@ -156,12 +156,15 @@ class Session:
         self._arrived: list[Packet] = []
         self._looked_at = 0
         self._serial = 0
+        self._called: set[int] = set()
+        self._unparsed = b""
         #: Whether the daemon closed its input before it had taken all that was sent.
         self.refused_input = False
 
     def send(self, what: bytes | Packet) -> None:
         """Write bytes or a packet to the daemon. It may end before it has read them all."""
         given = what.to_bytes() if isinstance(what, Packet) else what
+        self._note_calls(given)
         watch = threading.Timer(DEADLINE, self.process.kill)
         watch.start()
         try:
@@ -170,6 +173,10 @@ class Session:
             self.refused_input = True
         finally:
             watch.cancel()
+
+    def _note_calls(self, given: bytes) -> None:
+        packets, self._unparsed = split(self._unparsed + given)
+        self._called.update(packet.serial for packet in packets if packet.kind == CALL)
 
     def _write(self, given: bytes) -> None:
         if self._input is None:
@@ -200,6 +207,8 @@ class Session:
             for at, packet in enumerate(self._arrived):
                 if packet.kind == REPLY and packet.serial == serial:
                     return self._arrived.pop(at)
+                if packet.kind == REPLY and packet.serial not in self._called:
+                    raise NoReply(f"a reply came to a call that nobody made: {show(packet)}")
             return None
 
         return self._await(taken, f"the reply to call {serial}")
@@ -240,7 +249,8 @@ class Session:
                     break
                 left = deadline - time.monotonic()
                 if left <= 0:
-                    raise Hang(f"{what} did not come within {DEADLINE:.0f} s")
+                    came = "; ".join(show(packet) for packet in self._arrived) or "nothing"
+                    raise Hang(f"{what} did not come within {DEADLINE:.0f} s, but {came}")
                 output.news.wait(left)
         raise NoReply(f"the output ended before {what}{self._last_words()}")
 
