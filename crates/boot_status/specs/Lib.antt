@@ -1,3 +1,4 @@
 pub mod Reporting
 pub mod Storing
 pub mod Keeping
+pub mod Below

@@ -9,6 +9,7 @@ mod reading;
 mod replacing;
 
 pub use comparing::same_status;
+pub use def_keeper::{Keeper, KeeperPass, Opening};
 pub use keeping::keep_status;
 pub use outcome::StatusKept;
 pub use reading::status_of;

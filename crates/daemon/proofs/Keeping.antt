@@ -3,7 +3,7 @@ use Rattle.std.proofs.Common.{◌≡◌, ◌⊎◌, ◌∙◌, ℕ, Bool, true, 
 use Rattle.std.specs.Prelude.{MatchBool}
 use Rattle.driver_service.specs.Calling.{HasCalledDriver}
 use Rattle.files_disk.specs.Telling.{Told}
-use Rattle.held_tasks.specs.OfRows.{DriverRow, KeepsParts}
+use Rattle.driver_service.specs.Below.held_tasks.OfRows.{DriverRow, KeepsParts}
 use Rattle.procedure_spec.specs.declared.fault.ArgFault.{ArgFault}
 use Rattle.procedure_spec.specs.declared.procedure.Procedure.{Procedure}
 use Rattle.service_spec.specs.Activities.{Activity, Hand}

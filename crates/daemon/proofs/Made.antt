@@ -4,8 +4,8 @@ use Rattle.std.proofs.lemmas.List.{length-take-le, take_more}
 use Rattle.daemon.specs.Starting.{HasMade, first_call}
 use Rattle.driver_service.specs.Calling.{HasOutcomeOf}
 use Rattle.files_disk.specs.Telling.{Told}
-use Rattle.held_tasks.specs.OfOutcomes.{Outcome}
-use Rattle.held_tasks.specs.OfRows.{DriverRow}
+use Rattle.driver_service.specs.Below.held_tasks.OfOutcomes.{Outcome}
+use Rattle.driver_service.specs.Below.held_tasks.OfRows.{DriverRow}
 use Rattle.service_spec.specs.Activities.{Hand}
 use Rattle.virt_types.specs.declared.ask.GuestEvent.{GuestEvent}
 use Rattle.virt_types.specs.declared.request.Request.{Request}

@@ -5,16 +5,16 @@ use Rattle.std.proofs.lemmas.List.{nil_from_length}
 use Rattle.std.proofs.lemmas.List.Elements.{All-cons, All-nil}
 use Rattle.six_rows.specs.Six.{all_six}
 use Rattle.daemon.proofs.Keeping.{keeps_itself}
-use Rattle.driver.specs.Cells.{BecomesMany, DriverView, IsRowOf}
-use Rattle.driver_close.specs.Closed.{IsWhole}
-use Rattle.driver_close.proofs.OneRow.{one_still_whole}
-use Rattle.driver_close.proofs.Parts.{split_whole, still_whole}
+use Rattle.driver_service.specs.Below.driver.Cells.{BecomesMany, DriverView, IsRowOf}
+use Rattle.driver_service.specs.Below.driver_close.Closed.{IsWhole}
+use Rattle.driver_service.proofs.Below.driver_close.OneRow.{one_still_whole}
+use Rattle.driver_service.proofs.Below.driver_close.Parts.{split_whole, still_whole}
 use Rattle.files_disk.specs.Telling.{Told}
-use Rattle.held_tasks.specs.OfRows.{DriverRow, IsReadyRow, KeepsParts, parts_of}
-use Rattle.held_tasks.specs.declared.counting.CountingMaker.{CountingMaker}
+use Rattle.driver_service.specs.Below.held_tasks.OfRows.{DriverRow, IsReadyRow, KeepsParts, parts_of}
+use Rattle.driver_service.specs.Below.held_tasks.declared.counting.CountingMaker.{CountingMaker}
 use Rattle.pass_rows.specs.Cutting.{cell_of}
 use Rattle.pass_rows.specs.Rows.{HasRowParts, KeepsPasses}
-use Rattle.row_session.specs.declared.connection.SixRows.{SixRows}
+use Rattle.six_rows.specs.Below.row_session.declared.connection.SixRows.{SixRows}
 use Rattle.virt_types.specs.Limits.{most_domains}
 
 module _ {G : Type 0} where

@@ -4,13 +4,13 @@ use Rattle.daemon.specs.Closing.{IsEndedWith}
 use Rattle.daemon.specs.Serving.{HasServedOne, Reported}
 use Rattle.six_rows.specs.Six.{all_six}
 use Rattle.daemon.specs.declared.closing.Closed.{Closed}
-use Rattle.driver.specs.Cells.{BecomesMany}
+use Rattle.driver_service.specs.Below.driver.Cells.{BecomesMany}
 use Rattle.driver_service.specs.Calling.{HasCalledDriver}
 use Rattle.driver_service.specs.Serving.{is_served}
 use Rattle.files_disk.specs.Telling.{Told}
-use Rattle.held_tasks.specs.OfRows.{DriverRow}
+use Rattle.driver_service.specs.Below.held_tasks.OfRows.{DriverRow}
 use Rattle.pass_rows.specs.Rows.{KeepsPasses}
-use Rattle.row_session.specs.declared.connection.SixRows.{SixRows}
+use Rattle.six_rows.specs.Below.row_session.declared.connection.SixRows.{SixRows}
 use Rattle.service_spec.specs.Activities.{hand}
 use Rattle.service_spec.specs.Course.{HasServed}
 use Rattle.session_spec.specs.declared.end.End.{End}

@@ -3,10 +3,10 @@ use Rattle.std.specs.Prelude.{◌≡◌, ◌-◌, ◌^◌, ℕ, List, Option, No
 use Rattle.std.specs.List.{All}
 use Rattle.daemon.specs.declared.closing.Closed.{Closed}
 use Rattle.def_keeper.specs.Safe.{KeepsAll}
-use Rattle.driver.specs.Cells.{IsIdleRow}
-use Rattle.driver_close.specs.Closed.{HasClosed}
+use Rattle.driver_service.specs.Below.driver.Cells.{IsIdleRow}
+use Rattle.driver_service.specs.Below.driver_close.Closed.{HasClosed}
 use Rattle.files_disk.specs.Telling.{Told}
-use Rattle.held_tasks.specs.OfRows.{DriverRow, IsReadyRow}
+use Rattle.driver_service.specs.Below.held_tasks.OfRows.{DriverRow, IsReadyRow}
 
 -- how many statuses of boots the calls of these rows could not keep, as far as the count goes
 abbrev pub unkept_in : {G : Type 0} → List (DriverRow G) → ℕ

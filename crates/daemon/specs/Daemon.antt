@@ -1,6 +1,6 @@
 -- What contracts see of a daemon.
-use Rattle.driver.specs.Cells.{DriverView}
-use Rattle.held_tasks.specs.OfRows.{DriverRow}
+use Rattle.driver_service.specs.Below.driver.Cells.{DriverView}
+use Rattle.driver_service.specs.Below.held_tasks.OfRows.{DriverRow}
 
 -- its driver, and the row of the first passes of its cells
 pub record DaemonView (G : Type 0) : Type 0 where

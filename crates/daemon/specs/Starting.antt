@@ -2,8 +2,8 @@
 use Rattle.std.specs.Prelude.{◌≡◌, ℕ, List, [], ◌∷◌, Option}
 use Rattle.driver_service.specs.Calling.{HasOutcomeOf}
 use Rattle.files_disk.specs.Telling.{Told}
-use Rattle.held_tasks.specs.OfOutcomes.{Outcome}
-use Rattle.held_tasks.specs.OfRows.{DriverRow}
+use Rattle.driver_service.specs.Below.held_tasks.OfOutcomes.{Outcome}
+use Rattle.driver_service.specs.Below.held_tasks.OfRows.{DriverRow}
 use Rattle.service_spec.specs.Activities.{Hand, call_of, next_who}
 use Rattle.service_spec.specs.Course.{reader}
 use Rattle.virt_types.specs.declared.ask.GuestEvent.{GuestEvent}

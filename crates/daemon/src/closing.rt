@@ -2,16 +2,14 @@
 ghost use Rattle.std.specs.Prelude.{◌≡◌, ◌<◌, length};
 ghost use Rattle.std.specs.List.{All};
 ghost use Rattle.daemon.specs.Closing.{IsEndedWith, unkept_in};
-ghost use Rattle.driver.specs.Cells.{IsRowOf};
-ghost use Rattle.driver_close.specs.Closed.{IsWhole};
-ghost use Rattle.held_tasks.specs.OfRows.{IsReadyRow};
+ghost use Rattle.driver_service.specs.Below.driver.Cells.{IsRowOf};
+ghost use Rattle.driver_service.specs.Below.driver_close.Closed.{IsWhole};
+ghost use Rattle.driver_service.specs.Below.held_tasks.OfRows.{IsReadyRow};
 
 use crate::daemon::DaemonRows;
 use def_keeper::Opening;
-use driver::Driver;
-use driver_close::Books;
+use driver_service::{Books, Driver, MakerOf, unkept_of};
 use files_disk::Files;
-use held_tasks::{MakerOf, unkept_of};
 use monitor_link::Guests;
 
 /// What is left of a daemon that was closed.

@@ -4,7 +4,7 @@ ghost use Rattle.daemon.specs.Closing.{IsEndedWith};
 ghost use Rattle.daemon.specs.Serving.{HasServedOne};
 ghost use Rattle.daemon.specs.Starting.{HasMade, first_call};
 ghost use Rattle.def_keeper.specs.Opened.{IsSureAt};
-ghost use Rattle.driver_close.specs.OfOpening.{HasCells, IsUnopened};
+ghost use Rattle.driver_service.specs.Below.driver_close.OfOpening.{HasCells, IsUnopened};
 ghost use Rattle.outside_spec.specs.Faults.{Rose};
 ghost use Rattle.service_spec.specs.Activities.{hand};
 ghost use Rattle.session_spec.specs.Course.{IsServedWhole, IsWhole};
@@ -12,16 +12,12 @@ ghost use Rattle.session_spec.specs.Course.{IsServedWhole, IsWhole};
 use crate::closing::{Closed, close};
 use crate::starting::{Outcomes, make_all, room_for};
 use def_keeper::Opening;
-use driver::{Driver, RowList};
-use driver_close::DriverFault;
-use driver_service::DriverService;
+use driver_service::{Driver, DriverFault, DriverService, MakerOf, Row, RowList};
 use files_disk::Files;
-use held_tasks::{MakerOf, Row};
 use monitor_link::Guests;
 use packet::{Sink, Source};
 use pass_rows::RowListOf;
-use row_session::{End, serve};
-use six_rows::{put_six, take_six};
+use six_rows::{End, put_six, serve, take_six};
 use std::alloc::Global;
 use std::marker::Model;
 use std::sync::Wait;
@@ -59,10 +55,10 @@ pub struct Daemon<F: Files + Drop, K: Opening, G: Guests + Drop> {
 impl<F: Files + Drop, K: Opening, G: Guests + Drop> Model for Daemon<F, K, G> {
     ghost use Rattle.std.specs.Prelude.{◌≡◌, ◌≤◌, ◌∷◌, []};
     ghost use Rattle.daemon.specs.Daemon.{DaemonView};
-    ghost use Rattle.driver.specs.Cells.{IsRowOf};
-    ghost use Rattle.driver_close.specs.Closed.{IsWhole};
-    ghost use Rattle.held_tasks.specs.OfRows.{IsReadyRow};
-    ghost use Rattle.held_tasks.specs.declared.MakerOf.{MakerOf};
+    ghost use Rattle.driver_service.specs.Below.driver.Cells.{IsRowOf};
+    ghost use Rattle.driver_service.specs.Below.driver_close.Closed.{IsWhole};
+    ghost use Rattle.driver_service.specs.Below.held_tasks.OfRows.{IsReadyRow};
+    ghost use Rattle.driver_service.specs.Below.held_tasks.declared.MakerOf.{MakerOf};
 
     ghost Value = { DaemonView (MakerOf G G.M G.E G.Z) };
 

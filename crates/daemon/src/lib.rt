@@ -8,6 +8,6 @@ mod starting;
 
 pub use closing::Closed;
 pub use daemon::{Daemon, DaemonRow, DaemonRows, Ended};
-pub use driver_close::{Books, DriverFault};
+pub use driver_service::{Books, DriverFault, Outcome};
 pub use session_spec::End;
 pub use starting::Outcomes;

@@ -2,15 +2,14 @@
 ghost use Rattle.std.specs.Prelude.{◌≡◌, ◌≤◌, [], IfOk, length};
 ghost use Rattle.std.specs.Vec.{vec_capacity};
 ghost use Rattle.daemon.specs.Starting.{HasMade, first_call};
-ghost use Rattle.driver.specs.Cells.{IsRowOf};
-ghost use Rattle.held_tasks.specs.OfRows.{IsReadyRow, KeepsParts};
+ghost use Rattle.driver_service.specs.Below.driver.Cells.{IsRowOf};
+ghost use Rattle.driver_service.specs.Below.held_tasks.OfRows.{IsReadyRow, KeepsParts};
 ghost use Rattle.service_spec.specs.Activities.{hand};
 
 use crate::daemon::DaemonRow;
 use def_keeper::Opening;
-use driver::Driver;
+use driver_service::{Driver, MakerOf, Outcome};
 use files_disk::Files;
-use held_tasks::{MakerOf, Outcome};
 use monitor_link::Guests;
 use service_spec::READER;
 use std::alloc::Global;

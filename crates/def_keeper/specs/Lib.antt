@@ -15,3 +15,4 @@ pub mod Imaging
 pub mod Examining
 pub mod Judging
 pub mod Laws
+pub mod Below

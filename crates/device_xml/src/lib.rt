@@ -9,8 +9,8 @@ mod keys;
 mod reading;
 mod table;
 
-pub use definition_fill::fill_device;
-pub use definition_print::print_device;
+pub use definition_fill::{fill_device, fill_domain};
+pub use definition_print::{domain_fits, print_device, print_domain, read_tree};
 pub use devices::devices_test;
 pub use disk::disk_of;
 pub use interface::interface_of;

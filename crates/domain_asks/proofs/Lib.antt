@@ -15,3 +15,4 @@ pub mod TidyCalls
 pub mod TidyMarks
 pub mod TidyPhases
 pub mod Writing
+pub mod Below

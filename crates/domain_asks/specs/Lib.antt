@@ -12,3 +12,4 @@ pub mod PhaseProbing
 pub mod Probing
 pub mod Starving
 pub mod Tidy
+pub mod Below

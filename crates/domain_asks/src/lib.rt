@@ -20,6 +20,7 @@ pub use call_laws::{
     stays_away,
 };
 pub use course::Course;
+pub use domain_driver::{CallParts, PhaseParts, parts, phase_parts};
 pub use laws::{every_mark_keeps_guests, every_mark_keeps_tidy, opened_is_tidy, stored_plans_stay};
 pub use phase_courses::phase_course_of;
 pub use phase_laws::{

@@ -6,7 +6,7 @@ use Rattle.domain_spec.specs.Cell.{HeldEvent, LentEars, Queue, standing_of}
 use Rattle.domain_spec.specs.Reading.{is_live}
 use Rattle.domain_spec.specs.Turns.{AllHaveRoom}
 use Rattle.domain_turns.specs.OfLedger.{WaitsWith}
-use Rattle.domain_ledger.specs.Ledger.{standing_in}
+use Rattle.domain_turns.specs.Below.domain_ledger.Ledger.{standing_in}
 use Rattle.domain_listeners.specs.Listening.{registrations}
 use Rattle.domain_turns.specs.OfRecord.{Recorded, force_of}
 use Rattle.domain_turns.specs.Rooms.{HasEnd, IsKept, rooms_lent}

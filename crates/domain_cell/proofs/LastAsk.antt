@@ -26,7 +26,7 @@ use Rattle.domain_turns.proofs.OfAsks.{has_room, made_more}
 use Rattle.domain_turns.specs.OfAsks.{IsAway, IsUnsent}
 use Rattle.domain_turns.proofs.OfAsks.{next_ask}
 use Rattle.domain_turns.specs.OfLedger.{IsPhaseWaiting, WaitsWith}
-use Rattle.domain_ledger.specs.Ledger.{standing_in}
+use Rattle.domain_turns.specs.Below.domain_ledger.Ledger.{standing_in}
 use Rattle.domain_turns.specs.OfRecord.{Recorded, force_of}
 use Rattle.domain_turns.specs.Answering.{MayBeAnswered, MayBeAnsweredAs}
 use Rattle.domain_turns.specs.Turning.{answers_of, cell_of}

@@ -16,3 +16,4 @@ pub mod Sharing
 pub mod Shown
 pub mod Watching
 pub mod Whole
+pub mod Below

@@ -18,7 +18,7 @@ use Rattle.domain_spec.specs.Open.{job_held, operation_held}
 use Rattle.domain_spec.specs.Registrations.{is_numbered}
 use Rattle.domain_turns.specs.OfAsks.{Asked}
 use Rattle.domain_turns.specs.OfLedger.{WaitsWith}
-use Rattle.domain_ledger.specs.Ledger.{standing_in}
+use Rattle.domain_turns.specs.Below.domain_ledger.Ledger.{standing_in}
 use Rattle.domain_turns.specs.OfLedger.{Back}
 use Rattle.domain_listeners.specs.Listening.{AreApart, Listening, dropped_by, emptied, emptied_by, has_client, is_lost, is_of, left_by, listening_of, registrations, taken_by}
 use Rattle.domain_turns.specs.OfRecord.{Recorded, force_of}

@@ -7,7 +7,7 @@ use Rattle.domain_spec.specs.declared.standing.Standing.{Standing}
 use Rattle.domain_spec.specs.Cell.{HeldEvent, LentEars, Queue, standing_of}
 use Rattle.domain_spec.specs.Open.{operation_held}
 use Rattle.domain_spec.specs.TakeUp.{is_vacant}
-use Rattle.domain_ledger.specs.Ledger.{standing_in}
+use Rattle.domain_turns.specs.Below.domain_ledger.Ledger.{standing_in}
 use Rattle.domain_turns.specs.OfRecord.{Recorded, force_of}
 use Rattle.domain_turns.specs.declared.refusing.Refusable.{Refusable}
 use Rattle.domain_cell.specs.Core.{Core, core_of, does_rest, is_occupied}

@@ -8,7 +8,7 @@ use Rattle.domain_spec.specs.CanTake.{CanTake, IsQuiet}
 use Rattle.domain_spec.specs.Cell.{HeldEvent, LentEars, Queue}
 use Rattle.domain_spec.specs.Turns.{AllHaveRoom}
 use Rattle.domain_turns.specs.OfLedger.{WaitsWith}
-use Rattle.domain_ledger.specs.Ledger.{standing_in}
+use Rattle.domain_turns.specs.Below.domain_ledger.Ledger.{standing_in}
 use Rattle.domain_listeners.specs.Listening.{AreApart, Listening, dropped_by, has_client, is_of, listening_of, registrations, taken_by}
 use Rattle.domain_turns.specs.OfRecord.{IsQuietOf, Recorded, force_of}
 use Rattle.domain_turns.specs.Rooms.{HasEnd, IsKept}

@@ -17,7 +17,7 @@ use Rattle.domain_spec.specs.Reading.{live_boot}
 use Rattle.domain_spec.specs.Turns.{AllHaveRoom}
 use Rattle.domain_turns.specs.OfAsks.{Asked}
 use Rattle.domain_turns.specs.OfLedger.{WaitsWith}
-use Rattle.domain_ledger.specs.Ledger.{standing_in}
+use Rattle.domain_turns.specs.Below.domain_ledger.Ledger.{standing_in}
 use Rattle.domain_turns.specs.OfLedger.{Chaptered}
 use Rattle.domain_listeners.specs.Listening.{registrations}
 use Rattle.domain_turns.specs.OfRecord.{Recorded, force_of}

@@ -12,3 +12,4 @@ pub mod OfShares
 pub mod OfTurns
 pub mod Shares
 pub mod Tickets
+pub mod Below

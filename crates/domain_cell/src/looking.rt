@@ -14,9 +14,8 @@ ghost use Rattle.domain_turns.specs.Looking.{LooksSo, boot_first, with_room};
 ghost use Rattle.domain_turns.specs.Refusing.{IsSetAside};
 ghost use Rattle.domain_turns.specs.Rooms.{HasEnd};
 
-use domain_queue::Queue;
 use domain_spec::First;
-use domain_turns::{Looked, OneRoom, Record, Refusable, leave, look, set_aside};
+use domain_turns::{Looked, OneRoom, Queue, Record, Refusable, leave, look, set_aside};
 use history_spec::Stamp;
 use std::alloc::Global;
 use virt_types::{Call, NoMemory, Who};

@@ -16,9 +16,9 @@ ghost use Rattle.turn_shares.specs.Shares.{KeepsOthers};
 
 use crate::looking::keep_refusal;
 use crate::turns::{DomainTurns, are_apart};
-use domain_queue::Queue;
 use domain_turns::{
-    OperationLook, PhaseLook, Record, Refusable, begin_op, end_op, phase, rooms_lent, take_up,
+    OperationLook, PhaseLook, Queue, Record, Refusable, begin_op, end_op, phase, rooms_lent,
+    take_up,
 };
 use history_spec::Stamp;
 use std::alloc::Global;

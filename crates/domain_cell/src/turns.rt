@@ -21,12 +21,10 @@ ghost use Rattle.domain_turns.specs.Places.{last_place};
 ghost use Rattle.turn_shares.specs.Queued.{queue_of};
 
 use crate::looking::look_on;
-use domain_queue::Queue;
 use domain_spec::First;
-use domain_state::read;
 use domain_turns::{
-    Back, Chronicle, HeldEvent, LentEars, Looked, OneRoom, Record, Refusable, back, give_up, last,
-    operation_held, rooms_lent,
+    Back, Chronicle, HeldEvent, LentEars, Looked, OneRoom, Queue, Record, Refusable, back, give_up,
+    last, operation_held, read, rooms_lent,
 };
 use history_spec::Stamp;
 use std::alloc::Global;

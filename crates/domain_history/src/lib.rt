@@ -14,6 +14,7 @@ mod open;
 pub use base::{ChapterBase, KeptRegistration};
 pub use chapter::Chapter;
 pub use chronicle::Chronicle;
+pub use domain_state::{exit_event, read};
 pub use held::{job_held, meets_another, operation_held, takes_up};
 pub use judging::goes_on;
 pub use naming::named_call;

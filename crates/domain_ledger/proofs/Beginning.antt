@@ -26,8 +26,8 @@ use Rattle.domain_asks.specs.AwayLaws.{made}
 use Rattle.domain_asks.specs.Going.{first_course, let_in}
 use Rattle.domain_asks.proofs.Finishing.{nothing_next, unsent_none}
 use Rattle.domain_asks.proofs.Planning.{still_planned}
-use Rattle.domain_driver.specs.Fits.{FitsCall}
-use Rattle.domain_driver.specs.declared.calls.CallParts.{CallParts}
+use Rattle.domain_asks.specs.Below.domain_driver.Fits.{FitsCall}
+use Rattle.domain_asks.specs.Below.domain_driver.declared.calls.CallParts.{CallParts}
 use Rattle.domain_history.specs.Closing.{CanDo, done_in, told_in}
 use Rattle.domain_history.specs.Standing.{HistoryWithRoom, in_force}
 use Rattle.domain_ledger.specs.BeginTurn.{IsRefusedNow}

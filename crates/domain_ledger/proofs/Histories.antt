@@ -23,8 +23,8 @@ use Rattle.domain_asks.specs.Away.{IsAway}
 use Rattle.domain_asks.specs.Going.{IsAnsweredLive, IsLetIn, first_course, let_in}
 use Rattle.domain_asks.proofs.Finishing.{is_done_ended}
 use Rattle.domain_asks.proofs.Going.{first_is_away, first_is_done, is_done_then, stays_away}
-use Rattle.domain_driver.specs.Fits.{FitsCall}
-use Rattle.domain_driver.specs.declared.calls.CallParts.{CallParts}
+use Rattle.domain_asks.specs.Below.domain_driver.Fits.{FitsCall}
+use Rattle.domain_asks.specs.Below.domain_driver.declared.calls.CallParts.{CallParts}
 use Rattle.domain_history.specs.Closing as chapter
 use Rattle.domain_history.specs.Closing.{CanDo, done_in, done_of, told_in, told_of}
 use Rattle.domain_history.specs.Numbered.{all_numbered, numbered}

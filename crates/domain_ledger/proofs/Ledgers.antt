@@ -28,10 +28,10 @@ use Rattle.domain_asks.proofs.Staying.{end_keeps, exit_keeps}
 use Rattle.domain_asks.specs.PhaseCopying.{with_answer}
 use Rattle.domain_asks.specs.PhaseAway.{IsPhaseAway}
 use Rattle.domain_asks.proofs.Keeping.{is_gone, phase_exit_keeps, true_not_false}
-use Rattle.domain_driver.specs.Fits.{FitsCall, FitsPhase}
-use Rattle.domain_driver.specs.declared.phases.PhaseParts.{PhaseParts}
-use Rattle.domain_driver.specs.declared.phases.PhaseParts.TheVariants as made_for
-use Rattle.domain_driver.proofs.Outlasts.{outlasts_boots, outlasts_operations}
+use Rattle.domain_asks.specs.Below.domain_driver.Fits.{FitsCall, FitsPhase}
+use Rattle.domain_asks.specs.Below.domain_driver.declared.phases.PhaseParts.{PhaseParts}
+use Rattle.domain_asks.specs.Below.domain_driver.declared.phases.PhaseParts.TheVariants as made_for
+use Rattle.domain_asks.proofs.Below.domain_driver.Outlasts.{outlasts_boots, outlasts_operations}
 use Rattle.domain_history.specs.Closing.{reply_in}
 use Rattle.domain_history.specs.Numbered.{numbered}
 use Rattle.domain_history.specs.Standing.{HistoryWithRoom, in_force}

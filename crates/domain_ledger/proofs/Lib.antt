@@ -11,3 +11,4 @@ pub mod Rotating
 pub mod Silent
 pub mod Told
 pub mod Turned
+pub mod Below

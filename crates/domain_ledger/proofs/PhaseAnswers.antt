@@ -16,9 +16,9 @@ use Rattle.domain_asks.specs.Copying.{is_image, writes_second, writing, written}
 use Rattle.domain_asks.specs.Starving.{starved}
 use Rattle.domain_asks.specs.PhaseCopying.{plan_after, with_answer, with_copy}
 use Rattle.domain_asks.proofs.Writing.{in_written}
-use Rattle.domain_driver.specs.Fits.{FitsPhase}
-use Rattle.domain_driver.specs.declared.phases.PhaseParts.{PhaseParts}
-use Rattle.domain_driver.specs.declared.phases.PhaseParts.TheVariants as made_for
+use Rattle.domain_asks.specs.Below.domain_driver.Fits.{FitsPhase}
+use Rattle.domain_asks.specs.Below.domain_driver.declared.phases.PhaseParts.{PhaseParts}
+use Rattle.domain_asks.specs.Below.domain_driver.declared.phases.PhaseParts.TheVariants as made_for
 use Rattle.domain_ledger.specs.Away.{HasCopyRoom}
 use Rattle.domain_ledger.specs.PhaseTurn.{IsPhaseReady, IsReadyFor}
 use Rattle.domain_ledger.specs.declared.phase_out.PhaseReady.{PhaseReady}

@@ -19,7 +19,7 @@ use Rattle.domain_asks.specs.Copying.{written}
 use Rattle.domain_asks.specs.Starving.{AreAsks, next_in, starved}
 use Rattle.domain_asks.specs.AwayLaws.{made}
 use Rattle.domain_asks.specs.PhaseCopying.{plan_after, with_answer}
-use Rattle.domain_driver.specs.declared.phases.PhaseParts.{PhaseParts}
+use Rattle.domain_asks.specs.Below.domain_driver.declared.phases.PhaseParts.{PhaseParts}
 use Rattle.domain_history.specs.Closing.{CanPhase, phased_in}
 use Rattle.domain_history.specs.Standing.{HistoryWithRoom}
 use Rattle.domain_asks.specs.Guests.{HasOwnGuest}

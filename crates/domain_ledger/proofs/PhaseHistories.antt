@@ -33,8 +33,8 @@ use Rattle.domain_asks.specs.PhaseGoing.{IsPhaseAnswered, IsPhaseNow}
 use Rattle.domain_asks.specs.PhaseLaws.{IsPhasedBy}
 use Rattle.domain_asks.proofs.PhaseGoing.{first_phase_is_away, first_phase_is_done, is_phased_then, phase_stays_away}
 use Rattle.domain_asks.proofs.Phasing.{is_phased_ended, is_phased_starved}
-use Rattle.domain_driver.specs.Fits.{FitsPhase}
-use Rattle.domain_driver.specs.declared.phases.PhaseParts.{PhaseParts}
+use Rattle.domain_asks.specs.Below.domain_driver.Fits.{FitsPhase}
+use Rattle.domain_asks.specs.Below.domain_driver.declared.phases.PhaseParts.{PhaseParts}
 use Rattle.domain_history.specs.Closing as chapter
 use Rattle.domain_history.specs.Closing.{CanPhase, due_of, phased_in, phased_of}
 use Rattle.domain_history.specs.Numbered.{all_numbered}

@@ -9,7 +9,7 @@ use Rattle.domain_asks.specs.Along.{Asked}
 use Rattle.domain_asks.specs.Copying.{writes_second}
 use Rattle.domain_asks.specs.Away.{IsAway}
 use Rattle.domain_asks.specs.PhaseAway.{IsPhaseAway}
-use Rattle.domain_driver.specs.Fits.{FitsCall, FitsPhase}
+use Rattle.domain_asks.specs.Below.domain_driver.Fits.{FitsCall, FitsPhase}
 use Rattle.domain_ledger.specs.declared.away.Away.{Away}
 use Rattle.domain_ledger.specs.declared.out.Out.{Out}
 use Rattle.domain_ledger.specs.declared.out.Out.TheVariants as out

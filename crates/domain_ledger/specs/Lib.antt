@@ -7,3 +7,4 @@ pub mod PhaseTurn
 pub mod Told
 pub mod Turn
 pub mod Turned
+pub mod Below

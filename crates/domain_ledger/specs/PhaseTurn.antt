@@ -12,8 +12,8 @@ use Rattle.domain_asks.specs.Along.{Asked}
 use Rattle.domain_asks.specs.Starving.{AreAsks, next_in, starved}
 use Rattle.domain_asks.specs.AwayLaws.{made}
 use Rattle.domain_asks.specs.PhaseCopying.{with_answer}
-use Rattle.domain_driver.specs.Fits.{FitsPhase}
-use Rattle.domain_driver.specs.declared.phases.PhaseParts.{PhaseParts}
+use Rattle.domain_asks.specs.Below.domain_driver.Fits.{FitsPhase}
+use Rattle.domain_asks.specs.Below.domain_driver.declared.phases.PhaseParts.{PhaseParts}
 use Rattle.domain_history.specs.Closing.{CanPhase, phased_in}
 use Rattle.domain_history.specs.Standing.{HistoryWithRoom}
 use Rattle.domain_ledger.specs.Away.{HasCopyRoom, HasPhaseRooms, IsOut}

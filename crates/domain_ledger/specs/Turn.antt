@@ -10,8 +10,8 @@ use Rattle.domain_asks.specs.Along.{Asked, answered}
 use Rattle.domain_asks.specs.Starving.{AreAsks, next_in, starved}
 use Rattle.domain_asks.specs.AwayLaws.{made}
 use Rattle.domain_asks.specs.Going.{first_course}
-use Rattle.domain_driver.specs.Fits.{FitsCall}
-use Rattle.domain_driver.specs.declared.calls.CallParts.{CallParts}
+use Rattle.domain_asks.specs.Below.domain_driver.Fits.{FitsCall}
+use Rattle.domain_asks.specs.Below.domain_driver.declared.calls.CallParts.{CallParts}
 use Rattle.domain_history.specs.Closing.{CanDo, done_in, told_in}
 use Rattle.domain_history.specs.Numbered.{all_numbered}
 use Rattle.domain_history.specs.Standing.{HistoryWithRoom, in_force}

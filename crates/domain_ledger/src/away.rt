@@ -2,13 +2,12 @@
 ghost use Rattle.std.specs.Prelude.{◌≡◌, ◌≤◌, ◌<◌, [], IfOk};
 ghost use Rattle.domain_spec.specs.Types.reply;
 ghost use Rattle.domain_spec.specs.Types.value;
-ghost use Rattle.domain_driver.specs.Fits.{FitsCall};
+ghost use Rattle.domain_asks.specs.Below.domain_driver.Fits.{FitsCall};
 ghost use Rattle.domain_ledger.specs.Away.{HasRooms};
 ghost use Rattle.domain_ledger.specs.Turn.{IsReady};
 ghost use Rattle.domain_asks.specs.Tidy.{planned};
 
-use domain_asks::{Course, course_of};
-use domain_driver::{CallParts, parts};
+use domain_asks::{CallParts, Course, course_of, parts};
 use std::alloc::Global;
 use virt_types::{
     Boxed, Call, NoMemory, Reply, RoomyList, State, TransitionList, TryCopy, Value, both,

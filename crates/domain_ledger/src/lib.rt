@@ -13,6 +13,9 @@ mod phase_out;
 mod phase_turns;
 mod turns;
 
+pub use domain_history::{
+    Chronicle, KeptRegistration, LetIn, Underway, job_held, operation_held, read, takes_up,
+};
 pub use laws::{
     away_calls_wait, done_calls_are_left, let_in_calls_are_left, starved_asks_find_no_memory,
 };

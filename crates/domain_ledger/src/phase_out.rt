@@ -7,7 +7,7 @@ ghost use Rattle.domain_asks.specs.Copying.{written};
 ghost use Rattle.domain_asks.specs.Starving.{next_in};
 ghost use Rattle.domain_asks.specs.PhaseCopying.{plan_after, with_answer};
 ghost use Rattle.domain_asks.specs.PhaseGoing.{first_phase};
-ghost use Rattle.domain_driver.specs.Fits.{FitsPhase};
+ghost use Rattle.domain_asks.specs.Below.domain_driver.Fits.{FitsPhase};
 ghost use Rattle.domain_ledger.specs.Away.{HasCopyRoom, HasPhaseRooms};
 ghost use Rattle.domain_ledger.specs.Operations.{IsFirstOf};
 ghost use Rattle.domain_ledger.specs.PhaseTurn.{IsMadeFor, IsPhaseReady, IsReadyFor, IsUnderway};
@@ -15,8 +15,7 @@ ghost use Rattle.domain_ledger.specs.Turn.{force_in};
 
 use crate::away::rooms;
 use core_rules::{StateRoom, live_boot};
-use domain_asks::{Course, phase_course_of};
-use domain_driver::{PhaseParts, phase_parts};
+use domain_asks::{Course, PhaseParts, phase_course_of, phase_parts};
 use domain_history::Chapter;
 use domain_spec::OpenOperation;
 use std::alloc::Global;

@@ -26,3 +26,4 @@ pub mod Taking
 pub mod TellingTurns
 pub mod Turned
 pub mod Waiters
+pub mod Below

@@ -24,3 +24,4 @@ pub mod Runs
 pub mod Telling
 pub mod Turned
 pub mod Turns
+pub mod Below

@@ -20,8 +20,8 @@ use Rattle.domain_spec.specs.Refusals.{invalid}
 use Rattle.domain_spec.specs.Sequential.{answered_step, ended_step, meets_ended, seq, tested_step}
 use Rattle.domain_spec.specs.TakeUp.{meets_another, step_at}
 use Rattle.domain_spec.specs.Tests.{refusal_of}
-use Rattle.domain_asks.specs.Along.{Asked, answered}
-use Rattle.domain_asks.specs.Starving.{starved}
+use Rattle.domain_ledger.specs.Below.domain_asks.Along.{Asked, answered}
+use Rattle.domain_ledger.specs.Below.domain_asks.Starving.{starved}
 use Rattle.domain_ledger.specs.Ledger as ledger
 use Rattle.domain_ledger.specs.declared.ledger.Back.TheVariants as back
 use Rattle.domain_ledger.specs.Ledger.{Chaptered, IsClosed, IsDoneLawful, Ledgered, closing, done_by, loss, now_in, standing_in, with_marks}

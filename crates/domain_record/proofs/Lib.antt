@@ -7,3 +7,4 @@ pub mod NextChapter
 pub mod OneByOne
 pub mod Phasing
 pub mod Registered
+pub mod Below

@@ -12,12 +12,12 @@ use Rattle.domain_spec.specs.Fold.{lost_boot}
 use Rattle.domain_spec.specs.Legal.{IsLegal}
 use Rattle.domain_spec.specs.Phase.{phase_of}
 use Rattle.domain_spec.specs.Reading.{live_boot}
-use Rattle.domain_asks.specs.Along.{Asked}
-use Rattle.domain_asks.specs.Starving.{starved}
-use Rattle.domain_asks.specs.AwayLaws.{made}
-use Rattle.domain_asks.specs.PhaseCopying.{with_answer}
+use Rattle.domain_ledger.specs.Below.domain_asks.Along.{Asked}
+use Rattle.domain_ledger.specs.Below.domain_asks.Starving.{starved}
+use Rattle.domain_ledger.specs.Below.domain_asks.AwayLaws.{made}
+use Rattle.domain_ledger.specs.Below.domain_asks.PhaseCopying.{with_answer}
 use Rattle.domain_ledger.proofs.Silent.{lost_phase_is_silent}
-use Rattle.domain_history.specs.Closing.{due_of}
+use Rattle.domain_ledger.specs.Below.domain_history.Closing.{due_of}
 use Rattle.domain_ledger.specs.Ledger as ledger
 use Rattle.domain_ledger.specs.Ledger.{Chaptered, IsPhaseClosed, IsPhaseLawful, Ledgered, loss, now_in, phase_closing, phased_by, standing_in, step_in, with_marks}
 use Rattle.domain_ledger.specs.Operations.{nested_in}

@@ -1,3 +1,4 @@
 pub mod Following
 pub mod Operating
 pub mod Record
+pub mod Below

@@ -4,9 +4,9 @@ use Rattle.domain_spec.specs.Types.{Call, Who}
 use Rattle.domain_spec.specs.declared.mark.Mark.TheVariants as mark
 use Rattle.domain_spec.specs.Sequential.{goes_on_as_operation}
 use Rattle.domain_spec.specs.TakeUp.{takes_it_up}
-use Rattle.domain_asks.specs.Along.{Asked}
-use Rattle.domain_asks.specs.Starving.{starved}
-use Rattle.domain_asks.specs.Going.{first_course}
+use Rattle.domain_ledger.specs.Below.domain_asks.Along.{Asked}
+use Rattle.domain_ledger.specs.Below.domain_asks.Starving.{starved}
+use Rattle.domain_ledger.specs.Below.domain_asks.Going.{first_course}
 use Rattle.domain_ledger.specs.Operations.{IsFirst, nested_in}
 use Rattle.domain_ledger.specs.declared.ledger.Begun.{Begun}
 use Rattle.domain_ledger.specs.declared.ledger.Begun.TheVariants as begun

@@ -14,10 +14,10 @@ use Rattle.domain_spec.specs.Legal.{IsLegal}
 use Rattle.domain_spec.specs.Registrations.{registrations_at, with_pending}
 use Rattle.domain_spec.specs.Turns.{AllHaveRoom, AreCut}
 use Rattle.core_rules.specs.declared.next.Next.TheVariants as next
-use Rattle.domain_asks.specs.Along.{Asked, answered}
-use Rattle.domain_asks.specs.Starving.{next_in, starved}
-use Rattle.domain_asks.specs.Going.{first_course}
-use Rattle.domain_asks.specs.PhaseCopying.{with_answer}
+use Rattle.domain_ledger.specs.Below.domain_asks.Along.{Asked, answered}
+use Rattle.domain_ledger.specs.Below.domain_asks.Starving.{next_in, starved}
+use Rattle.domain_ledger.specs.Below.domain_asks.Going.{first_course}
+use Rattle.domain_ledger.specs.Below.domain_asks.PhaseCopying.{with_answer}
 use Rattle.domain_ledger.specs.Ledger.{Chaptered, IsDoneLawful, IsPhaseLawful, IsTold, Ledgered, answered_in, closing, phase_closing, standing_in, step_in, with_marks}
 use Rattle.domain_ledger.specs.Told.{told_last}
 use Rattle.domain_ledger.specs.declared.ledger.Back.{Back}

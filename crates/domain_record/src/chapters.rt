@@ -5,8 +5,7 @@ ghost use Rattle.domain_ledger.specs.Ledger.{now_in};
 ghost use Rattle.domain_listeners.specs.Listening.{registrations};
 ghost use Rattle.domain_record.specs.Record.{IsHeld, recorded};
 
-use domain_history::KeptRegistration;
-use domain_ledger::Ledger;
+use domain_ledger::{KeptRegistration, Ledger};
 use domain_listeners::{Listener, Listeners};
 use std::alloc::Global;
 use virt_types::{ListOf, NoMemory, RoomyList};

@@ -10,4 +10,8 @@ mod operations;
 mod record;
 mod telling;
 
+pub use domain_ledger::{
+    Back, Begun, Chronicle, Entry, LetIn, PhaseEntry, Step, Underway, job_held, job_of,
+    operation_held, read, takes_up,
+};
 pub use record::Record;

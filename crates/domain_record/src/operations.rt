@@ -3,7 +3,7 @@ ghost use Rattle.std.specs.Prelude.{◌≡◌, ◌≤◌, ◌<◌, ◌+◌, ◌�
 ghost use Rattle.domain_spec.specs.Call.{begins, job_of, takes_up};
 ghost use Rattle.domain_spec.specs.Legal.{IsLawful};
 ghost use Rattle.domain_spec.specs.declared.mark.Mark.TheVariants as mark;
-ghost use Rattle.domain_history.specs.Closing.{reply_in};
+ghost use Rattle.domain_ledger.specs.Below.domain_history.Closing.{reply_in};
 ghost use Rattle.domain_ledger.specs.Ledger.{now_in};
 ghost use Rattle.domain_ledger.specs.Operations.{IsToldAtEnd, MayPhase};
 ghost use Rattle.domain_listeners.specs.Listening.{registrations};

@@ -15,7 +15,7 @@ use crate::numbers::{passed_one, refuse_number};
 use crate::refusing::refuse;
 use crate::task::{Parsed, Task};
 use crate::texts::{read_device, read_snapshot};
-use definition_fill::fill_device;
+use device_xml::fill_device;
 use std::alloc::Global;
 use virt_types::{
     Boxed, Call, DomainRequest, Name, OrNoMemory, Query, Random, Refusal, RefusalCode, Text,

@@ -4,7 +4,7 @@ ghost use Rattle.session_spec.specs.Refused.{at_place};
 ghost use Rattle.virt_types.specs.Memory.{UnlessNoMemory};
 ghost use Rattle.domain_requests.specs.Texts.{device_in, snapshot_in};
 
-use markup::read_tree;
+use device_xml::read_tree;
 use std::alloc::Global;
 use virt_types::{DeviceDef, NoMemory, OrNoMemory, SnapInfo, Text};
 

@@ -30,7 +30,7 @@ use Rattle.domain_obj.specs.declared.operating.operation.Operated.{Operated}
 use Rattle.domain_obj.specs.declared.operating.operation.Operated.TheVariants as operated
 use Rattle.outcome_spec.specs.Done.{IsCallOf, IsDone, call_in, reply_of, rest_of}
 use Rattle.outcome_spec.specs.Marks.{HasLeft}
-use Rattle.reply_texts.specs.Printed.{told}
+use Rattle.outcome_spec.specs.Below.reply_texts.Printed.{told}
 use Rattle.domain_tasks.specs.Passes.{known}
 use Rattle.domain_tasks.specs.Tasked.{IsStoppedAt}
 use Rattle.domain_tasks.specs.Telling.{IsPrinted}

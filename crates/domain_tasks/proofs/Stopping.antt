@@ -13,9 +13,9 @@ use Rattle.virt_types.specs.declared.value.Reply.TheVariants as reply
 use Rattle.domain_obj.specs.Replies.{TellsSpent}
 use Rattle.outcome_spec.specs.Rows.{DomainPass as KnownPass}
 use Rattle.outcome_spec.specs.Spent.{no_memory}
-use Rattle.refusal_replies.specs.Replies.{no_memory_reply, spent_reply}
-use Rattle.reply_texts.specs.Printed.{told}
-use Rattle.session_spec.specs.Refused.{refusal}
+use Rattle.domain_obj.specs.Below.refusal_replies.Replies.{no_memory_reply, spent_reply}
+use Rattle.outcome_spec.specs.Below.reply_texts.Printed.{told}
+use Rattle.outcome_spec.specs.Below.session_spec.Refused.{refusal}
 use Rattle.domain_tasks.specs.Tasked.{IsStoppedAt}
 use Rattle.domain_tasks.specs.Telling.{IsPrinted}
 

@@ -13,11 +13,11 @@ use Rattle.domain_obj.specs.declared.place.Seen.{Seen}
 use Rattle.domain_obj.specs.declared.queries.Queried.{Queried}
 use Rattle.domain_obj.specs.declared.queries.Queried.TheVariants as queried
 use Rattle.domain_obj.specs.declared.places.At.{At}
-use Rattle.domain_requests.specs.declared.task.Task.{Task}
-use Rattle.domain_requests.specs.declared.task.Task.TheVariants as task
+use Rattle.outcome_spec.specs.Below.domain_requests.declared.task.Task.{Task}
+use Rattle.outcome_spec.specs.Below.domain_requests.declared.task.Task.TheVariants as task
 use Rattle.outcome_spec.specs.Histories.{front_of}
 use Rattle.outcome_spec.specs.Read.{IsValue}
-use Rattle.reply_texts.specs.Printed.{told}
+use Rattle.outcome_spec.specs.Below.reply_texts.Printed.{told}
 use Rattle.domain_tasks.specs.Passes.{known}
 use Rattle.domain_tasks.specs.Serving.{HasDone, HasServed}
 use Rattle.domain_tasks.specs.Tasked.{Answers, HasTasked, IsGivenAt, IsStoppedAt, ReadsNow, SeesAt}

@@ -4,3 +4,4 @@ pub mod Serving
 pub mod Tasked
 pub mod OfObjects
 pub mod OfOutcomes
+pub mod Below

@@ -3,15 +3,15 @@ use Rattle.std.specs.Prelude.{◌≡◌, ◌⊎◌, ◌^◌, ℕ, Bool, List, de
 use Rattle.domain_obj.specs.InTurn.{DomainPass}
 use Rattle.domain_obj.specs.Running.{IsReady, IsSeen}
 use Rattle.domain_obj.specs.declared.place.Seen.{Seen}
-use Rattle.domain_requests.specs.declared.task.Task.{Task}
-use Rattle.domain_requests.specs.declared.task.Task.TheVariants as task
+use Rattle.outcome_spec.specs.Below.domain_requests.declared.task.Task.{Task}
+use Rattle.outcome_spec.specs.Below.domain_requests.declared.task.Task.TheVariants as task
 use Rattle.domain_spec.specs.Chapter.{rising_number}
 use Rattle.domain_spec.specs.Types.{Answer, Ask, Reply, Who}
 use Rattle.outcome_spec.specs.Histories.{front_of}
 use Rattle.outcome_spec.specs.Outcomes.{IsGiven}
 use Rattle.outcome_spec.specs.Rows.{DomainPass as KnownPass, IsLater}
 use Rattle.outcome_spec.specs.Spent.{no_memory}
-use Rattle.session_spec.specs.Refused.{refusal}
+use Rattle.outcome_spec.specs.Below.session_spec.Refused.{refusal}
 use Rattle.turn_cell.specs.Turning.{SamePass}
 use Rattle.virt_types.specs.declared.ask.GuestEvent.{GuestEvent}
 use Rattle.virt_types.specs.declared.caller.Front.{Front}

@@ -7,6 +7,6 @@ mod reading;
 mod tasks;
 mod telling;
 
-pub use domain_obj::{DomainObj, DomainPass, Queried};
-pub use outcome_spec::Outcome;
+pub use domain_obj::{Chronicle, DomainCell, DomainObj, DomainPass, Queried, ReplyRoom, no_memory};
+pub use outcome_spec::{Keeper, Opening, Outcome};
 pub use tasks::{Tasked, run_task};

@@ -4,9 +4,8 @@ ghost use Rattle.domain_tasks.specs.Serving.{HasRead};
 ghost use Rattle.domain_tasks.specs.Telling.{TellsQueried, front_by, seen_by};
 
 use crate::telling::spent;
-use domain_obj::{Desk, DomainObj, DomainPass, Queried, Seen};
+use domain_obj::{Desk, DomainObj, DomainPass, Queried, Seen, no_memory};
 use monitor_link::{Ears, Killer, Monitor};
-use refusal_replies::no_memory;
 use std::alloc::Global;
 use std::sync::Wait;
 use virt_types::{Front, Query, Reply};

@@ -5,8 +5,8 @@ ghost use Rattle.domain_tasks.specs.Telling.{IsPrinted, is_printed, not_built_re
 ghost use Rattle.domain_spec.specs.Refusals.{bare};
 ghost use Rattle.domain_spec.specs.Types.reply;
 
-use refusal_replies::{ReplyRoom, no_memory};
-use reply_texts::print_reply;
+use domain_obj::{ReplyRoom, no_memory};
+use outcome_spec::print_reply;
 use std::alloc::Global;
 use virt_types::{NoMemory, Refusal, RefusalCode, Reply, Text, Value};
 

@@ -1,2 +1,3 @@
 pub mod Title
 pub mod Kept
+pub mod Below

@@ -14,7 +14,7 @@ use virt_types::{DomainDef, Name, NoMemory, Text, TryCopy, both};
 pub fn print_domain(alloc: Global, def: &DomainDef) -> Result<Text, NoMemory>
     ensures { IfOk result (λ text. text ≡ text_of def.now) }
 {
-    definition_print::print_domain(alloc, def)
+    domain_xml::print_domain(alloc, def)
 }
 
 /// The entry of a definition: its name, the flag, its title and its text.

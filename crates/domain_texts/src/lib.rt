@@ -6,6 +6,7 @@ mod reading;
 mod stored;
 mod title;
 
+pub use domain_xml::print_live;
 pub use entry::{entry_of, print_domain};
 pub use reading::read_domain;
 pub use stored::read_stored;

@@ -4,8 +4,7 @@ ghost use Rattle.session_spec.specs.DefinitionText.{definition_in};
 ghost use Rattle.session_spec.specs.Refused.{at_place};
 ghost use Rattle.virt_types.specs.Memory.{UnlessNoMemory};
 
-use domain_xml::read;
-use markup::read_tree;
+use domain_xml::{read, read_tree};
 use std::alloc::Global;
 use virt_types::{DomainDef, NoMemory, OrNoMemory, Text};
 

@@ -2,16 +2,16 @@
 use denote.Builtin.{u64}
 use denote.Param.Send.{IsSend, plain_send, recorded_send, struct_send, view_send}
 use denote.Struct.Declared as struct
-use Rattle.domain_history.proofs.base.KeptRegistration.TheSendSync as registration
-use Rattle.domain_history.proofs.open.Underway.TheSendSync as underway
-use Rattle.domain_history.specs.contracts.base.ChapterBase
-use Rattle.domain_history.specs.contracts.base.ChapterBase.TheInside as base
-use Rattle.domain_history.specs.contracts.base.KeptRegistration
-use Rattle.domain_history.specs.contracts.chapter.Chapter
-use Rattle.domain_history.specs.contracts.chapter.Chapter.TheInside as chapter
-use Rattle.domain_history.specs.contracts.open.LetIn
-use Rattle.domain_history.specs.contracts.open.LetIn.TheInside as let_in
-use Rattle.domain_history.specs.contracts.open.Underway
+use Rattle.domain_obj.proofs.Below.domain_history.base.KeptRegistration.TheSendSync as registration
+use Rattle.domain_obj.proofs.Below.domain_history.open.Underway.TheSendSync as underway
+use Rattle.domain_obj.specs.Below.domain_history.contracts.base.ChapterBase
+use Rattle.domain_obj.specs.Below.domain_history.contracts.base.ChapterBase.TheInside as base
+use Rattle.domain_obj.specs.Below.domain_history.contracts.base.KeptRegistration
+use Rattle.domain_obj.specs.Below.domain_history.contracts.chapter.Chapter
+use Rattle.domain_obj.specs.Below.domain_history.contracts.chapter.Chapter.TheInside as chapter
+use Rattle.domain_obj.specs.Below.domain_history.contracts.open.LetIn
+use Rattle.domain_obj.specs.Below.domain_history.contracts.open.LetIn.TheInside as let_in
+use Rattle.domain_obj.specs.Below.domain_history.contracts.open.Underway
 use Rattle.domain_spec.proofs.mark.Mark.TheSendSync as mark
 use Rattle.domain_spec.specs.contracts.mark.Mark
 use Rattle.domain_threads.proofs.States.{state_field_send}

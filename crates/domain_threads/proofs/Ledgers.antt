@@ -6,13 +6,13 @@ use Rattle.core_rules.proofs.ends.CallEnd.TheSendSync as end
 use Rattle.core_rules.proofs.ends.PhaseTexts.TheSendSync as texts
 use Rattle.core_rules.proofs.state_room.StateRoom.TheSendSync as room
 use Rattle.core_rules.specs.contracts.state_room.StateRoom
-use Rattle.domain_asks.proofs.course.Course.TheSendSync as course
-use Rattle.domain_driver.specs.contracts.phases.PhaseParts
-use Rattle.domain_ledger.proofs.away.Away.TheSendSync as away
-use Rattle.domain_ledger.specs.contracts.ledger.Ledger
-use Rattle.domain_ledger.specs.contracts.ledger.Ledger.TheInside as ledger
-use Rattle.domain_ledger.specs.contracts.out.Out
-use Rattle.domain_ledger.specs.contracts.phase_out.PhaseOut
+use Rattle.domain_obj.proofs.Below.domain_asks.course.Course.TheSendSync as course
+use Rattle.domain_obj.specs.Below.domain_driver.contracts.phases.PhaseParts
+use Rattle.domain_obj.proofs.Below.domain_ledger.away.Away.TheSendSync as away
+use Rattle.domain_obj.specs.Below.domain_ledger.contracts.ledger.Ledger
+use Rattle.domain_obj.specs.Below.domain_ledger.contracts.ledger.Ledger.TheInside as ledger
+use Rattle.domain_obj.specs.Below.domain_ledger.contracts.out.Out
+use Rattle.domain_obj.specs.Below.domain_ledger.contracts.phase_out.PhaseOut
 use Rattle.domain_threads.proofs.Chapters.{chapter_send}
 use Rattle.domain_threads.proofs.States.{new_send}
 use Rattle.lifecycle_core.proofs.memory.PhaseParts.TheSendSync as lifecycle

@@ -3,3 +3,4 @@ pub mod Chapters
 pub mod Ledgers
 pub mod Objects
 pub mod States
+pub mod Below

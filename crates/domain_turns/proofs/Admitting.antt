@@ -22,7 +22,7 @@ use Rattle.domain_spec.specs.Open.{BeginsAlone, IsCarried, IsKnownBoot, IsOwnJob
 use Rattle.domain_spec.specs.Reading.{boots_of, live_boot}
 use Rattle.domain_spec.proofs.EndsOnce.{mark_counted}
 use Rattle.domain_spec.proofs.PhaseBoots.{boots_rise}
-use Rattle.domain_ledger.specs.Ledger.{standing_in}
+use Rattle.domain_record.specs.Below.domain_ledger.Ledger.{standing_in}
 use Rattle.domain_record.specs.Record.{Recorded, force_of}
 use Rattle.domain_turns.specs.Looking.{IsKnownFirst, boot_first}
 use Rattle.domain_turns.specs.Turning.{cell_of}

@@ -20,12 +20,12 @@ use Rattle.domain_spec.specs.Reading.{is_live}
 use Rattle.domain_spec.specs.Registrations.{with_pending}
 use Rattle.domain_spec.specs.Steps.{AnswersBy, Ends}
 use Rattle.domain_spec.specs.Turns.{AllHaveRoom, AnswersAfter}
-use Rattle.domain_asks.specs.Along.{Asked, answered}
-use Rattle.domain_asks.specs.Starving.{starved}
-use Rattle.domain_ledger.proofs.Turned.{starved_find_none}
-use Rattle.domain_ledger.specs.Away.{WaitsWith}
-use Rattle.domain_ledger.specs.Ledger.{Chaptered, answered_as, answered_in, closing, standing_in}
-use Rattle.domain_ledger.specs.Told.{told_last}
+use Rattle.domain_record.specs.Below.domain_asks.Along.{Asked, answered}
+use Rattle.domain_record.specs.Below.domain_asks.Starving.{starved}
+use Rattle.domain_record.proofs.Below.domain_ledger.Turned.{starved_find_none}
+use Rattle.domain_record.specs.Below.domain_ledger.Away.{WaitsWith}
+use Rattle.domain_record.specs.Below.domain_ledger.Ledger.{Chaptered, answered_as, answered_in, closing, standing_in}
+use Rattle.domain_record.specs.Below.domain_ledger.Told.{told_last}
 use Rattle.domain_listeners.specs.Listening.{registrations}
 use Rattle.domain_listeners.specs.Telling.{cuts_due, is_over, most_of}
 use Rattle.domain_record.specs.Record.{IsAsking, IsDoneWith, Recorded, force_of, with_cuts}

@@ -21,7 +21,7 @@ use Rattle.domain_spec.specs.Steps.{Occurs}
 use Rattle.domain_spec.specs.Turns.{AllHaveRoom, AreCut}
 use Rattle.domain_listeners.specs.Listening.{registrations}
 use Rattle.domain_listeners.specs.Telling.{cuts_due, is_over, most_of}
-use Rattle.domain_ledger.specs.Told.{told_last}
+use Rattle.domain_record.specs.Below.domain_ledger.Told.{told_last}
 use Rattle.domain_record.specs.Record.{HasMarked, Recorded, Tells, force_of, with_cuts}
 use Rattle.domain_record.proofs.Joining.{force_after}
 use Rattle.domain_turns.specs.Applying.{Applies, AppliesOne}

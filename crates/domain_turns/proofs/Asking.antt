@@ -14,14 +14,14 @@ use Rattle.domain_spec.specs.Reading.{carries_ended}
 use Rattle.domain_spec.specs.Sequential.{asked, still_asked}
 use Rattle.core_rules.specs.declared.next.Next.TheVariants as next
 use Rattle.core_rules.specs.Next.{next_of}
-use Rattle.domain_asks.specs.Along.{Asked}
-use Rattle.domain_asks.specs.Starving.{next_in}
-use Rattle.domain_asks.specs.Away.{IsAway}
-use Rattle.domain_asks.proofs.Planning.{asked_planned, still_planned}
-use Rattle.domain_asks.specs.PhaseAway.{IsPhaseAway}
-use Rattle.domain_asks.proofs.Keeping.{is_there}
-use Rattle.domain_ledger.specs.Away.{IsPhaseWaiting, WaitsWith}
-use Rattle.domain_ledger.specs.Ledger.{standing_in}
+use Rattle.domain_record.specs.Below.domain_asks.Along.{Asked}
+use Rattle.domain_record.specs.Below.domain_asks.Starving.{next_in}
+use Rattle.domain_record.specs.Below.domain_asks.Away.{IsAway}
+use Rattle.domain_record.proofs.Below.domain_asks.Planning.{asked_planned, still_planned}
+use Rattle.domain_record.specs.Below.domain_asks.PhaseAway.{IsPhaseAway}
+use Rattle.domain_record.proofs.Below.domain_asks.Keeping.{is_there}
+use Rattle.domain_record.specs.Below.domain_ledger.Away.{IsPhaseWaiting, WaitsWith}
+use Rattle.domain_record.specs.Below.domain_ledger.Ledger.{standing_in}
 use Rattle.domain_record.specs.Record.{Recorded, force_of}
 use Rattle.domain_turns.specs.Turning.{AsksLast, answers_of, cell_of}
 

@@ -24,16 +24,16 @@ use Rattle.domain_spec.specs.Registrations.{with_pending}
 use Rattle.domain_spec.specs.Steps.{AnswersBy}
 use Rattle.domain_spec.specs.Turns.{AllHaveRoom, AnswersAfter, GoOn, IsOwn}
 use Rattle.domain_spec.proofs.LawProofs.{standing-append}
-use Rattle.domain_asks.specs.Along.{Asked}
-use Rattle.domain_asks.specs.Starving.{starved}
-use Rattle.domain_asks.specs.AwayLaws.{made}
-use Rattle.domain_asks.specs.PhaseCopying.{with_answer}
-use Rattle.domain_history.specs.Closing.{due_of}
-use Rattle.domain_ledger.proofs.Operated.{phase_is_left}
-use Rattle.domain_ledger.specs.Ledger.{IsPhaseLawful, phase_closing, standing_in}
-use Rattle.domain_ledger.specs.Told.{told_last}
-use Rattle.domain_ledger.specs.declared.ledger.Back.TheVariants as back
-use Rattle.domain_ledger.specs.declared.phase_out.Step.{Step}
+use Rattle.domain_record.specs.Below.domain_asks.Along.{Asked}
+use Rattle.domain_record.specs.Below.domain_asks.Starving.{starved}
+use Rattle.domain_record.specs.Below.domain_asks.AwayLaws.{made}
+use Rattle.domain_record.specs.Below.domain_asks.PhaseCopying.{with_answer}
+use Rattle.domain_record.specs.Below.domain_history.Closing.{due_of}
+use Rattle.domain_record.proofs.Below.domain_ledger.Operated.{phase_is_left}
+use Rattle.domain_record.specs.Below.domain_ledger.Ledger.{IsPhaseLawful, phase_closing, standing_in}
+use Rattle.domain_record.specs.Below.domain_ledger.Told.{told_last}
+use Rattle.domain_record.specs.Below.domain_ledger.declared.ledger.Back.TheVariants as back
+use Rattle.domain_record.specs.Below.domain_ledger.declared.phase_out.Step.{Step}
 use Rattle.domain_listeners.specs.Listening.{registrations}
 use Rattle.domain_listeners.specs.Telling.{cuts_due}
 use Rattle.domain_record.specs.Record.{IsPhasedWith, Recorded, cuts_after, force_of, with_cuts}

@@ -6,11 +6,11 @@ use Rattle.domain_spec.specs.declared.open.OpenJob.{OpenJob}
 use Rattle.domain_spec.specs.CanTake.{CanTake}
 use Rattle.domain_spec.specs.Cell.{HeldEvent, LentEars, Queue}
 use Rattle.domain_spec.specs.Turns.{AllHaveRoom}
-use Rattle.domain_asks.specs.Along.{Asked, answered}
-use Rattle.domain_asks.specs.Starving.{starved}
-use Rattle.domain_ledger.specs.Ledger.{answered_in}
-use Rattle.domain_ledger.specs.declared.ledger.Back.{Back}
-use Rattle.domain_ledger.specs.declared.ledger.Back.TheVariants as back
+use Rattle.domain_record.specs.Below.domain_asks.Along.{Asked, answered}
+use Rattle.domain_record.specs.Below.domain_asks.Starving.{starved}
+use Rattle.domain_record.specs.Below.domain_ledger.Ledger.{answered_in}
+use Rattle.domain_record.specs.Below.domain_ledger.declared.ledger.Back.{Back}
+use Rattle.domain_record.specs.Below.domain_ledger.declared.ledger.Back.TheVariants as back
 use Rattle.domain_listeners.specs.Listening.{registrations}
 use Rattle.domain_record.specs.Record.{Recorded, force_of}
 use Rattle.domain_turns.specs.Answering.{Answers, GoesBack, IsNotPhased, IsNumbered, held_after}

@@ -28,10 +28,10 @@ use Rattle.domain_spec.specs.Steps.{AnswersBy, IsTurnedAway, LetsIn, TurnsAway}
 use Rattle.domain_spec.specs.TakeUp.{rests_for}
 use Rattle.domain_spec.specs.Turns.{GoOn, IsOwn}
 use Rattle.domain_spec.proofs.LawProofs.{standing-append}
-use Rattle.domain_asks.specs.Along.{Asked}
-use Rattle.domain_asks.specs.Going.{first_course}
-use Rattle.domain_ledger.specs.Ledger.{closing, standing_in}
-use Rattle.domain_ledger.specs.Told.{told_last}
+use Rattle.domain_record.specs.Below.domain_asks.Along.{Asked}
+use Rattle.domain_record.specs.Below.domain_asks.Going.{first_course}
+use Rattle.domain_record.specs.Below.domain_ledger.Ledger.{closing, standing_in}
+use Rattle.domain_record.specs.Below.domain_ledger.Told.{told_last}
 use Rattle.domain_listeners.specs.Listening.{registrations}
 use Rattle.domain_queue.specs.Waiting.{callers_in}
 use Rattle.domain_record.specs.Record.{HasMarked, IsDoneWith, Recorded, admit_of, cuts_after, force_of}
@@ -42,7 +42,7 @@ use Rattle.domain_turns.specs.Turning.{HasDone, HasTurned, IsSettled, Takes, cel
 use Rattle.domain_turns.proofs.LookedAt.{DoneAt, done_at, no_loss}
 use Rattle.domain_turns.proofs.Marks.{cuts_go_on, events_append, has_done, no_event_closing, no_event_cut}
 use Rattle.domain_turns.proofs.Waiting.{none_open}
-use Rattle.domain_ledger.proofs.Operated.{begun_is_left, refused_is_left, taken_up_is_left}
+use Rattle.domain_record.proofs.Below.domain_ledger.Operated.{begun_is_left, refused_is_left, taken_up_is_left}
 use Rattle.domain_turns.specs.Beginning.{Looks, WaitsSo}
 use Rattle.domain_turns.specs.OperationLaws.{BeginsAreTurns, CanTurn, TakeUpsAreTurns}
 use Rattle.domain_turns.specs.Phasing.{IsDue}

@@ -11,8 +11,8 @@ use Rattle.domain_spec.specs.Chapter.{next_base}
 use Rattle.domain_spec.specs.Fold.{after, at_base, standing}
 use Rattle.domain_spec.specs.Laws.{IsCounted}
 use Rattle.domain_spec.proofs.EndsOnce.{mark_counted}
-use Rattle.domain_asks.specs.Along.{Asked}
-use Rattle.domain_ledger.specs.Ledger.{Chaptered, standing_in}
+use Rattle.domain_record.specs.Below.domain_asks.Along.{Asked}
+use Rattle.domain_record.specs.Below.domain_ledger.Ledger.{Chaptered, standing_in}
 use Rattle.domain_listeners.specs.Listening.{Listening, registrations}
 use Rattle.domain_record.specs.Record.{HasMarked, Recorded, force_of}
 use Rattle.domain_record.proofs.Joining.{force_after}

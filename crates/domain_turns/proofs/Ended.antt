@@ -17,16 +17,16 @@ use Rattle.domain_spec.specs.Fold.{after}
 use Rattle.domain_spec.specs.Lawful.{IsEnded, NoneNested}
 use Rattle.domain_spec.specs.Legal.{IsLawful}
 use Rattle.domain_spec.specs.Open.{is_rest}
-use Rattle.domain_asks.specs.Along.{Asked}
-use Rattle.domain_history.specs.Closing.{reply_in, reply_of}
-use Rattle.domain_ledger.specs.Away.{IsPhaseWaiting, WaitsWith}
-use Rattle.domain_ledger.specs.Ledger.{standing_in}
+use Rattle.domain_record.specs.Below.domain_asks.Along.{Asked}
+use Rattle.domain_record.specs.Below.domain_history.Closing.{reply_in, reply_of}
+use Rattle.domain_record.specs.Below.domain_ledger.Away.{IsPhaseWaiting, WaitsWith}
+use Rattle.domain_record.specs.Below.domain_ledger.Ledger.{standing_in}
 use Rattle.domain_record.specs.Record.{HasMarked, Recorded, force_of}
 use Rattle.domain_record.proofs.Joining.{force_after}
 use Rattle.domain_turns.specs.Rooms.{HasEnd, ends_needed, marks_needed}
 use Rattle.domain_turns.specs.Turning.{cell_of}
 use Rattle.domain_turns.proofs.LookedAt.{no_loss}
-use Rattle.domain_ledger.proofs.Operated.{end_is_left}
+use Rattle.domain_record.proofs.Below.domain_ledger.Operated.{end_is_left}
 use Rattle.domain_turns.specs.OperationEnding.{CanEnd, IsOver}
 use Rattle.domain_turns.specs.OperationLaws.{EndsAreTurns}
 use Rattle.domain_turns.proofs.Taken.{stays}

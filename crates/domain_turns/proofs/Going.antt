@@ -11,10 +11,10 @@ use Rattle.domain_spec.specs.Registrations.{with_pending}
 use Rattle.domain_spec.specs.Steps.{AnswersBy}
 use Rattle.domain_spec.specs.Turns.{GoOn, GoesOnBy, IsOwn}
 use Rattle.domain_spec.proofs.LawProofs.{standing-append}
-use Rattle.domain_asks.specs.Along.{Asked}
-use Rattle.domain_ledger.proofs.Turned.{done_is_left}
-use Rattle.domain_ledger.specs.Ledger.{closing}
-use Rattle.domain_ledger.specs.Told.{told_last}
+use Rattle.domain_record.specs.Below.domain_asks.Along.{Asked}
+use Rattle.domain_record.proofs.Below.domain_ledger.Turned.{done_is_left}
+use Rattle.domain_record.specs.Below.domain_ledger.Ledger.{closing}
+use Rattle.domain_record.specs.Below.domain_ledger.Told.{told_last}
 use Rattle.domain_listeners.specs.Listening.{registrations}
 use Rattle.domain_record.specs.Record.{HasMarked, Recorded, Tells, cuts_after, force_of, with_cuts}
 use Rattle.domain_record.proofs.Joining.{force_after, marked_more}

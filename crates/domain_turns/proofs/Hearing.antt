@@ -8,8 +8,8 @@ use Rattle.domain_spec.specs.Chapter.{first_base}
 use Rattle.domain_spec.specs.Fold.{at_base, standing}
 use Rattle.domain_spec.specs.Laws.{IsCounted}
 use Rattle.domain_spec.specs.Reading.{live_boot}
-use Rattle.domain_asks.specs.Along.{Asked}
-use Rattle.domain_ledger.specs.Ledger.{Chaptered, standing_in}
+use Rattle.domain_record.specs.Below.domain_asks.Along.{Asked}
+use Rattle.domain_record.specs.Below.domain_ledger.Ledger.{Chaptered, standing_in}
 use Rattle.domain_record.specs.Record.{Recorded, force_of}
 use Rattle.domain_turns.specs.Looking.{with_room}
 use Rattle.domain_turns.specs.Rooms.{IsKept, marks_needed, rooms_lent, rooms_needed}

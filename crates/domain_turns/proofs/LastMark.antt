@@ -5,7 +5,7 @@ use Rattle.std.specs.List.{list_any}
 use Rattle.history_spec.specs.declared.stamp.Stamp.{Stamp}
 use Rattle.domain_spec.specs.declared.mark.Mark.{Mark}
 use Rattle.domain_spec.specs.declared.mark.Mark.TheVariants as mark
-use Rattle.domain_history.specs.Numbered.{all_numbered, numbered}
+use Rattle.domain_record.specs.Below.domain_history.Numbered.{all_numbered, numbered}
 use Rattle.domain_turns.specs.Places.{is_of_pass, last_place}
 
 -- one mark more

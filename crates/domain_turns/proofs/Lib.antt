@@ -32,3 +32,5 @@ pub mod Taken
 pub mod Took
 pub mod Waiting
 pub mod Watched
+pub mod Below
+pub mod OfLedger

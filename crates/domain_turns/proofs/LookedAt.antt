@@ -16,12 +16,12 @@ use Rattle.domain_spec.specs.Legal.{MarksLoss}
 use Rattle.domain_spec.specs.Registrations.{with_pending}
 use Rattle.domain_spec.specs.Steps.{LetsIn}
 use Rattle.domain_spec.specs.Turns.{AnswersAfter, GoOn}
-use Rattle.domain_asks.specs.Along.{Asked}
-use Rattle.domain_asks.specs.Starving.{starved}
-use Rattle.domain_asks.specs.Going.{first_course}
-use Rattle.domain_ledger.proofs.Turned.{let_in_is_left, starved_find_none}
-use Rattle.domain_ledger.specs.Ledger.{Chaptered, IsDoneLawful, IsTold, closing, standing_in}
-use Rattle.domain_ledger.specs.Told.{told_last}
+use Rattle.domain_record.specs.Below.domain_asks.Along.{Asked}
+use Rattle.domain_record.specs.Below.domain_asks.Starving.{starved}
+use Rattle.domain_record.specs.Below.domain_asks.Going.{first_course}
+use Rattle.domain_record.proofs.Below.domain_ledger.Turned.{let_in_is_left, starved_find_none}
+use Rattle.domain_record.specs.Below.domain_ledger.Ledger.{Chaptered, IsDoneLawful, IsTold, closing, standing_in}
+use Rattle.domain_record.specs.Below.domain_ledger.Told.{told_last}
 use Rattle.domain_listeners.specs.Listening.{registrations}
 use Rattle.domain_record.specs.Record.{IsAsking, IsDoneWith, Recorded, Tells, admit_of, cuts_after, force_of}
 use Rattle.domain_record.proofs.Held.{in_more}

@@ -17,8 +17,8 @@ use Rattle.domain_spec.specs.JobTable.{May}
 use Rattle.domain_spec.specs.Kept.{LooksOn, left_queue}
 use Rattle.domain_spec.specs.Open.{Excludes, MayAdmit, job_held, operation_held}
 use Rattle.domain_spec.specs.Reading.{live_boot}
-use Rattle.domain_asks.specs.Along.{Asked}
-use Rattle.domain_ledger.specs.Ledger.{standing_in}
+use Rattle.domain_record.specs.Below.domain_asks.Along.{Asked}
+use Rattle.domain_record.specs.Below.domain_ledger.Ledger.{standing_in}
 use Rattle.domain_queue.specs.Waiting.{callers_in}
 use Rattle.domain_record.specs.Record.{IsAsking, Recorded, admit_of, force_of}
 use Rattle.domain_record.proofs.Joining.{force_after}

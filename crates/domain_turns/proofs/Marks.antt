@@ -13,8 +13,8 @@ use Rattle.domain_spec.specs.Kept.{events_in}
 use Rattle.domain_spec.specs.Legal.{IsLegal}
 use Rattle.domain_spec.specs.Sequential.{seq}
 use Rattle.domain_spec.specs.Turns.{GoOn, MayLeave}
-use Rattle.domain_asks.specs.Along.{Asked}
-use Rattle.domain_ledger.specs.Ledger.{IsDoneLawful, IsTold, closing, loss}
+use Rattle.domain_record.specs.Below.domain_asks.Along.{Asked}
+use Rattle.domain_record.specs.Below.domain_ledger.Ledger.{IsDoneLawful, IsTold, closing, loss}
 use Rattle.domain_listeners.specs.Telling.{cuts_due, is_over, most_of}
 use Rattle.domain_turns.specs.Turning.{HasDone}
 

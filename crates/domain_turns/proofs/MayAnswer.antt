@@ -19,13 +19,13 @@ use Rattle.domain_spec.specs.Fold.{after, carries, job_at_exit}
 use Rattle.domain_spec.specs.Lawful.{IsUnsentUntilMade}
 use Rattle.domain_spec.specs.Reading.{boot_in, carries_ended, is_boot_in, is_live, live_boot, live_of}
 use Rattle.domain_spec.specs.Sequential.{meets_ended}
-use Rattle.domain_asks.specs.Along.{Asked, answered}
-use Rattle.domain_asks.specs.Starving.{starved}
-use Rattle.domain_ledger.proofs.Turned.{starved_find_none}
-use Rattle.domain_asks.specs.Away.{IsAway, IsOfKind, IsOnGuest, NoneSince}
-use Rattle.domain_ledger.specs.Away.{IsPhaseWaiting, WaitsWith}
-use Rattle.domain_ledger.specs.Ledger.{CanAnswerAs, MayAnswer, answered_in}
-use Rattle.domain_ledger.specs.Told.{told_last}
+use Rattle.domain_record.specs.Below.domain_asks.Along.{Asked, answered}
+use Rattle.domain_record.specs.Below.domain_asks.Starving.{starved}
+use Rattle.domain_record.proofs.Below.domain_ledger.Turned.{starved_find_none}
+use Rattle.domain_record.specs.Below.domain_asks.Away.{IsAway, IsOfKind, IsOnGuest, NoneSince}
+use Rattle.domain_record.specs.Below.domain_ledger.Away.{IsPhaseWaiting, WaitsWith}
+use Rattle.domain_record.specs.Below.domain_ledger.Ledger.{CanAnswerAs, MayAnswer, answered_in}
+use Rattle.domain_record.specs.Below.domain_ledger.Told.{told_last}
 use Rattle.domain_listeners.specs.Listening.{registrations}
 use Rattle.domain_spec.specs.Registrations.{with_pending}
 use Rattle.domain_record.specs.Record.{Recorded, force_of, with_cuts}

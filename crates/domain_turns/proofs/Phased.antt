@@ -29,14 +29,14 @@ use Rattle.domain_spec.specs.Steps.{IsPhaseLetIn}
 use Rattle.domain_spec.specs.Turns.{AnswersAfter, GoOn}
 use Rattle.domain_spec.proofs.EndsOnce.{mark_counted}
 use Rattle.domain_spec.proofs.LawProofs.{standing-append}
-use Rattle.domain_asks.specs.Along.{Asked}
-use Rattle.domain_asks.specs.Starving.{starved}
-use Rattle.domain_ledger.proofs.Turned.{starved_find_none}
-use Rattle.domain_ledger.proofs.Operated.{phase_let_in_is_left}
-use Rattle.domain_ledger.specs.Ledger.{IsPhaseLawful, loss, phase_closing, phased_by, standing_in, step_in, step_to, with_marks}
-use Rattle.domain_ledger.specs.Operations.{IsFirst, MayPhase, nested_admit, nested_in}
-use Rattle.domain_ledger.specs.Told.{told_last}
-use Rattle.domain_ledger.specs.declared.phase_out.Step.{Step}
+use Rattle.domain_record.specs.Below.domain_asks.Along.{Asked}
+use Rattle.domain_record.specs.Below.domain_asks.Starving.{starved}
+use Rattle.domain_record.proofs.Below.domain_ledger.Turned.{starved_find_none}
+use Rattle.domain_record.proofs.Below.domain_ledger.Operated.{phase_let_in_is_left}
+use Rattle.domain_record.specs.Below.domain_ledger.Ledger.{IsPhaseLawful, loss, phase_closing, phased_by, standing_in, step_in, step_to, with_marks}
+use Rattle.domain_record.specs.Below.domain_ledger.Operations.{IsFirst, MayPhase, nested_admit, nested_in}
+use Rattle.domain_record.specs.Below.domain_ledger.Told.{told_last}
+use Rattle.domain_record.specs.Below.domain_ledger.declared.phase_out.Step.{Step}
 use Rattle.domain_listeners.specs.Listening.{registrations}
 use Rattle.domain_record.specs.Record.{HasMarked, IsAsking, IsPhasedWith, Recorded, Tells, cuts_after, force_of}
 use Rattle.domain_record.proofs.Cuts.{legal_ending}

@@ -7,11 +7,11 @@ use Rattle.domain_spec.specs.declared.standing.Standing.{Standing}
 use Rattle.domain_spec.specs.Asks.{is_ended_answer}
 use Rattle.domain_spec.specs.Cell.{HeldEvent}
 use Rattle.domain_spec.specs.Reading.{is_live}
-use Rattle.domain_asks.specs.Along.{Asked}
-use Rattle.domain_ledger.specs.Away.{WaitsWith}
-use Rattle.domain_ledger.specs.Ledger.{MayAnswer}
-use Rattle.domain_ledger.specs.declared.ledger.Back.TheVariants as back
-use Rattle.domain_ledger.specs.declared.phase_out.Step.{Step}
+use Rattle.domain_record.specs.Below.domain_asks.Along.{Asked}
+use Rattle.domain_record.specs.Below.domain_ledger.Away.{WaitsWith}
+use Rattle.domain_record.specs.Below.domain_ledger.Ledger.{MayAnswer}
+use Rattle.domain_record.specs.Below.domain_ledger.declared.ledger.Back.TheVariants as back
+use Rattle.domain_record.specs.Below.domain_ledger.declared.phase_out.Step.{Step}
 use Rattle.domain_record.specs.Record.{GoesBack, Recorded, force_of}
 use Rattle.domain_record.proofs.Joining.{force_after}
 use Rattle.domain_turns.specs.Answering.{Answers, IsNumbered}

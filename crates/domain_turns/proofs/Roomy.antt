@@ -1,7 +1,7 @@
 -- Room for the marks that later turns may leave.
 use Rattle.std.proofs.Common.{◌≡◌, ℕ, ◌+◌, ◌≤◌, Option, None, Some, refl, sym, ap, subst, arith}
 use Rattle.domain_spec.specs.declared.open.OpenOperation.{OpenOperation}
-use Rattle.domain_asks.specs.Along.{Asked}
+use Rattle.domain_record.specs.Below.domain_asks.Along.{Asked}
 use Rattle.domain_record.specs.Record.{Recorded, force_of}
 use Rattle.domain_turns.specs.Looking.{with_room}
 use Rattle.domain_turns.specs.Rooms.{HasEnd, ends_needed, marks_needed}

@@ -10,9 +10,9 @@ use Rattle.domain_spec.specs.Cell.{Cell, HeldEvent, LentEars, Queue, standing_of
 use Rattle.domain_spec.specs.Chapter.{next_base}
 use Rattle.domain_spec.specs.Kept.{held_by, left_queue}
 use Rattle.domain_spec.specs.Turns.{AllHaveRoom, AnswersAfter}
-use Rattle.domain_asks.specs.Along.{Asked}
-use Rattle.domain_ledger.specs.Away.{WaitsWith}
-use Rattle.domain_ledger.specs.Ledger.{Chaptered, standing_in}
+use Rattle.domain_record.specs.Below.domain_asks.Along.{Asked}
+use Rattle.domain_record.specs.Below.domain_ledger.Away.{WaitsWith}
+use Rattle.domain_record.specs.Below.domain_ledger.Ledger.{Chaptered, standing_in}
 use Rattle.domain_listeners.specs.Listening.{Listening, registrations}
 use Rattle.domain_record.specs.Record.{Recorded, force_of}
 use Rattle.domain_turns.specs.Turning.{FitsJob, HasTurned, IsSettled, Turning, answers_of, cell_of, turning}

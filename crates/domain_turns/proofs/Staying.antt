@@ -17,14 +17,14 @@ use Rattle.domain_spec.specs.Reading.{is_live}
 use Rattle.domain_spec.specs.Registrations.{with_pending}
 use Rattle.domain_spec.specs.Sequential.{seq}
 use Rattle.domain_spec.proofs.LawProofs.{standing-append}
-use Rattle.domain_asks.specs.Along.{Asked, answered}
-use Rattle.domain_asks.specs.Starving.{starved}
-use Rattle.domain_asks.specs.PhaseCopying.{with_answer}
-use Rattle.domain_ledger.specs.Ledger.{answered_in, closing, loss, phase_closing, phased_by}
-use Rattle.domain_ledger.specs.Told.{told_last}
-use Rattle.domain_ledger.specs.declared.ledger.Back.{Back}
-use Rattle.domain_ledger.specs.declared.ledger.Back.TheVariants as back
-use Rattle.domain_ledger.specs.declared.phase_out.Step.{Step}
+use Rattle.domain_record.specs.Below.domain_asks.Along.{Asked, answered}
+use Rattle.domain_record.specs.Below.domain_asks.Starving.{starved}
+use Rattle.domain_record.specs.Below.domain_asks.PhaseCopying.{with_answer}
+use Rattle.domain_record.specs.Below.domain_ledger.Ledger.{answered_in, closing, loss, phase_closing, phased_by}
+use Rattle.domain_record.specs.Below.domain_ledger.Told.{told_last}
+use Rattle.domain_record.specs.Below.domain_ledger.declared.ledger.Back.{Back}
+use Rattle.domain_record.specs.Below.domain_ledger.declared.ledger.Back.TheVariants as back
+use Rattle.domain_record.specs.Below.domain_ledger.declared.phase_out.Step.{Step}
 use Rattle.domain_listeners.specs.Listening.{registrations}
 use Rattle.domain_listeners.specs.Telling.{cuts_due}
 use Rattle.domain_record.specs.Record.{IsAsking, IsDoneWith, IsPhasedWith, Recorded, Tells, cuts_after, force_of, with_cuts}

@@ -17,10 +17,10 @@ use Rattle.domain_spec.specs.Kept.{AppliesHeld, due_events, events_in, held_by, 
 use Rattle.domain_spec.specs.Reading.{is_live}
 use Rattle.domain_spec.specs.Registrations.{with_pending}
 use Rattle.domain_spec.specs.Turns.{AnswersAfter, AllHaveRoom}
-use Rattle.domain_asks.specs.Along.{Asked}
-use Rattle.domain_ledger.specs.Away.{WaitsWith}
-use Rattle.domain_ledger.specs.Ledger.{Chaptered, standing_in}
-use Rattle.domain_ledger.specs.Told.{told_last}
+use Rattle.domain_record.specs.Below.domain_asks.Along.{Asked}
+use Rattle.domain_record.specs.Below.domain_ledger.Away.{WaitsWith}
+use Rattle.domain_record.specs.Below.domain_ledger.Ledger.{Chaptered, standing_in}
+use Rattle.domain_record.specs.Below.domain_ledger.Told.{told_last}
 use Rattle.domain_listeners.specs.Listening.{registrations}
 use Rattle.domain_record.specs.Record.{Recorded, Tells, cuts_after, force_of, with_cuts}
 use Rattle.domain_record.proofs.Joining.{force_after}

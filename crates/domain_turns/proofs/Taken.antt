@@ -12,9 +12,9 @@ use Rattle.domain_spec.specs.Fold.{standing}
 use Rattle.domain_spec.specs.Kept.{AppliesHeld, WaitAfter, due_events, ears_after, events_in, held_by}
 use Rattle.domain_spec.specs.Registrations.{registrations_at}
 use Rattle.domain_spec.specs.Turns.{AllHaveRoom, AnswersAfter, MayLeave, base_after, kept_after, marks_after}
-use Rattle.domain_asks.specs.Along.{Asked}
-use Rattle.domain_ledger.specs.Away.{WaitsWith}
-use Rattle.domain_ledger.specs.Ledger.{Chaptered, standing_in}
+use Rattle.domain_record.specs.Below.domain_asks.Along.{Asked}
+use Rattle.domain_record.specs.Below.domain_ledger.Away.{WaitsWith}
+use Rattle.domain_record.specs.Below.domain_ledger.Ledger.{Chaptered, standing_in}
 use Rattle.domain_listeners.specs.Listening.{registrations}
 use Rattle.domain_record.specs.Record.{HasMarked, Recorded, force_of}
 use Rattle.domain_record.proofs.Joining.{force_after}

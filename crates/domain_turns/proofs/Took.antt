@@ -8,7 +8,7 @@ use Rattle.domain_spec.specs.CanTake.{CanTake}
 use Rattle.domain_spec.specs.Cell.{Cell, HeldEvent, LentEars, Queue}
 use Rattle.domain_spec.specs.Registrations.{registrations_taken, tells_loss}
 use Rattle.domain_spec.specs.Turns.{AllHaveRoom}
-use Rattle.domain_ledger.specs.Ledger.{standing_in}
+use Rattle.domain_record.specs.Below.domain_ledger.Ledger.{standing_in}
 use Rattle.domain_listeners.specs.Listening.{AreApart, Listening, dropped_by, emptied, emptied_by, is_lost, left_by, listening_of, loss_told, registrations, taken_by}
 use Rattle.domain_record.specs.Record.{Recorded, force_of}
 use Rattle.domain_record.proofs.Registered.{dropped_kept, room_taken, taken_kept}

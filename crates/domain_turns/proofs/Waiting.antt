@@ -5,11 +5,11 @@ use Rattle.domain_spec.specs.declared.open.OpenOperation.{OpenOperation}
 use Rattle.domain_spec.specs.declared.standing.Standing.{Standing}
 use Rattle.domain_spec.specs.CanTake.{WaitsForAnswer}
 use Rattle.domain_spec.specs.Cell.{HeldEvent, LentEars, Queue}
-use Rattle.domain_asks.specs.Along.{Asked}
-use Rattle.domain_ledger.proofs.Turned.{away_waits}
-use Rattle.domain_ledger.proofs.Operated.{away_phase_waits}
-use Rattle.domain_ledger.specs.Away.{IsPhaseWaiting, WaitsWith}
-use Rattle.domain_ledger.specs.Ledger.{standing_in}
+use Rattle.domain_record.specs.Below.domain_asks.Along.{Asked}
+use Rattle.domain_record.proofs.Below.domain_ledger.Turned.{away_waits}
+use Rattle.domain_record.proofs.Below.domain_ledger.Operated.{away_phase_waits}
+use Rattle.domain_record.specs.Below.domain_ledger.Away.{IsPhaseWaiting, WaitsWith}
+use Rattle.domain_record.specs.Below.domain_ledger.Ledger.{standing_in}
 use Rattle.domain_record.specs.Record.{Recorded, force_of}
 use Rattle.domain_turns.specs.Turning.{answers_of, cell_of}
 

@@ -9,9 +9,9 @@ use Rattle.domain_spec.specs.Cell.{Cell, HeldEvent, LentEars, Queue}
 use Rattle.domain_spec.specs.Fold.{after}
 use Rattle.domain_spec.specs.TakeUp.{is_vacant}
 use Rattle.domain_spec.specs.Turns.{AnswersAfter, IsNextClient}
-use Rattle.domain_asks.specs.Along.{Asked}
-use Rattle.domain_ledger.specs.Away.{WaitsWith}
-use Rattle.domain_ledger.specs.Ledger.{Chaptered, standing_in}
+use Rattle.domain_record.specs.Below.domain_asks.Along.{Asked}
+use Rattle.domain_record.specs.Below.domain_ledger.Away.{WaitsWith}
+use Rattle.domain_record.specs.Below.domain_ledger.Ledger.{Chaptered, standing_in}
 use Rattle.domain_listeners.specs.Listening.{IsLeastFree, Listening}
 use Rattle.domain_record.specs.Record.{HasMarked, Recorded, force_of}
 use Rattle.domain_record.proofs.Joining.{force_after}

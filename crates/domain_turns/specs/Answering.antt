@@ -9,13 +9,13 @@ use Rattle.domain_spec.specs.Asks.{is_ended_answer}
 use Rattle.domain_spec.specs.Call.{is_on_stored}
 use Rattle.domain_spec.specs.Cell.{HeldEvent, share_of}
 use Rattle.domain_spec.specs.Kept.{events_in}
-use Rattle.domain_asks.specs.Along.{Asked, answered}
-use Rattle.domain_asks.specs.Starving.{starved}
-use Rattle.domain_asks.specs.Away.{IsUnsent}
-use Rattle.domain_asks.specs.PhaseCopying.{with_answer}
-use Rattle.domain_ledger.specs.Ledger.{answered_in}
-use Rattle.domain_ledger.specs.declared.ledger.Back.{Back}
-use Rattle.domain_ledger.specs.declared.ledger.Back.TheVariants as back
+use Rattle.domain_record.specs.Below.domain_asks.Along.{Asked, answered}
+use Rattle.domain_record.specs.Below.domain_asks.Starving.{starved}
+use Rattle.domain_record.specs.Below.domain_asks.Away.{IsUnsent}
+use Rattle.domain_record.specs.Below.domain_asks.PhaseCopying.{with_answer}
+use Rattle.domain_record.specs.Below.domain_ledger.Ledger.{answered_in}
+use Rattle.domain_record.specs.Below.domain_ledger.declared.ledger.Back.{Back}
+use Rattle.domain_record.specs.Below.domain_ledger.declared.ledger.Back.TheVariants as back
 use Rattle.domain_record.specs.Record.{IsAsking, IsDoneWith, IsPhasedWith, Recorded, force_of}
 use Rattle.domain_turns.specs.Applying.{Applies}
 use Rattle.domain_turns.specs.Ending.{EndsFirst}

@@ -11,8 +11,8 @@ use Rattle.domain_spec.specs.JobTable.{MayBegin, MayTakeUp}
 use Rattle.domain_spec.specs.Kept.{left_queue}
 use Rattle.domain_spec.specs.Open.{Excludes, job_held, operation_held}
 use Rattle.domain_spec.specs.Reading.{live_boot}
-use Rattle.domain_ledger.specs.declared.ledger.Begun.{Begun}
-use Rattle.domain_ledger.specs.declared.ledger.Begun.TheVariants as begun
+use Rattle.domain_record.specs.Below.domain_ledger.declared.ledger.Begun.{Begun}
+use Rattle.domain_record.specs.Below.domain_ledger.declared.ledger.Begun.TheVariants as begun
 use Rattle.domain_record.specs.Operating.{Begins, TakesUp}
 use Rattle.domain_record.specs.Record.{Recorded, admit_of, force_of}
 use Rattle.domain_turns.specs.Looking.{IsFound, Waits, with_room}

@@ -21,3 +21,4 @@ pub mod Resting
 pub mod Rooms
 pub mod TurnLaws
 pub mod Turning
+pub mod Below

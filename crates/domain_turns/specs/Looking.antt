@@ -16,7 +16,7 @@ use Rattle.domain_spec.specs.Kept.{joined_queue, left_queue, looks_of}
 use Rattle.domain_spec.specs.Lawful.{IsLawfulRefusal}
 use Rattle.domain_spec.specs.Open.{Excludes, job_held, operation_held}
 use Rattle.domain_spec.specs.Reading.{live_boot}
-use Rattle.domain_ledger.specs.declared.ledger.Entry.TheVariants as entry
+use Rattle.domain_record.specs.Below.domain_ledger.declared.ledger.Entry.TheVariants as entry
 use Rattle.domain_queue.specs.Waiting.{callers_in}
 use Rattle.domain_record.specs.Record.{HasMarked, LetsIn, Recorded, force_of}
 use Rattle.domain_turns.specs.declared.looking.Looked.{Looked}

@@ -7,8 +7,8 @@ use Rattle.domain_spec.specs.declared.open.OpenOperation.{OpenOperation}
 use Rattle.domain_spec.specs.declared.step.Outcome.{Outcome}
 use Rattle.domain_spec.specs.declared.step.Outcome.TheVariants as outcome
 use Rattle.domain_spec.specs.Cell.{standing_of}
-use Rattle.domain_history.specs.Closing.{reply_in}
-use Rattle.domain_ledger.specs.Operations.{IsToldAtEnd}
+use Rattle.domain_record.specs.Below.domain_history.Closing.{reply_in}
+use Rattle.domain_record.specs.Below.domain_ledger.Operations.{IsToldAtEnd}
 use Rattle.domain_record.specs.Record.{HasMarked, Recorded, force_of}
 use Rattle.domain_turns.specs.Turning.{Takes, Turning}
 

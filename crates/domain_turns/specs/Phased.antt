@@ -7,8 +7,8 @@ use Rattle.domain_spec.specs.declared.step.Outcome.{Outcome}
 use Rattle.domain_spec.specs.declared.step.Outcome.TheVariants as outcome
 use Rattle.domain_spec.specs.Cell.{share_of}
 use Rattle.domain_spec.specs.Fold.{with_outcome}
-use Rattle.domain_ledger.specs.Ledger.{step_to}
-use Rattle.domain_ledger.specs.declared.phase_out.Step.{Step}
+use Rattle.domain_record.specs.Below.domain_ledger.Ledger.{step_to}
+use Rattle.domain_record.specs.Below.domain_ledger.declared.phase_out.Step.{Step}
 use Rattle.domain_turns.specs.Turning.{Turning}
 
 -- the Phase among these marks led to this, under this number

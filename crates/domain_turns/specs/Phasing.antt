@@ -6,7 +6,7 @@ use Rattle.domain_spec.specs.declared.open.OpenJob.{OpenJob}
 use Rattle.domain_spec.specs.declared.open.OpenOperation.{OpenOperation}
 use Rattle.domain_spec.specs.Cell.{share_of, standing_of}
 use Rattle.domain_spec.specs.Open.{OperationGoesOn}
-use Rattle.domain_ledger.specs.declared.ledger.PhaseEntry.TheVariants as entry
+use Rattle.domain_record.specs.Below.domain_ledger.declared.ledger.PhaseEntry.TheVariants as entry
 use Rattle.domain_record.specs.Operating.{EntersPhase}
 use Rattle.domain_record.specs.Record.{Recorded, force_of}
 use Rattle.domain_turns.specs.Looking.{with_room}

@@ -4,7 +4,7 @@ use Rattle.domain_spec.specs.declared.open.OpenOperation.{OpenOperation}
 use Rattle.domain_spec.specs.Cell.{HeldEvent, LentEars}
 use Rattle.domain_spec.specs.Fold.{at_base}
 use Rattle.domain_spec.specs.Laws.{IsCounted}
-use Rattle.domain_asks.specs.Along.{Asked}
+use Rattle.domain_record.specs.Below.domain_asks.Along.{Asked}
 use Rattle.domain_record.specs.Record.{Recorded, force_of}
 use Rattle.domain_turns.specs.Turning.{FitsJob}
 

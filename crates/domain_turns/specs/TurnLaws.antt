@@ -8,9 +8,9 @@ use Rattle.domain_spec.specs.CanTake.{CanLook, CanTake}
 use Rattle.domain_spec.specs.Cell.{HeldEvent, LentEars, Queue}
 use Rattle.domain_spec.specs.Reading.{live_boot}
 use Rattle.domain_spec.specs.Turns.{AllHaveRoom}
-use Rattle.domain_ledger.specs.declared.ledger.Back.{Back}
-use Rattle.domain_ledger.specs.declared.ledger.Back.TheVariants as back
-use Rattle.domain_ledger.specs.declared.phase_out.Step.{Step}
+use Rattle.domain_record.specs.Below.domain_ledger.declared.ledger.Back.{Back}
+use Rattle.domain_record.specs.Below.domain_ledger.declared.ledger.Back.TheVariants as back
+use Rattle.domain_record.specs.Below.domain_ledger.declared.phase_out.Step.{Step}
 use Rattle.domain_listeners.specs.Listening.{registrations}
 use Rattle.domain_record.specs.Record.{Recorded, force_of}
 use Rattle.domain_turns.specs.Answering.{Answers, GoesBack, IsNotPhased, held_after}

@@ -9,8 +9,8 @@ use Rattle.domain_spec.specs.declared.open.OpenJob.{OpenJob}
 use Rattle.domain_spec.specs.Cell.{Cell, HeldEvent, LentEars, OpenCall, Queue}
 use Rattle.domain_spec.specs.Chapter.{first_base}
 use Rattle.domain_spec.specs.Turns.{IsTurn, Leads}
-use Rattle.domain_asks.specs.Along.{Asked}
-use Rattle.domain_ledger.specs.Away.{WaitsWith}
+use Rattle.domain_record.specs.Below.domain_asks.Along.{Asked}
+use Rattle.domain_record.specs.Below.domain_ledger.Away.{WaitsWith}
 use Rattle.domain_listeners.specs.Listening.{Listening, registrations}
 use Rattle.domain_record.specs.Record.{Recorded, force_of}
 

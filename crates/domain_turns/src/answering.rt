@@ -10,8 +10,7 @@ ghost use Rattle.domain_turns.specs.Rooms.{marks_needed};
 use crate::applying::apply_all;
 use crate::held::{HeldEvent, OneRoom};
 use core_rules::is_live;
-use domain_ledger::Back;
-use domain_record::Record;
+use domain_record::{Back, Record};
 use history_spec::Stamp;
 use virt_types::{Answer, EndReason};
 

@@ -13,9 +13,8 @@ ghost use Rattle.domain_turns.specs.Beginning.{BeginsSo, Enters, TakesUpSo, Wait
 
 use crate::{Looked, jobs_held, leave, wait};
 use core_rules::live_boot;
-use domain_ledger::Begun;
 use domain_queue::Queue;
-use domain_record::Record;
+use domain_record::{Begun, Record};
 use history_spec::Stamp;
 use job_rules::{JobRecord, may_begin, may_take_up};
 use std::alloc::Global;

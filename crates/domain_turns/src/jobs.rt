@@ -3,8 +3,7 @@ ghost use Rattle.std.specs.Prelude.{◌≡◌, []};
 ghost use Rattle.domain_spec.specs.Open.{job_held, operation_held};
 ghost use Rattle.domain_record.specs.Record.{force_of};
 
-use domain_history::{job_held, operation_held};
-use domain_record::Record;
+use domain_record::{Record, job_held, operation_held};
 use job_rules::{JobRecord, Waiters};
 
 /// The normal job that is open and the operation that is under way. Who waits is kept elsewhere.

@@ -31,9 +31,10 @@ pub use client_laws::{
     takes_are_turns, unrotated_are_beginnings, unrotated_are_looks, unrotated_are_takings_up,
     watches_are_turns,
 };
-pub use domain_history::{Chronicle, LetIn, Underway, operation_held, takes_up};
-pub use domain_ledger::{Back, Step};
-pub use domain_record::Record;
+pub use domain_queue::Queue;
+pub use domain_record::{
+    Back, Chronicle, LetIn, Record, Step, Underway, operation_held, read, takes_up,
+};
 pub use ears::{LentEars, lend, rooms_lent, take_back};
 pub use ending::end_op;
 pub use ends::exit;

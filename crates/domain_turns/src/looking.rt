@@ -16,9 +16,8 @@ ghost use Rattle.domain_turns.specs.Looking.{Enters, IsTurned, LooksSo, Waits, b
 use crate::held::OneRoom;
 use crate::jobs::jobs_held;
 use core_rules::live_boot;
-use domain_ledger::{Entry, job_of};
 use domain_queue::Queue;
-use domain_record::Record;
+use domain_record::{Entry, Record, job_of};
 use domain_spec::{First, HeldJobs};
 use history_spec::Stamp;
 use job_rules::{JobRecord, WaitersFull, admits};

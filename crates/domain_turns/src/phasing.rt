@@ -8,8 +8,7 @@ ghost use Rattle.domain_turns.specs.Rooms.{HasEnd};
 ghost use Rattle.domain_turns.specs.Phasing.{EntersSo, IsDue, PhasesSo};
 
 use crate::{OneRoom, make_room};
-use domain_ledger::{PhaseEntry, Step};
-use domain_record::Record;
+use domain_record::{PhaseEntry, Record, Step};
 use history_spec::Stamp;
 use std::alloc::Global;
 use virt_types::{Ask, NoMemory, Who};

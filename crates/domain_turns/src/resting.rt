@@ -2,7 +2,7 @@
 ghost use Rattle.std.specs.Prelude.{◌≡◌};
 ghost use Rattle.domain_spec.specs.Refusals.{no_memory};
 ghost use Rattle.domain_spec.specs.Types.reply;
-ghost use Rattle.domain_ledger.specs.Operations.{IsToldAtEnd};
+ghost use Rattle.domain_record.specs.Below.domain_ledger.Operations.{IsToldAtEnd};
 ghost use Rattle.domain_record.specs.Record.{force_of};
 ghost use Rattle.domain_turns.specs.Resting.{rested_in};
 
@@ -22,7 +22,7 @@ fn no_memory(alloc: Global) -> Reply
 
 /// The reply of the phase that led the operation to rest: what the call is told that came so far, or, where there is
 /// no memory for one more copy of it, that.
-#[tactic(auto, using(domain_ledger::proofs::LastReply::told_so, domain_ledger::proofs::LastReply::told_none))]
+#[tactic(auto, using(crate::proofs::OfLedger::told_so, crate::proofs::OfLedger::told_none))]
 pub fn rest_reply(kept: &Record, alloc: Global) -> Reply
     ensures { IsToldAtEnd (rested_in (force_of kept.now).operation) result }
 {

@@ -5,8 +5,7 @@ ghost use Rattle.text_spec.specs.Tree.{seen};
 ghost use Rattle.uuid.specs.Text.{parsed};
 ghost use Rattle.domain_xml.specs.Parts as parts;
 
-use definition_words::domain_type_of;
-use element_table::{attribute_of, copied_value, entries_of, value_at};
+use element_table::{attribute_of, copied_value, domain_type_of, entries_of, value_at};
 use std::alloc::Global;
 use text_spec::{AttributeName, ElementName, Place, Source, Tree};
 use uuid::Uuid;

@@ -9,8 +9,7 @@ mod reading;
 mod resources;
 mod table;
 
-pub use definition_fill::fill_domain;
-pub use definition_print::print_domain;
-pub use live_print::print_live;
+pub use device_xml::{fill_domain, print_domain};
+pub use live_print::{print_live, read_tree};
 pub use reading::{read, what_is_read_fits};
 pub use text_spec::{DefFault, DefKind};

@@ -19,8 +19,7 @@ use crate::resources::{
     crash_in, current_memory_of, current_vcpus_of, lifecycle_in, memory_of, vcpus_of,
 };
 use crate::table::rows;
-use definition_print::domain_fits;
-use device_xml::devices_test;
+use device_xml::{devices_test, domain_fits};
 use element_table::{fault_at, fault_of_root, first_of, is_element, rows_test};
 use std::alloc::Global;
 use text_spec::{DefFault, DefKind, DeviceKind, ElementName, MOST_DEVICES, Place, Tree};

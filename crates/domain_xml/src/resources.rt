@@ -5,8 +5,9 @@ ghost use Rattle.text_spec.specs.GuestScript.{number_within};
 ghost use Rattle.text_spec.specs.Tree.{seen};
 
 use crate::head::own_text;
-use definition_words::{crash_action_of, lifecycle_action_of, read_number};
-use element_table::{first_of, memory_size, value_at};
+use element_table::{
+    crash_action_of, first_of, lifecycle_action_of, memory_size, read_number, value_at,
+};
 use text_spec::{AttributeName, ElementName, MOST_VCPUS, Place, Source, Tree};
 use virt_types::{CrashAction, LifecycleAction, Text};
 

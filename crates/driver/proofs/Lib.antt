@@ -4,3 +4,4 @@ pub mod Going
 pub mod Rejoined
 pub mod Opening
 pub mod Splitting
+pub mod Below

@@ -1,6 +1,6 @@
 -- The row of a driver that was opened may serve requests.
 use Rattle.std.proofs.Common.{◌≡◌, length, inr}
-use Rattle.def_keeper.specs.Turns as storing
+use Rattle.request_asks.specs.Below.def_keeper.Turns as storing
 use Rattle.driver_close.specs.OfCells as domain
 use Rattle.held_tasks.specs.OfRows.{DriverRow, IsReadyRow}
 use Rattle.files_disk.specs.Telling.{Told}

@@ -8,7 +8,7 @@ use Rattle.request_asks.specs.declared.asked.Asked.{Asked}
 use Rattle.request_asks.specs.declared.asked.Asked.TheVariants as asked
 use Rattle.request_asks.specs.declared.asked.Listing.{Listing}
 use Rattle.request_asks.specs.declared.asked.Listing.TheVariants as listing
-use Rattle.session_spec.specs.Bounds.{passed}
+use Rattle.request_asks.specs.Below.session_spec.Bounds.{passed}
 use Rattle.held_tasks.specs.OfDesks.{StorePass}
 use Rattle.virt_types.specs.declared.caller.Front.{Front}
 use Rattle.virt_types.specs.declared.refusal.Refusal.{Refusal}

@@ -3,7 +3,7 @@ use Rattle.std.proofs.Common.{◌≡◌, ◌-◌, ◌∙◌, ℕ, List, [], ◌�
 use Rattle.std.specs.List.{All, AllZip}
 use Rattle.std.proofs.lemmas.List.{length-map}
 use Rattle.std.proofs.lemmas.List.Elements.{All-cons, All-map, All-nil, All-push, All-weaker}
-use Rattle.def_keeper.specs.Turns as storing
+use Rattle.request_asks.specs.Below.def_keeper.Turns as storing
 use Rattle.driver_close.specs.OfCells as domain
 use Rattle.held_tasks.specs.OfObjects.{DomainPass}
 use Rattle.held_tasks.specs.OfRows.{DriverRow, IsReadyRow, KeepsNothing}

@@ -1,7 +1,7 @@
 -- What contracts see of a driver.
 use Rattle.std.specs.Prelude.{ℕ, List, Option}
 use Rattle.atomic_table.specs.Seated.{TableId}
-use Rattle.def_keeper.specs.Turns as storing
+use Rattle.request_asks.specs.Below.def_keeper.Turns as storing
 use Rattle.driver_close.specs.OfCells as domain
 use Rattle.held_tasks.specs.OfRows.{DriverRow}
 use Rattle.held_tasks.specs.declared.counting.CountingMaker.{CountingMaker}

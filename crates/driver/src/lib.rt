@@ -7,6 +7,8 @@ mod row_list;
 mod serving;
 mod the_driver;
 
-pub use held_tasks::{Row, unkept_of};
+pub use driver_close::{Books, DriverFault};
+pub use held_tasks::{Maker, MakerOf, Outcome, Row, unkept_of};
+pub use request_asks::Opening;
 pub use row_list::RowList;
 pub use the_driver::Driver;

@@ -7,13 +7,12 @@ ghost use Rattle.pass_rows.specs.Rows.{IsOf};
 ghost use Rattle.virt_types.specs.Drawn.{IsMadeOfDrawn};
 
 use crate::answers::{of_nobody, of_store};
-use def_keeper::Opening;
 use driver_lists::{list_all, list_defined, tell_titles};
 use files_disk::Files;
 use held_tasks::{Cells, Maker, Outcome, Row, run_out, serve_held, state_of};
 use pass_rows::{RestingPass, RowOf};
 use refusal_replies::no_memory;
-use request_asks::{Asked, Listing, read_request};
+use request_asks::{Asked, Listing, Opening, read_request};
 use std::alloc::Global;
 use std::sync::Wait;
 use virt_types::{Random, Reply, Request, Value, Who};

@@ -1,8 +1,8 @@
 // The driver: its cells, and the calls that activities make with their rows.
 ghost use Rattle.std.specs.Prelude.{◌≡◌, ◌≤◌, ◌<◌, IfErr, IfOk, length};
 ghost use Rattle.std.specs.List.{All};
-ghost use Rattle.def_keeper.specs.Opened.{IsSureAt};
-ghost use Rattle.def_keeper.specs.Safe.{KeepsAll};
+ghost use Rattle.request_asks.specs.Below.def_keeper.Opened.{IsSureAt};
+ghost use Rattle.request_asks.specs.Below.def_keeper.Safe.{KeepsAll};
 ghost use Rattle.driver_close.specs.Closed.{HasClosed, IsWhole};
 ghost use Rattle.held_tasks.specs.OfRows.{IsReadyRow, KeepsParts, known_row};
 ghost use Rattle.driver_close.specs.OfOpening.{HasCells, IsUnopened};
@@ -14,11 +14,11 @@ ghost use Rattle.driver.specs.Cells.{BecomesMany, IsIdleRow, IsRowOf};
 
 use crate::row_list::RowList;
 use crate::serving::serve;
-use def_keeper::Opening;
 use driver_close::{Books, DriverFault, HistoryRoom, Opened, close_cells, more, open_cells};
 use files_disk::Files;
 use held_tasks::{Cells, CountingMaker, Maker, MakerOf, Outcome, Row};
 use monitor_link::Guests;
+use request_asks::Opening;
 use std::alloc::Global;
 use std::marker::Model;
 use std::sync::Wait;

@@ -2,10 +2,10 @@
 use Rattle.std.proofs.Common.{◌≡◌, ◌⊎◌, ℕ, zero, suc, Bool, true, false, List, [], ◌∷◌, map, slice_get, Some, inl, inr, ⊎_elim, refl, arith}
 use Rattle.std.specs.List.{All}
 use Rattle.std.proofs.lemmas.List.Elements.{All-cons, All-nil}
-use Rattle.domain_cell.specs.Meaning.{meaning}
+use Rattle.domain_tasks.specs.Below.domain_cell.Meaning.{meaning}
 use Rattle.domain_tasks.specs.OfObjects.{DomainPass}
 use Rattle.object_list.specs.Keeping.{meaning as list_meaning}
-use Rattle.def_keeper.specs.Turns.{meaning as store_meaning}
+use Rattle.domain_tasks.specs.Below.def_keeper.Turns.{meaning as store_meaning}
 use Rattle.files_disk.specs.Telling.{Told}
 use Rattle.domain_tasks.specs.OfOutcomes.{DomainPass as KnownPass, HasSpent}
 use Rattle.pass_rows.specs.Resting.{IsIdle}

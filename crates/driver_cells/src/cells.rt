@@ -1,7 +1,5 @@
 // The cells of a driver, and rows of passes for them.
-use def_keeper::{Keeper, Opening};
-use domain_cell::DomainCell;
-use domain_tasks::DomainObj;
+use domain_tasks::{DomainCell, DomainObj, Keeper, Opening};
 use files_disk::Files;
 use monitor_link::{Ears, Killer, Monitor};
 use object_list::ObjectList;

@@ -6,7 +6,8 @@ mod resting;
 mod spent;
 
 pub use cells::{Cells, Row};
-pub use domain_cell::{Chronicle, DomainCell};
-pub use domain_tasks::{DomainObj, DomainPass, Outcome, Queried, Tasked, run_task};
+pub use domain_tasks::{
+    Chronicle, DomainCell, DomainObj, DomainPass, Outcome, Queried, Tasked, run_task,
+};
 pub use resting::state_of;
 pub use spent::{NO_FRONT, run_out};

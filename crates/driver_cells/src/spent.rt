@@ -3,8 +3,7 @@ ghost use Rattle.std.specs.Prelude.{◌≡◌};
 ghost use Rattle.domain_tasks.specs.OfObjects.{TellsSpent};
 ghost use Rattle.driver_cells.specs.Fronts.{no_front};
 
-use domain_tasks::Outcome;
-use refusal_replies::{ReplyRoom, no_memory};
+use domain_tasks::{Outcome, ReplyRoom, no_memory};
 use std::alloc::Global;
 use virt_types::{CellName, Front, NoMemory};
 

@@ -3,3 +3,4 @@ pub mod Last
 pub mod OfCells
 pub mod OfOpening
 pub mod Laws
+pub mod Below

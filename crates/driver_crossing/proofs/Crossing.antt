@@ -12,21 +12,21 @@ use Rattle.def_keeper.specs.contracts.kept.KeeperKept.TheImpl as storing
 use Rattle.def_keeper.specs.contracts.mark.StoreBase
 use Rattle.def_keeper.specs.contracts.mark.StoreMark
 use Rattle.def_keeper.specs.declared.opening.Opening as opening
-use Rattle.domain_cell.specs.contracts.cell.DomainCell
-use Rattle.domain_cell.specs.contracts.kept.DomainCellKept.TheImpl as domain
-use Rattle.domain_cell.specs.contracts.kept.Share
-use Rattle.domain_obj.specs.contracts.object.DomainObj
+use Rattle.domain_threads.specs.Below.domain_cell.contracts.cell.DomainCell
+use Rattle.domain_threads.specs.Below.domain_cell.contracts.kept.DomainCellKept.TheImpl as domain
+use Rattle.domain_threads.specs.Below.domain_cell.contracts.kept.Share
+use Rattle.domain_threads.specs.Below.domain_obj.contracts.object.DomainObj
 use Rattle.domain_spec.specs.contracts.mark.Mark
 use Rattle.domain_spec.specs.contracts.standing.Base
 use Rattle.domain_threads.proofs.Cells.{cell_send}
 use Rattle.domain_threads.proofs.Objects.{object_sync}
-use Rattle.driver.specs.contracts.the_driver.Driver
-use Rattle.driver.specs.contracts.the_driver.Driver.TheInside as driver
-use Rattle.driver_cells.specs.contracts.cells.Cells
+use Rattle.driver_service.specs.Below.driver.contracts.the_driver.Driver
+use Rattle.driver_service.specs.Below.driver.contracts.the_driver.Driver.TheInside as driver
+use Rattle.driver_service.specs.Below.driver_cells.contracts.cells.Cells
 use Rattle.driver_crossing.proofs.Shared.{room_sync}
 use Rattle.files_disk.specs.declared.files.Files as files
-use Rattle.held_tasks.proofs.counting.CountingMaker.TheSendSync as counting
-use Rattle.held_tasks.specs.contracts.counting.CountingMaker
+use Rattle.driver_service.proofs.Below.held_tasks.counting.CountingMaker.TheSendSync as counting
+use Rattle.driver_service.specs.Below.held_tasks.contracts.counting.CountingMaker
 use Rattle.monitor_link.specs.declared.link.Ears as ears
 use Rattle.monitor_link.specs.declared.link.Guests as guests
 use Rattle.monitor_link.specs.declared.link.Killer as killer
@@ -36,10 +36,10 @@ use Rattle.object_list.specs.contracts.kept.ObjectListKept.TheImpl as listing
 use Rattle.object_list.specs.contracts.list.ObjectList
 use Rattle.pass_rows.proofs.row.RowOf.TheSendSync as row
 use Rattle.pass_rows.specs.contracts.row.RowOf
-use Rattle.row_desk.proofs.maker.MakerOf.TheSendSync as maker
-use Rattle.row_desk.specs.contracts.maker.MakerOf
-use Rattle.row_desk.specs.contracts.maker.MakerOfMaker.TheImpl as maker_of
-use Rattle.row_desk.specs.declared.maker.Maker as making
+use Rattle.driver_service.proofs.Below.row_desk.maker.MakerOf.TheSendSync as maker
+use Rattle.driver_service.specs.Below.row_desk.contracts.maker.MakerOf
+use Rattle.driver_service.specs.Below.row_desk.contracts.maker.MakerOfMaker.TheImpl as maker_of
+use Rattle.driver_service.specs.Below.row_desk.declared.maker.Maker as making
 use Rattle.std.proofs.alloc.Global.TheSendSync as global
 use Rattle.std.proofs.Crossing.{Vec-sync}
 use Rattle.std.proofs.option.Option.TheSendSync as option

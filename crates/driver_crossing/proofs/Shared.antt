@@ -7,18 +7,18 @@ use denote.RattleType.{RattleType}
 use denote.Struct.Declared as struct
 use denote.Struct.Tuple as tuple
 use mathlib.Core.List.{List, [], ◌∷◌}
-use Rattle.domain_history.proofs.base.KeptRegistration.TheSendSync as registration
-use Rattle.domain_history.proofs.open.Underway.TheSendSync as underway
-use Rattle.domain_history.specs.contracts.base.ChapterBase
-use Rattle.domain_history.specs.contracts.base.ChapterBase.TheInside as base
-use Rattle.domain_history.specs.contracts.base.KeptRegistration
-use Rattle.domain_history.specs.contracts.chronicle.Chronicle
-use Rattle.domain_history.specs.contracts.chronicle.Chronicle.TheInside as chronicle
-use Rattle.domain_history.specs.contracts.open.Underway
+use Rattle.domain_threads.proofs.Below.domain_history.base.KeptRegistration.TheSendSync as registration
+use Rattle.domain_threads.proofs.Below.domain_history.open.Underway.TheSendSync as underway
+use Rattle.domain_threads.specs.Below.domain_history.contracts.base.ChapterBase
+use Rattle.domain_threads.specs.Below.domain_history.contracts.base.ChapterBase.TheInside as base
+use Rattle.domain_threads.specs.Below.domain_history.contracts.base.KeptRegistration
+use Rattle.domain_threads.specs.Below.domain_history.contracts.chronicle.Chronicle
+use Rattle.domain_threads.specs.Below.domain_history.contracts.chronicle.Chronicle.TheInside as chronicle
+use Rattle.domain_threads.specs.Below.domain_history.contracts.open.Underway
 use Rattle.domain_spec.proofs.mark.Mark.TheSendSync as mark
 use Rattle.domain_spec.specs.contracts.mark.Mark
-use Rattle.driver_open.specs.contracts.histories.HistoryRoom
-use Rattle.driver_open.specs.contracts.histories.HistoryRoom.TheInside as room
+use Rattle.driver_service.specs.Below.driver_open.contracts.histories.HistoryRoom
+use Rattle.driver_service.specs.Below.driver_open.contracts.histories.HistoryRoom.TheInside as room
 use Rattle.history_spec.proofs.stamp.Stamp.TheSendSync as stamp
 use Rattle.history_spec.specs.contracts.stamp.Stamp
 use Rattle.std.proofs.Crossing.{Box-sync, Vec-sync}

@@ -3,10 +3,9 @@
 #![tactic(auto)]
 
 use def_keeper::Opening;
-use driver::{Driver, Row};
+use driver_service::{Driver, MakerOf, Row};
 use files_disk::Files;
 use monitor_link::Guests;
-use row_desk::MakerOf;
 
 fn crosses<T: Send>() {}
 
@@ -25,3 +24,5 @@ pub fn driver_is_shared<
 >() {
     is_shared::<Driver<F, K, MakerOf<G>>>();
 }
+
+pub use driver_service::{Books, Driver, DriverService, Maker, MakerOf, Row, RowList};

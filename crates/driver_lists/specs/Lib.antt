@@ -4,3 +4,4 @@ pub mod Reading
 pub mod Stopping
 pub mod Titling
 pub mod Whole
+pub mod Below

@@ -21,7 +21,7 @@ use Rattle.driver_cells.specs.OfCells.{Celled, new_cell}
 use Rattle.driver_cells.specs.OfCells as domain
 use Rattle.driver_cells.specs.OfObjects.{DomainPass}
 use Rattle.pass_rows.specs.Resting.{IsIdle}
-use Rattle.found_domains.specs.declared.found.FoundDomain.{FoundDomain}
+use Rattle.driver_store.specs.Below.found_domains.declared.found.FoundDomain.{FoundDomain}
 use Rattle.driver_store.specs.Again.{IsMarkOf}
 use Rattle.driver_store.specs.Listing.{list_of, listed}
 use Rattle.driver_store.specs.Reading.{HasOpened}

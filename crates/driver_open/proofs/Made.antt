@@ -12,7 +12,7 @@ use Rattle.def_keeper.specs.Keeper.{Keeping}
 use Rattle.def_keeper.specs.Turns as storing
 use Rattle.driver_cells.specs.OfObjects.{DomainPass}
 use Rattle.pass_rows.specs.Rows.{IsOf}
-use Rattle.found_domains.specs.declared.found.FoundDomain.{FoundDomain}
+use Rattle.driver_store.specs.Below.found_domains.declared.found.FoundDomain.{FoundDomain}
 use Rattle.driver_cells.specs.Known.{DriverRow}
 use Rattle.driver_store.specs.Listing.{list_of}
 use Rattle.driver_open.specs.Cells.{IsFirstRow}

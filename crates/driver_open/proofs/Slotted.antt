@@ -10,7 +10,7 @@ use Rattle.driver_cells.specs.OfCells.{Celled, meaning}
 use Rattle.driver_cells.specs.OfObjects.{DomainPass}
 use Rattle.pass_rows.specs.Cutting.{cell_of}
 use Rattle.pass_rows.specs.Resting.{IsIdle}
-use Rattle.found_domains.specs.declared.found.FoundDomain.{FoundDomain}
+use Rattle.driver_store.specs.Below.found_domains.declared.found.FoundDomain.{FoundDomain}
 use Rattle.driver_store.proofs.Putting.{zip_length, zip_push}
 use Rattle.driver_open.specs.Slots.{AreFirst, IsFirstOf, IsPushed, cells_of, found_cell, vacant_cell}
 

@@ -12,7 +12,7 @@ use Rattle.def_keeper.specs.Keeper.{Keeping}
 use Rattle.def_keeper.specs.Turns as storing
 use Rattle.driver_cells.specs.OfCells as domain
 use Rattle.pass_rows.specs.Rows.{IsIdleRow}
-use Rattle.found_domains.specs.declared.found.FoundDomain.{FoundDomain}
+use Rattle.driver_store.specs.Below.found_domains.declared.found.FoundDomain.{FoundDomain}
 use Rattle.driver_cells.specs.Known.{DriverRow}
 use Rattle.driver_store.specs.Listing.{list_of, starts_of}
 use Rattle.driver_store.specs.Reading.{HasOpened}

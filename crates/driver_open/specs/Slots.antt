@@ -8,7 +8,7 @@ use Rattle.driver_cells.specs.OfCells.{Celled, meaning, new_cell}
 use Rattle.driver_cells.specs.OfObjects.{DomainPass}
 use Rattle.pass_rows.specs.Cutting.{cell_of}
 use Rattle.pass_rows.specs.Resting.{IsIdle}
-use Rattle.found_domains.specs.declared.found.FoundDomain.{FoundDomain}
+use Rattle.driver_store.specs.Below.found_domains.declared.found.FoundDomain.{FoundDomain}
 
 -- a domain as it was found, and the domain of a slot in which none was
 abbrev pub found_cell : FoundDomain → Celled

@@ -6,7 +6,7 @@ use Rattle.files_disk.specs.Telling.{Told}
 use Rattle.def_keeper.specs.declared.outcome.Found.{Found}
 use Rattle.def_keeper.specs.Keeper.{Keeping}
 use Rattle.def_keeper.specs.Safe.{KeepsAll}
-use Rattle.found_domains.specs.declared.found.FoundDomain.{FoundDomain}
+use Rattle.driver_store.specs.Below.found_domains.declared.found.FoundDomain.{FoundDomain}
 use Rattle.driver_store.specs.declared.fault.DriverFault.{DriverFault}
 use Rattle.driver_store.specs.Reading.{HasOpened}
 use Rattle.driver_store.specs.Stopped.{IsNotOpened}

@@ -5,7 +5,7 @@ ghost use Rattle.driver_cells.specs.OfCells.{new_cell};
 ghost use Rattle.driver_open.specs.Slots.{AreFirst, IsPushed, cells_of, found_cell};
 
 use driver_cells::{DomainCell, DomainObj};
-use found_domains::FoundDomain;
+use driver_store::FoundDomain;
 use monitor_link::{Ears, Killer, Monitor};
 use pass_rows::{PassState, RestingPass};
 use std::alloc::Global;

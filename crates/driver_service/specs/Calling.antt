@@ -3,8 +3,8 @@ use Rattle.std.specs.Prelude.{ℕ, List, Option}
 use Rattle.driver.specs.Called.{HasCalled}
 use Rattle.driver_service.specs.Saying.{IsSaid}
 use Rattle.files_disk.specs.Telling.{Told}
-use Rattle.held_tasks.specs.OfOutcomes.{HasGone, HasOutcome, Outcome, ReadsNow}
-use Rattle.held_tasks.specs.OfRows.{DriverRow, KeepsParts, known_row}
+use Rattle.driver.specs.Below.held_tasks.OfOutcomes.{HasGone, HasOutcome, Outcome, ReadsNow}
+use Rattle.driver.specs.Below.held_tasks.OfRows.{DriverRow, KeepsParts, known_row}
 use Rattle.service_spec.specs.Activities.{Hand}
 use Rattle.virt_types.specs.Drawn.{IsMadeOfDrawn}
 use Rattle.virt_types.specs.declared.ask.GuestEvent.{GuestEvent}

@@ -1,3 +1,4 @@
 pub mod Serving
 pub mod Saying
 pub mod Calling
+pub mod Below

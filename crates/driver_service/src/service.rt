@@ -1,10 +1,8 @@
 // The driver serves requests.
 use crate::saying::said;
 use crate::serving::is_served;
-use def_keeper::Opening;
-use driver::Driver;
+use driver::{Driver, Maker, Opening, Row};
 use files_disk::Files;
-use held_tasks::{Maker, Row};
 use procedure_spec::Procedure;
 use service_spec::Service;
 use std::alloc::Global;
@@ -22,7 +20,7 @@ pub struct DriverService<'a, F: Files + Drop, K: Opening, G: Maker> {
 
 impl<'a, F: Files + Drop, K: Opening, G: Maker + Drop> Service for DriverService<'a, F, K, G> {
     ghost use Rattle.driver.specs.Cells.{IsRowOf};
-    ghost use Rattle.held_tasks.specs.OfRows.{IsReadyRow};
+    ghost use Rattle.driver.specs.Below.held_tasks.OfRows.{IsReadyRow};
     ghost use Rattle.driver_service.specs.Calling.{HasCalledDriver};
     ghost use Rattle.driver_service.specs.Serving.{is_served};
 

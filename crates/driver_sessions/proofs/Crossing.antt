@@ -12,10 +12,10 @@ use Rattle.monitor_link.specs.declared.link.Ears as ears
 use Rattle.monitor_link.specs.declared.link.Guests as guests
 use Rattle.monitor_link.specs.declared.link.Killer as killer
 use Rattle.monitor_link.specs.declared.link.Monitor as monitor
-use Rattle.row_desk.specs.contracts.maker.MakerOf
-use Rattle.row_desk.specs.contracts.maker.MakerOfMaker.TheImpl as maker_of
-use Rattle.row_desk.specs.declared.maker.Maker as making
-use Rattle.row_session.proofs.connection.SixRows.TheSendSync as six
+use Rattle.driver_crossing.specs.Below.row_desk.contracts.maker.MakerOf
+use Rattle.driver_crossing.specs.Below.row_desk.contracts.maker.MakerOfMaker.TheImpl as maker_of
+use Rattle.driver_crossing.specs.Below.row_desk.declared.maker.Maker as making
+use Rattle.six_rows.proofs.Below.row_session.connection.SixRows.TheSendSync as six
 
 module _ (F K G M E Z : RattleType) (f : files.Ghosts F.Denot) (k : opening.Ghosts K.Denot) (g : guests.Ghosts G.Denot M.Denot E.Denot Z.Denot) (m : monitor.Ghosts M.Denot) (e : ears.Ghosts E.Denot) (z : killer.Ghosts Z.Denot)
     (sf : IsSend F) (sg : IsSend G) (sm : IsSend M) (se : IsSend E) (sz : IsSend Z) where

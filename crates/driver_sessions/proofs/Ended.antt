@@ -2,15 +2,15 @@
 use Rattle.std.proofs.Common.{◌≡◌, ◌*◌, ℕ, List, Option, None, Some, Vec, Global, length, subst, sym}
 use Rattle.std.specs.Prelude.{IfSome}
 use Rattle.def_keeper.specs.Safe.{KeepsAll}
-use Rattle.driver.specs.Cells.{BecomesMany, DriverView}
-use Rattle.driver_close.specs.Closed.{HasClosed}
+use Rattle.driver_crossing.specs.Below.driver.Cells.{BecomesMany, DriverView}
+use Rattle.driver_crossing.specs.Below.driver_close.Closed.{HasClosed}
 use Rattle.driver_sessions.specs.Closing.{HasServedAll, HasServedBy}
 use Rattle.driver_sessions.specs.Serving.{AreServed}
 use Rattle.driver_sessions.specs.declared.closing.Left.{Left}
 use Rattle.driver_sessions.specs.declared.session.Served.{Served}
 use Rattle.driver_sessions.specs.declared.session.Session.{Session}
 use Rattle.files_disk.specs.Telling.{Told}
-use Rattle.held_tasks.specs.OfRows.{DriverRow}
+use Rattle.driver_crossing.specs.Below.held_tasks.OfRows.{DriverRow}
 use Rattle.virt_types.specs.declared.ask.GuestEvent.{GuestEvent}
 
 module _ {F G E S O N T : Type 0} (told : F → Told) (sound : Type 0) (store_faults : F → ℕ) (maker : G → ℕ) (ends faults : E → ℕ) (unheard : E → Option (List GuestEvent)) (left : S → Option (List ℕ)) (source_faults : S → ℕ) (held : O → Option (List ℕ)) (sink_faults : O → ℕ) (drawn : N → Option (List ℕ)) (d : DriverView) (rows : List (DriverRow G)) (sessions : List (Session S O N T)) where

@@ -1,9 +1,9 @@
 -- Whoever calls a driver keeps the parts of its row's passes, also through a whole session.
 use Rattle.std.proofs.Common.{◌∙◌, ◌++◌, ℕ, List, Option, refl}
-use Rattle.driver_service.specs.Calling.{HasCalledDriver}
-use Rattle.driver_service.specs.Serving.{is_served}
+use Rattle.driver_crossing.specs.Below.driver_service.Calling.{HasCalledDriver}
+use Rattle.driver_crossing.specs.Below.driver_service.Serving.{is_served}
 use Rattle.files_disk.specs.Telling.{Told}
-use Rattle.held_tasks.specs.OfRows.{DriverRow, KeepsParts}
+use Rattle.driver_crossing.specs.Below.held_tasks.OfRows.{DriverRow, KeepsParts}
 use Rattle.service_spec.proofs.Running.{courses_run, rows_go}
 use Rattle.service_spec.specs.Activities.{Activity, Hand, call_of}
 use Rattle.service_spec.specs.Course.{HasServed, reader}

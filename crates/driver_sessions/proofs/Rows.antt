@@ -2,7 +2,7 @@
 use Rattle.std.proofs.Common.{◌≡◌, ◌++◌, ℕ, List, [], ◌∷◌, Option, arith, subst, sym}
 use Rattle.std.proofs.lemmas.List.Elements.{All-append, All-cons, All-head, All-nil, All-tail}
 use Rattle.std.specs.List.{All, AllZip}
-use Rattle.driver.specs.Cells.{DriverView, IsRowOf}
+use Rattle.driver_crossing.specs.Below.driver.Cells.{DriverView, IsRowOf}
 use Rattle.driver_sessions.proofs.Keeping.{keeps_itself, session_keeps}
 use Rattle.driver_sessions.specs.Serving.{IsServed, MayServe}
 use Rattle.six_rows.specs.Six.{all_six}
@@ -10,8 +10,8 @@ use Rattle.driver_sessions.specs.Seats.{Seat, rows_of}
 use Rattle.driver_sessions.specs.declared.session.Served.{Served}
 use Rattle.driver_sessions.specs.declared.session.Session.{Session}
 use Rattle.files_disk.specs.Telling.{Told}
-use Rattle.held_tasks.specs.OfRows.{DriverRow, IsReadyRow, KeepsParts}
-use Rattle.row_session.specs.declared.connection.SixRows.{SixRows}
+use Rattle.driver_crossing.specs.Below.held_tasks.OfRows.{DriverRow, IsReadyRow, KeepsParts}
+use Rattle.six_rows.specs.Below.row_session.declared.connection.SixRows.{SixRows}
 use Rattle.service_spec.specs.Activities.{hand}
 use Rattle.virt_types.specs.declared.ask.GuestEvent.{GuestEvent}
 

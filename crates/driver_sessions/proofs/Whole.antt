@@ -2,9 +2,9 @@
 use Rattle.std.proofs.Common.{◌<◌, List, arith, length}
 use Rattle.std.specs.List.{AllZip}
 use Rattle.std.proofs.lemmas.List.Elements.{length_all_zip}
-use Rattle.driver_close.proofs.Parts.{still_whole}
-use Rattle.driver_close.specs.Closed.{IsWhole}
-use Rattle.held_tasks.specs.OfRows.{DriverRow, KeepsParts}
+use Rattle.driver_crossing.proofs.Below.driver_close.Parts.{still_whole}
+use Rattle.driver_crossing.specs.Below.driver_close.Closed.{IsWhole}
+use Rattle.driver_crossing.specs.Below.held_tasks.OfRows.{DriverRow, KeepsParts}
 
 -- rows that keep their parts are as many as before
 pub back_some : {G : Type 0} (rows back : List (DriverRow G)) → AllZip KeepsParts rows back → 0 < length rows → 0 < length back

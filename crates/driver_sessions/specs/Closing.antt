@@ -5,13 +5,13 @@ use Rattle.def_keeper.specs.Marks.{StoreHistory}
 use Rattle.def_keeper.specs.Safe.{KeepsAll}
 use Rattle.domain_spec.specs.declared.mark.Mark.{Mark}
 use Rattle.domain_spec.specs.declared.standing.Base.{Base}
-use Rattle.driver.specs.Cells.{BecomesMany, DriverView}
-use Rattle.driver_close.specs.Closed.{HasClosed}
+use Rattle.driver_crossing.specs.Below.driver.Cells.{BecomesMany, DriverView}
+use Rattle.driver_crossing.specs.Below.driver_close.Closed.{HasClosed}
 use Rattle.driver_sessions.specs.Serving.{AreServed}
 use Rattle.driver_sessions.specs.declared.session.Served.{Served}
 use Rattle.driver_sessions.specs.declared.session.Session.{Session}
 use Rattle.files_disk.specs.Telling.{Told}
-use Rattle.held_tasks.specs.OfRows.{DriverRow}
+use Rattle.driver_crossing.specs.Below.held_tasks.OfRows.{DriverRow}
 use Rattle.history_spec.specs.declared.history.History.{History}
 use Rattle.virt_types.specs.declared.ask.GuestEvent.{GuestEvent}
 

@@ -2,8 +2,8 @@
 use Rattle.std.specs.Prelude.{List, [], ◌∷◌}
 use Rattle.six_rows.specs.Six.{all_six}
 use Rattle.driver_sessions.specs.Turned.{turned}
-use Rattle.held_tasks.specs.OfRows.{DriverRow}
-use Rattle.row_session.specs.declared.connection.SixRows.{SixRows}
+use Rattle.driver_crossing.specs.Below.held_tasks.OfRows.{DriverRow}
+use Rattle.six_rows.specs.Below.row_session.declared.connection.SixRows.{SixRows}
 
 -- six rows, and who has them
 pub record Seat (G C : Type 0) : Type 0 where

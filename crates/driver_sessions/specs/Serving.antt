@@ -1,16 +1,16 @@
 -- Sessions that are served at once.
 use Rattle.std.specs.Prelude.{◌≡◌, ◌≤◌, ℕ, List, Option}
 use Rattle.std.specs.List.{AllZip}
-use Rattle.driver.specs.Cells.{DriverView, IsRowOf}
-use Rattle.driver_service.specs.Calling.{HasCalledDriver}
-use Rattle.driver_service.specs.Serving.{is_served}
+use Rattle.driver_crossing.specs.Below.driver.Cells.{DriverView, IsRowOf}
+use Rattle.driver_crossing.specs.Below.driver_service.Calling.{HasCalledDriver}
+use Rattle.driver_crossing.specs.Below.driver_service.Serving.{is_served}
 use Rattle.driver_sessions.specs.Seats.{Seat, holders_of, rows_of}
 use Rattle.driver_sessions.specs.declared.session.Served.{Served}
 use Rattle.driver_sessions.specs.declared.session.Session.{Session}
 use Rattle.files_disk.specs.Telling.{Told}
-use Rattle.held_tasks.specs.OfRows.{DriverRow, IsReadyRow}
+use Rattle.driver_crossing.specs.Below.held_tasks.OfRows.{DriverRow, IsReadyRow}
 use Rattle.outside_spec.specs.Faults.{Rose}
-use Rattle.row_session.specs.declared.connection.SixRows.{SixRows}
+use Rattle.six_rows.specs.Below.row_session.declared.connection.SixRows.{SixRows}
 use Rattle.service_spec.specs.Activities.{hand}
 use Rattle.service_spec.specs.Course.{HasServed}
 use Rattle.session_spec.specs.Course.{IsServedWhole, IsWhole}

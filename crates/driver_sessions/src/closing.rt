@@ -2,19 +2,17 @@
 ghost use Rattle.std.specs.Prelude.{◌≡◌, ◌<◌, ◌≤◌, ◌*◌, ◌∷◌, [], IfSome, length, vec_len};
 ghost use Rattle.std.specs.List.{All};
 ghost use Rattle.def_keeper.specs.Safe.{KeepsAll};
-ghost use Rattle.driver.specs.Cells.{BecomesMany, IsRowOf};
-ghost use Rattle.driver_close.specs.Closed.{HasClosed, IsWhole};
-ghost use Rattle.held_tasks.specs.OfRows.{IsReadyRow};
+ghost use Rattle.driver_crossing.specs.Below.driver.Cells.{BecomesMany, IsRowOf};
+ghost use Rattle.driver_crossing.specs.Below.driver_close.Closed.{HasClosed, IsWhole};
+ghost use Rattle.driver_crossing.specs.Below.held_tasks.OfRows.{IsReadyRow};
 ghost use Rattle.driver_sessions.specs.Closing.{HasServedAll, HasServedBy};
 
 use crate::seats::{DriverRow, DriverRows};
 use crate::serving::serve_all;
 use crate::session::{Served, Session};
 use def_keeper::Opening;
-use driver::Driver;
-use driver_close::Books;
+use driver_crossing::{Books, Driver, MakerOf};
 use files_disk::Files;
-use held_tasks::MakerOf;
 use monitor_link::Guests;
 use packet::{Sink, Source};
 use std::alloc::Global;

@@ -7,9 +7,8 @@ mod serving;
 mod session;
 
 pub use closing::{Left, serve_and_close};
-pub use driver::Driver;
-pub use held_tasks::MakerOf;
-pub use row_session::End;
+pub use driver_crossing::{Driver, MakerOf};
 pub use seats::{DriverRow, DriverRows};
 pub use serving::serve_all;
 pub use session::{Served, Session};
+pub use six_rows::End;

@@ -4,12 +4,10 @@ ghost use Rattle.std.specs.Vec.{vec_capacity};
 ghost use Rattle.driver_sessions.specs.Seats.{holders_of, rows_of};
 
 use def_keeper::Opening;
-use driver::{Row, RowList};
+use driver_crossing::{Maker, MakerOf, Row, RowList};
 use files_disk::Files;
-use held_tasks::{Maker, MakerOf};
 use monitor_link::Guests;
-use row_session::SixRows;
-use six_rows::{put_six, take_six};
+use six_rows::{SixRows, put_six, take_six};
 use std::marker::Model;
 
 /// A row of a driver.

@@ -2,20 +2,18 @@
 ghost use Rattle.std.specs.Prelude.{◌≡◌, ◌≤◌, ◌*◌, [], IfOk, IfSome, length, vec_len};
 ghost use Rattle.std.specs.List.{All, AllZip};
 ghost use Rattle.std.specs.Vec.{vec_capacity};
-ghost use Rattle.driver.specs.Cells.{IsRowOf};
-ghost use Rattle.held_tasks.specs.OfRows.{IsReadyRow, KeepsParts};
+ghost use Rattle.driver_crossing.specs.Below.driver.Cells.{IsRowOf};
+ghost use Rattle.driver_crossing.specs.Below.held_tasks.OfRows.{IsReadyRow, KeepsParts};
 ghost use Rattle.driver_sessions.specs.Serving.{AreServed, IsServed, MayServe};
 
 use crate::seats::{DriverRows, Seated, seat_all, unseat_all};
 use crate::session::{Served, Session};
 use def_keeper::Opening;
-use driver::Driver;
-use driver_service::DriverService;
+use driver_crossing::{Driver, DriverService, Maker, MakerOf};
 use files_disk::Files;
-use held_tasks::{Maker, MakerOf};
 use monitor_link::Guests;
 use packet::{Sink, Source};
-use row_session::serve;
+use six_rows::serve;
 use std::alloc::{AllocError, Global};
 use std::sync::Wait;
 use std::thread::Threads;

@@ -1,5 +1,5 @@
 // Sessions, before they are served and after.
-use row_session::End;
+use six_rows::End;
 use std::alloc::Global;
 
 /// A session that is to be served.

@@ -13,7 +13,7 @@ use Rattle.store_spec.specs.declared.version.Version.{Version}
 use Rattle.store_spec.specs.declared.version.Version.TheVariants as version
 use Rattle.store_spec.specs.Changes.{Definitions, same_kind}
 use Rattle.def_keeper.specs.declared.outcome.FoundDefinition.{FoundDefinition}
-use Rattle.domain_texts.specs.Kept.{stored}
+use Rattle.found_domains.specs.Below.domain_texts.Kept.{stored}
 use Rattle.found_domains.specs.Files.{given, given_by, if_old, of_domain, of_other}
 use Rattle.found_domains.specs.Found.{again_in, again_of, fault_in, first_past, most_of, past}
 

@@ -3,3 +3,4 @@ pub mod Again
 pub mod Reading
 pub mod Stopped
 pub mod Listing
+pub mod Below

@@ -8,5 +8,6 @@ mod listing;
 mod reading;
 
 pub use fault::DriverFault;
+pub use found_domains::FoundDomain;
 pub use listing::{open_list, starts_of};
 pub use reading::{OpenStore, open_store};

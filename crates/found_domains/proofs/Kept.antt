@@ -14,7 +14,7 @@ use Rattle.store_spec.specs.declared.kind.BookKind.TheVariants as kind
 use Rattle.store_spec.specs.declared.version.Version.{Version}
 use Rattle.store_spec.specs.declared.version.Version.TheVariants as version
 use Rattle.store_spec.specs.Changes.{Definitions}
-use Rattle.session_spec.specs.DefinitionText.{definition_in}
+use Rattle.domain_texts.specs.Below.session_spec.DefinitionText.{definition_in}
 use Rattle.def_keeper.specs.declared.outcome.FoundDefinition.{FoundDefinition}
 use Rattle.def_keeper.specs.Calls.{CanBeMade}
 use Rattle.domain_texts.specs.Kept.{has_addresses, is_own, names_uuid, own, stored, tells_title}

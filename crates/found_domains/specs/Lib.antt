@@ -1,3 +1,4 @@
 pub mod Files
 pub mod Taking
 pub mod Found
+pub mod Below

@@ -10,3 +10,4 @@ pub mod TaskKinds
 pub mod Requests
 pub mod OfOutcomes
 pub mod OfRows
+pub mod Below

@@ -3,7 +3,7 @@ use Rattle.std.proofs.Common.{◌≡◌, ℕ, Bool, Ok, Err, inl, inr, refl, sym
 use Rattle.book_spec.specs.declared.list.ListCall.{ListCall}
 use Rattle.book_spec.specs.declared.list.ListMark.{ListMark}
 use Rattle.book_spec.specs.Slots.{Slots}
-use Rattle.domain_requests.specs.declared.task.Task.{Task}
+use Rattle.list_replies.specs.Below.domain_requests.declared.task.Task.{Task}
 use Rattle.driver_cells.specs.OfTasks.{IsUnbuilt}
 use Rattle.driver_cells.specs.OfOutcomes.{Asks, HasLeft, HasOutcome, IsNotListed, IsNow, IsOfDomain, IsOfList, Known, KnownRow, Outcome, RestsOn, StandsAt, is_read, list_refusal, pass_of}
 use Rattle.driver_cells.proofs.OfOutcomes.{asks_stay}

@@ -4,8 +4,8 @@ use Rattle.book_spec.specs.declared.list.ListCall.{ListCall}
 use Rattle.book_spec.specs.declared.list.ListFault.{ListFault}
 use Rattle.book_spec.specs.declared.list.ListMark.{ListMark}
 use Rattle.driver_cells.specs.OfObjects.{DomainPass}
-use Rattle.domain_requests.specs.declared.task.Task.{Task}
-use Rattle.domain_requests.specs.declared.task.Task.TheVariants as task
+use Rattle.list_replies.specs.Below.domain_requests.declared.task.Task.{Task}
+use Rattle.list_replies.specs.Below.domain_requests.declared.task.Task.TheVariants as task
 use Rattle.domain_spec.specs.Types.{Who}
 use Rattle.driver_cells.specs.OfTasks.{Answers, ReadsNow}
 use Rattle.driver_cells.proofs.OfTasks.{left_among, stands_last}

@@ -2,7 +2,7 @@
 use Rattle.std.proofs.Common.{◌≡◌, ℕ, List, [], Option, inr, sym, ap, subst}
 use Rattle.driver_cells.specs.OfCells.{CellShare, nothing_kept}
 use Rattle.driver_cells.specs.OfObjects.{DomainPass, IsReady, Seen}
-use Rattle.domain_requests.specs.declared.task.Task.{Task}
+use Rattle.list_replies.specs.Below.domain_requests.declared.task.Task.{Task}
 use Rattle.domain_spec.specs.Types.{Answer, Ask, Reply, Who}
 use Rattle.driver_cells.specs.OfTasks.{HasTasked}
 use Rattle.files_disk.specs.Telling.{Told}

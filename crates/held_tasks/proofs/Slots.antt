@@ -4,7 +4,7 @@ use Rattle.std.specs.List.{All}
 use Rattle.atomic_table.specs.Seated.{TableId}
 use Rattle.driver_cells.specs.OfCells.{meaning, nothing_kept}
 use Rattle.driver_cells.specs.OfObjects.{DomainPass, Seen}
-use Rattle.domain_requests.specs.declared.task.Task.{Task}
+use Rattle.list_replies.specs.Below.domain_requests.declared.task.Task.{Task}
 use Rattle.domain_spec.specs.Types.{Reply, Who}
 use Rattle.files_disk.specs.Telling.{Told}
 use Rattle.object_list.specs.Turns.{ListPassed}

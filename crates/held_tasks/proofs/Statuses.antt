@@ -3,9 +3,9 @@ use Rattle.std.proofs.Common.{◌≡◌, ◌≤◌, ℕ, List, ◌++◌, [], Boo
 use Rattle.boot_status.specs.Keeping.{KeepsStatus}
 use Rattle.boot_status.specs.declared.outcome.StatusKept.{StatusKept}
 use Rattle.boot_status.specs.declared.outcome.StatusKept.TheVariants as came
-use Rattle.def_keeper.specs.Turns.{meaning as store_meaning}
-use Rattle.domain_requests.specs.declared.task.Task.{Task}
-use Rattle.domain_requests.specs.declared.task.Task.TheVariants as task
+use Rattle.boot_status.specs.Below.def_keeper.Turns.{meaning as store_meaning}
+use Rattle.list_replies.specs.Below.domain_requests.declared.task.Task.{Task}
+use Rattle.list_replies.specs.Below.domain_requests.declared.task.Task.TheVariants as task
 use Rattle.domain_spec.specs.Chapter.{rising_number}
 use Rattle.domain_spec.specs.Types.{Reply}
 use Rattle.domain_spec.specs.declared.mark.Mark.{Mark}
@@ -17,8 +17,8 @@ use Rattle.driver_cells.specs.OfObjects.{DomainPass}
 use Rattle.driver_cells.specs.OfOutcomes.{DomainPass as KnownPass, HasLeft, IsLater, Known, StandsAt, level}
 use Rattle.driver_cells.specs.OfTasks.{Answers, ReadsNow}
 use Rattle.files_disk.specs.Telling.{Told}
-use Rattle.outcome_spec.proofs.Staying.{stands_stays}
-use Rattle.outcome_spec.specs.Done.{IsCallOf, IsDone, call_in}
+use Rattle.list_replies.proofs.Below.outcome_spec.Staying.{stands_stays}
+use Rattle.list_replies.specs.Below.outcome_spec.Done.{IsCallOf, IsDone, call_in}
 use Rattle.row_desk.specs.Views.{StorePass}
 use Rattle.turn_cell.specs.Turning.{SamePass}
 use Rattle.virt_types.specs.declared.call.Call.{Call}

@@ -1,12 +1,12 @@
 -- A request that is built asks for a query where it only reads, and else for a call.
 use Rattle.std.proofs.Common.{◌≡◌, ℕ, ℤ, List, Bool, true, false, Option, None, Some, Result, Ok, Err, refl, sym, subst}
 use Rattle.book_spec.specs.declared.list.ListCall.{ListCall}
-use Rattle.domain_requests.specs.Requests.{IsTaskOf, attaches, detaches, parsed_as, passed_one, reads, runs, takes, with_bound, with_name, yes_or_no}
-use Rattle.domain_requests.specs.Texts.{device_in, snapshot_in}
-use Rattle.domain_requests.specs.declared.task.Parsed.{Parsed}
-use Rattle.domain_requests.specs.declared.task.Parsed.TheVariants as parsed
-use Rattle.domain_requests.specs.declared.task.Task.{Task}
-use Rattle.domain_requests.specs.declared.task.Task.TheVariants as task
+use Rattle.list_replies.specs.Below.domain_requests.Requests.{IsTaskOf, attaches, detaches, parsed_as, passed_one, reads, runs, takes, with_bound, with_name, yes_or_no}
+use Rattle.list_replies.specs.Below.domain_requests.Texts.{device_in, snapshot_in}
+use Rattle.list_replies.specs.Below.domain_requests.declared.task.Parsed.{Parsed}
+use Rattle.list_replies.specs.Below.domain_requests.declared.task.Parsed.TheVariants as parsed
+use Rattle.list_replies.specs.Below.domain_requests.declared.task.Task.{Task}
+use Rattle.list_replies.specs.Below.domain_requests.declared.task.Task.TheVariants as task
 use Rattle.driver_cells.specs.OfTasks.{IsUnbuilt}
 use Rattle.driver_cells.specs.OfOutcomes.{Asks, IsTask, KnownRow, is_built, is_built_of_domain, is_read, is_read_of_domain}
 use Rattle.virt_types.specs.Name.{bad_place}

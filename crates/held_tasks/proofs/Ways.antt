@@ -6,10 +6,10 @@ use Rattle.atomic_table.specs.Seated.{TableId}
 use Rattle.book_spec.specs.Slots.{no_holds}
 use Rattle.book_spec.specs.declared.list.ListCall.{ListCall}
 use Rattle.book_spec.specs.declared.list.ListFault.{ListFault}
-use Rattle.def_keeper.specs.Turns.{meaning as store_meaning}
+use Rattle.boot_status.specs.Below.def_keeper.Turns.{meaning as store_meaning}
 use Rattle.driver_cells.specs.OfCells.{meaning}
 use Rattle.driver_cells.specs.OfObjects.{DomainPass, TellsSpent}
-use Rattle.domain_requests.specs.declared.task.Task.{Task}
+use Rattle.list_replies.specs.Below.domain_requests.declared.task.Task.{Task}
 use Rattle.domain_spec.specs.Types.{Who}
 use Rattle.files_disk.specs.Telling.{Told}
 use Rattle.list_holds.specs.Held.{HasHeld}

@@ -3,7 +3,7 @@ use Rattle.std.specs.Prelude.{◌≡◌, ◌⊎◌, ◌++◌, ◌∷◌, ℕ, Li
 use Rattle.book_spec.specs.declared.list.ListCall.{ListCall}
 use Rattle.book_spec.specs.declared.list.ListFault.{ListFault}
 use Rattle.driver_cells.specs.OfObjects.{DomainPass, Seen, TellsSpent}
-use Rattle.domain_requests.specs.declared.task.Task.{Task}
+use Rattle.list_replies.specs.Below.domain_requests.declared.task.Task.{Task}
 use Rattle.domain_spec.specs.Types.{Who}
 use Rattle.driver_cells.specs.Fronts.{no_front}
 use Rattle.driver_cells.specs.Known.{known_row}

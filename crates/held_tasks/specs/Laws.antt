@@ -1,7 +1,7 @@
 -- Laws of what comes of the task of a request.
 use Rattle.std.specs.Prelude.{◌≡◌, true}
 use Rattle.book_spec.specs.declared.list.ListCall.{ListCall}
-use Rattle.domain_requests.specs.declared.task.Task.{Task}
+use Rattle.list_replies.specs.Below.domain_requests.declared.task.Task.{Task}
 use Rattle.driver_cells.specs.OfOutcomes.{Asks, HasGone, HasOutcome, IsNow, KnownRow, Outcome, ReadsNow, is_built}
 use Rattle.virt_types.specs.declared.request.Request.{Request}
 use Rattle.held_tasks.specs.Outcomes.{HasTaskOutcome, is_query}

@@ -10,3 +10,4 @@ pub mod OfObjects
 pub mod OfOutcomes
 pub mod OfRequests
 pub mod OfRows
+pub mod Below

@@ -1,2 +1,2 @@
 -- Words of domain_requests that are passed on: crates above name them here.
-pub use Rattle.domain_requests.specs.declared.task.Task.{Task}
+pub use Rattle.list_replies.specs.Below.domain_requests.declared.task.Task.{Task}

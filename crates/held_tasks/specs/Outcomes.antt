@@ -2,8 +2,8 @@
 use Rattle.std.specs.Prelude.{◌≡◌, ◌⊎◌, ℕ, Bool, true, false, Err, Some}
 use Rattle.book_spec.specs.declared.list.ListCall.{ListCall}
 use Rattle.book_spec.specs.declared.list.ListFault.{ListFault}
-use Rattle.domain_requests.specs.declared.task.Task.{Task}
-use Rattle.domain_requests.specs.declared.task.Task.TheVariants as task
+use Rattle.list_replies.specs.Below.domain_requests.declared.task.Task.{Task}
+use Rattle.list_replies.specs.Below.domain_requests.declared.task.Task.TheVariants as task
 use Rattle.driver_cells.specs.OfTasks.{IsUnbuilt}
 use Rattle.driver_cells.specs.OfOutcomes.{DomainPass, HasSlot, IsGiven, IsStopped, KnownRow, Outcome, StandsAt, list_refusal, pass_of}
 use Rattle.virt_types.specs.declared.caller.CellName.{CellName}

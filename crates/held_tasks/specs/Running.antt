@@ -1,7 +1,7 @@
 -- A task that is run in the domain of a slot, with the row's maker of guests and its pass of the store at hand.
 use Rattle.std.specs.Prelude.{ℕ, List, [], Option}
 use Rattle.driver_cells.specs.OfObjects.{DomainPass, Seen}
-use Rattle.domain_requests.specs.declared.task.Task.{Task}
+use Rattle.list_replies.specs.Below.domain_requests.declared.task.Task.{Task}
 use Rattle.domain_spec.specs.Types.{Answer, Ask, Reply, Who}
 use Rattle.driver_cells.specs.OfTasks.{HasTasked}
 use Rattle.files_disk.specs.Telling.{Told}

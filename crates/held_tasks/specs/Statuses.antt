@@ -4,8 +4,8 @@ use Rattle.boot_status.specs.Keeping.{KeepsStatus}
 use Rattle.boot_status.specs.Reporting.{boot_status}
 use Rattle.boot_status.specs.declared.outcome.StatusKept.{StatusKept}
 use Rattle.boot_status.specs.declared.outcome.StatusKept.TheVariants as came
-use Rattle.domain_requests.specs.declared.task.Task.{Task}
-use Rattle.domain_requests.specs.declared.task.Task.TheVariants as task
+use Rattle.list_replies.specs.Below.domain_requests.declared.task.Task.{Task}
+use Rattle.list_replies.specs.Below.domain_requests.declared.task.Task.TheVariants as task
 use Rattle.driver_cells.specs.OfCells.{meaning}
 use Rattle.driver_cells.specs.OfObjects.{DomainPass}
 use Rattle.driver_cells.specs.OfOutcomes.{state_of}

@@ -2,8 +2,7 @@
 ghost use Rattle.std.specs.Prelude.{◌≡◌};
 ghost use Rattle.held_tasks.specs.Counting.{Counts};
 
-use boot_status::StatusKept;
-use def_keeper::Opening;
+use boot_status::{Opening, StatusKept};
 use driver_cells::Row as CellsRow;
 use files_disk::Files;
 use monitor_link::{Ears, Guests, Killer, Link, Monitor};

@@ -11,12 +11,11 @@ ghost use Rattle.held_tasks.specs.Outcomes.{HasTaskOutcome, is_query};
 
 use crate::counting::Row;
 use crate::slot::serve_in_slot;
-use def_keeper::Opening;
-use domain_requests::Task;
+use boot_status::Opening;
 use driver_cells::{Cells, Outcome, run_out};
 use files_disk::Files;
 use list_holds::hold_slot;
-use list_replies::reply_to;
+use list_replies::{Task, reply_to};
 use pass_rows::{PassState, RestingPass, RowOf};
 use row_desk::Maker;
 use slot_holds::Hold;

@@ -6,11 +6,10 @@ ghost use Rattle.driver_cells.specs.OfOutcomes.{state_of};
 ghost use Rattle.held_tasks.specs.Statuses.{HasLooked, HasReadStatus, IsTold};
 ghost use Rattle.turn_cell.specs.Turning.{SamePass};
 
-use boot_status::{StatusKept, keep_status, status_of};
-use def_keeper::{Keeper, KeeperPass, Opening};
-use domain_requests::Task;
+use boot_status::{Keeper, KeeperPass, Opening, StatusKept, keep_status, status_of};
 use driver_cells::{DomainCell, DomainObj, DomainPass};
 use files_disk::Files;
+use list_replies::Task;
 use monitor_link::{Ears, Killer, Monitor};
 use std::sync::Wait;
 use turn_cell::{CellOf, Turn, TurnCell};

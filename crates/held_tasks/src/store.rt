@@ -3,10 +3,10 @@ ghost use Rattle.std.specs.Prelude.{◌≡◌, false};
 ghost use Rattle.driver_cells.specs.OfCells.{nothing_kept};
 ghost use Rattle.held_tasks.specs.Running.{HasServedTask};
 
-use def_keeper::{Keeper, KeeperPass, Opening};
-use domain_requests::Task;
+use boot_status::{Keeper, KeeperPass, Opening};
 use driver_cells::{DomainObj, DomainPass, Tasked, run_task};
 use files_disk::Files;
+use list_replies::Task;
 use row_desk::{Handed, Maker, RowDesk};
 use std::alloc::Global;
 use std::marker::Brand;

@@ -3,4 +3,5 @@
 
 mod refusing;
 
+pub use outcome_spec::Task;
 pub use refusing::reply_to;

@@ -2,7 +2,7 @@
 ghost use Rattle.std.specs.Prelude.{◌≡◌, IfOk, bytes_eq, if◌then◌else◌};
 ghost use Rattle.uuid.specs.Text.{hyphenated_text, lower};
 ghost use Rattle.outcome_spec.specs.Listed.{asked_for, claimed_name, list_refusal};
-ghost use Rattle.session_spec.specs.Refused.{refusal};
+ghost use Rattle.outcome_spec.specs.Below.session_spec.Refused.{refusal};
 ghost use Rattle.slot_holds.specs.Holds.{call_of};
 ghost use Rattle.virt_types.specs.declared.refusal.RefusalCode.TheVariants as code;
 ghost use Rattle.list_replies.specs.Telling.{TellsFault};

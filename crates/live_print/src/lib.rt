@@ -8,4 +8,5 @@ mod print;
 mod tree;
 
 pub use laws::{addresses_are_passed_over, live_text_reads_back};
+pub use markup::read_tree;
 pub use print::print_live;

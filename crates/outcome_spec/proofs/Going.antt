@@ -4,8 +4,8 @@ use Rattle.std.specs.Prelude.{slice_get}
 use Rattle.history_spec.proofs.Beginnings.{NoMarkLowers}
 use Rattle.book_spec.specs.declared.list.ListCall.{ListCall}
 use Rattle.book_spec.specs.declared.list.ListFault.{ListFault}
-use Rattle.def_keeper.specs.declared.mark.StoreAction.{StoreAction}
-use Rattle.def_keeper.specs.declared.mark.StoreAction.TheVariants as action
+use Rattle.store_asks.specs.Below.def_keeper.declared.mark.StoreAction.{StoreAction}
+use Rattle.store_asks.specs.Below.def_keeper.declared.mark.StoreAction.TheVariants as action
 use Rattle.domain_requests.specs.declared.task.Task.{Task}
 use Rattle.domain_requests.specs.declared.task.Task.TheVariants as task
 use Rattle.domain_spec.specs.declared.mark.Mark.{Mark}

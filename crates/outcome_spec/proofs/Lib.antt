@@ -1,3 +1,4 @@
 pub mod LawProofs
 pub mod Staying
 pub mod Going
+pub mod Below

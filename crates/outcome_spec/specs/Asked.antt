@@ -2,12 +2,12 @@
 use Rattle.std.specs.Prelude.{◌≡◌, ℕ, List, int_lt, pos, None, Ok, Result}
 use Rattle.book_spec.specs.declared.list.ListCall.{ListCall}
 use Rattle.book_spec.specs.declared.list.ListCall.TheVariants as hold
-use Rattle.def_keeper.specs.declared.mark.StoreAction.TheVariants as action
+use Rattle.store_asks.specs.Below.def_keeper.declared.mark.StoreAction.TheVariants as action
 use Rattle.domain_requests.specs.Requests.{IsTaskOf, parsed_as, passed_one}
 use Rattle.domain_requests.specs.declared.task.Parsed.{Parsed}
 use Rattle.domain_requests.specs.declared.task.Task.{Task}
 use Rattle.domain_requests.specs.declared.task.Task.TheVariants as task
-use Rattle.session_spec.specs.DefinitionText.{definition_in}
+use Rattle.domain_requests.specs.Below.session_spec.DefinitionText.{definition_in}
 use Rattle.store_asks.specs.Asks.{identifier}
 use Rattle.store_asks.specs.Restoring.{saved_in}
 use Rattle.store_asks.specs.declared.restoring.SavedGuest.{SavedGuest}

@@ -14,3 +14,4 @@ pub mod Titles
 pub mod Outcomes
 pub mod Now
 pub mod Laws
+pub mod Below

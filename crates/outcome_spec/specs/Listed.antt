@@ -5,7 +5,7 @@ use Rattle.book_spec.specs.declared.list.ListCall.TheVariants as hold
 use Rattle.book_spec.specs.declared.list.ListFault.{ListFault}
 use Rattle.book_spec.specs.declared.list.ListFault.TheVariants as fault
 use Rattle.domain_requests.specs.declared.task.Task.{Task}
-use Rattle.session_spec.specs.Refused.{refusal}
+use Rattle.domain_requests.specs.Below.session_spec.Refused.{refusal}
 use Rattle.uuid.specs.Text.{hyphenated_text, lower}
 use Rattle.virt_types.specs.declared.caller.Front.{Front}
 use Rattle.virt_types.specs.declared.refusal.Refusal.{Refusal}

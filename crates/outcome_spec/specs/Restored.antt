@@ -1,6 +1,6 @@
 -- Case: the image that a restore names was not read, or is not that of a save, or its text has no reading.
 use Rattle.std.specs.Prelude.{◌≡◌, ℕ, List, Ok, Err, Result}
-use Rattle.def_keeper.specs.declared.mark.StoreAction.TheVariants as action
+use Rattle.store_asks.specs.Below.def_keeper.declared.mark.StoreAction.TheVariants as action
 use Rattle.store_asks.specs.Restoring.{saved_in, unread}
 use Rattle.store_spec.specs.declared.image.Image.{Image}
 use Rattle.store_spec.specs.declared.image.ImageFault.{ImageFault}

@@ -8,8 +8,8 @@ use Rattle.book_spec.specs.Slots.{Slots}
 use Rattle.domain_spec.specs.declared.mark.Mark.{Mark}
 use Rattle.domain_spec.specs.declared.standing.Base.{Base}
 use Rattle.domain_spec.specs.Chapter.{rising_number}
-use Rattle.def_keeper.specs.declared.mark.StoreBase.{StoreBase}
-use Rattle.def_keeper.specs.declared.mark.StoreMark.{StoreMark}
+use Rattle.store_asks.specs.Below.def_keeper.declared.mark.StoreBase.{StoreBase}
+use Rattle.store_asks.specs.Below.def_keeper.declared.mark.StoreMark.{StoreMark}
 
 -- a pass of one cell: the history as it last saw it, its own marks with the numbers of their chapters, and whether no
 -- ticket is left

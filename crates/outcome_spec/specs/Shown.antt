@@ -2,12 +2,12 @@
 use Rattle.std.specs.Prelude.{◌≡◌, ◌⊎◌, ℕ, ℤ, ◌++◌, List, Bool, true, false, codes, decimal, Option, None, Some, Ok, Err, Result}
 use Rattle.std.specs.Fmt.{signed_decimal}
 use Rattle.domain_requests.specs.Requests.{parsed_as, passed_one}
-use Rattle.procedure_spec.specs.Requests.{procedure_of}
-use Rattle.procedure_spec.specs.declared.table.Row.{Row}
-use Rattle.procedure_spec.specs.Procedures.{row_of}
-use Rattle.session_spec.specs.DefinitionText.{definition_in}
-use Rattle.session_spec.specs.Refused.{refusal}
-use Rattle.session_spec.specs.Bounds.{passed}
+use Rattle.domain_requests.specs.Below.procedure_spec.Requests.{procedure_of}
+use Rattle.domain_requests.specs.Below.procedure_spec.declared.table.Row.{Row}
+use Rattle.domain_requests.specs.Below.procedure_spec.Procedures.{row_of}
+use Rattle.domain_requests.specs.Below.session_spec.DefinitionText.{definition_in}
+use Rattle.domain_requests.specs.Below.session_spec.Refused.{refusal}
+use Rattle.domain_requests.specs.Below.session_spec.Bounds.{passed}
 use Rattle.domain_requests.specs.declared.task.Parsed.{Parsed}
 use Rattle.virt_types.specs.declared.domain_def.DomainDef.{DomainDef}
 use Rattle.virt_types.specs.Name.{bad_place}

@@ -3,8 +3,8 @@ use Rattle.std.specs.Prelude.{◌≡◌, ℕ, List, Contains, Some}
 use Rattle.std.specs.Cmp.Lexicographic.{slice_cmp}
 use Rattle.std.specs.List.Sorted.{IsStrictlySortedBy}
 use Rattle.std.specs.Ordering.{nat_cmp}
-use Rattle.def_keeper.specs.Marks.{StoreHistory, acknowledged_in}
-use Rattle.def_map.specs.Map.{found}
+use Rattle.store_asks.specs.Below.def_keeper.Marks.{StoreHistory, acknowledged_in}
+use Rattle.store_asks.specs.Below.def_map.Map.{found}
 use Rattle.store_spec.specs.Changes.{Definitions, after as map_after}
 use Rattle.store_spec.specs.declared.entry.Entry.{Entry}
 use Rattle.store_spec.specs.declared.kind.BookKind.TheVariants as kind

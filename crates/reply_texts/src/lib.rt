@@ -3,4 +3,5 @@
 
 mod printing;
 
+pub use domain_texts::read_domain;
 pub use printing::{print_reply, print_value};

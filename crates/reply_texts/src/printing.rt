@@ -3,8 +3,7 @@ ghost use Rattle.std.specs.Prelude.{◌≡◌, IfNone, IfOk, IfSome};
 ghost use Rattle.reply_texts.specs.Printed.{printed, told};
 ghost use Rattle.virt_types.specs.declared.value.Value.TheVariants as value;
 
-use domain_texts::print_domain;
-use live_print::print_live;
+use domain_texts::{print_domain, print_live};
 use snapshot_xml::print_kept;
 use std::alloc::Global;
 use virt_types::{Boxed, MigratedGuest, MigratedText, NoMemory, Reply, TryCopy, Value};

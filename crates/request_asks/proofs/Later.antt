@@ -4,7 +4,7 @@ use Rattle.history_spec.proofs.Beginnings.{begins_itself}
 use Rattle.history_spec.specs.Chapter.{tagged}
 use Rattle.files_disk.specs.Telling.{Told}
 use Rattle.outcome_spec.specs.Rows.{IsLater, level}
-use Rattle.store_asks.specs.Turning.{StorePass}
+use Rattle.outcome_spec.specs.Below.store_asks.Turning.{StorePass}
 use Rattle.turn_cell.specs.Turning.{SamePass}
 use Rattle.virt_types.specs.declared.request.Request.{Request}
 use Rattle.virt_types.specs.declared.request.Request.TheVariants as request

@@ -6,3 +6,4 @@ pub mod Marks
 pub mod Turning
 pub mod Restored
 pub mod Later
+pub mod OfRequests

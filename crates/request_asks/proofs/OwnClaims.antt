@@ -1,12 +1,12 @@
 -- Definitions that claim a slot.
 use Rattle.std.proofs.Common.{◌≡◌, ◌∙◌, ℕ, List, [], Some, Ok, Err, ap, refl, sym}
-use Rattle.domain_requests.specs.Requests.{Fails}
+use Rattle.outcome_spec.specs.Below.domain_requests.Requests.{Fails}
 use Rattle.outcome_spec.specs.Shown.{text_shown}
 use Rattle.session_spec.specs.DefinitionText.{definition_in}
 use Rattle.session_spec.specs.Refused.{refusal}
 use Rattle.slot_holds.specs.Holds.{call_of}
 use Rattle.slot_holds.specs.declared.Hold.TheVariants as hold
-use Rattle.store_asks.specs.Asks.{identifier}
+use Rattle.outcome_spec.specs.Below.store_asks.Asks.{identifier}
 use Rattle.text_spec.specs.Fill.{IsFilledBy}
 use Rattle.virt_types.specs.declared.domain_def.DomainDef.{DomainDef}
 use Rattle.virt_types.specs.declared.memory.OrNoMemory.{OrNoMemory}

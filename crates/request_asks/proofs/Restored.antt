@@ -1,6 +1,6 @@
 -- What comes of an image that was read for a restore.
 use Rattle.std.proofs.Common.{◌≡◌, ◌∙◌, ◌++◌, ℕ, List, [], ◌∷◌, true, None, Some, Result, Ok, Err, ap, inl, inr, refl, subst, sym}
-use Rattle.domain_requests.specs.Requests.{IsUnnamed}
+use Rattle.outcome_spec.specs.Below.domain_requests.Requests.{IsUnnamed}
 use Rattle.def_keeper.specs.Chapters.{by}
 use Rattle.def_keeper.specs.declared.mark.StoreBase.{StoreBase}
 use Rattle.def_keeper.specs.declared.mark.StoreAction.{StoreAction}
@@ -12,9 +12,9 @@ use Rattle.outcome_spec.specs.Marks.{HasLeft, StandsAt}
 use Rattle.outcome_spec.specs.Restored.{IsNotRestored, IsWhy}
 use Rattle.outcome_spec.specs.Rows.{Known, KnownRow}
 use Rattle.outcome_spec.specs.Shown.{name_shown}
-use Rattle.store_asks.specs.Restoring.{IsToldOf, as_read}
-use Rattle.store_asks.specs.Turning.{EndsIn, HasReadSaved, ReadTells, StorePass}
-use Rattle.store_asks.specs.declared.restoring.SavedGuest.{SavedGuest}
+use Rattle.outcome_spec.specs.Below.store_asks.Restoring.{IsToldOf, as_read}
+use Rattle.outcome_spec.specs.Below.store_asks.Turning.{EndsIn, HasReadSaved, ReadTells, StorePass}
+use Rattle.outcome_spec.specs.Below.store_asks.declared.restoring.SavedGuest.{SavedGuest}
 use Rattle.store_spec.specs.declared.image.Image.{Image}
 use Rattle.store_spec.specs.declared.image.ImageFault.{ImageFault}
 use Rattle.virt_types.specs.Name.{bad_place}

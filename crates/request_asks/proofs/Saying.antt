@@ -2,10 +2,10 @@
 use Rattle.std.proofs.Common.{◌≡◌, ◌∙◌, ℕ, ℤ, ◌++◌, List, [], true, false, Option, None, Some, Ok, Err, ap, codes, decimal, inl, inr, refl, subst, sym}
 use Rattle.std.specs.Prelude.{IfSome, int_lt, pos}
 use Rattle.std.specs.Fmt.{signed_decimal}
-use Rattle.domain_requests.specs.Requests.{Fails, IsTaskOf, parsed_as, passed_one}
-use Rattle.domain_requests.specs.declared.task.Parsed.{Parsed}
-use Rattle.domain_requests.specs.declared.task.Task.{Task}
-use Rattle.domain_requests.specs.declared.task.Task.TheVariants as task
+use Rattle.outcome_spec.specs.Below.domain_requests.Requests.{Fails, IsTaskOf, parsed_as, passed_one}
+use Rattle.outcome_spec.specs.Below.domain_requests.declared.task.Parsed.{Parsed}
+use Rattle.outcome_spec.specs.Below.domain_requests.declared.task.Task.{Task}
+use Rattle.outcome_spec.specs.Below.domain_requests.declared.task.Task.TheVariants as task
 use Rattle.procedure_spec.specs.Lines.{line}
 use Rattle.procedure_spec.specs.Requests.{procedure_of}
 use Rattle.outcome_spec.specs.Shown.{IsShown, is_built, is_built_of_domain, number_shown, or_else, parse_shown, shown_by, text_shown}

@@ -21,9 +21,9 @@ use Rattle.def_keeper.specs.Keeper.{Keeping}
 use Rattle.def_keeper.specs.Marks.{StoreHistory}
 use Rattle.def_keeper.specs.Turns.{meaning, new_base_keeps, no_mark_lowers}
 use Rattle.outcome_spec.specs.Histories.{front_of}
-use Rattle.store_asks.specs.Restoring.{IsToldOf, Reads}
-use Rattle.store_asks.specs.Turning.{EndsIn, ReadTells, StorePass}
-use Rattle.store_asks.specs.declared.restoring.SavedGuest.{SavedGuest}
+use Rattle.outcome_spec.specs.Below.store_asks.Restoring.{IsToldOf, Reads}
+use Rattle.outcome_spec.specs.Below.store_asks.Turning.{EndsIn, ReadTells, StorePass}
+use Rattle.outcome_spec.specs.Below.store_asks.declared.restoring.SavedGuest.{SavedGuest}
 use Rattle.request_asks.specs.Turns.{HasRead}
 
 abbrev pub StoreTurn : Type 0 → Type 0

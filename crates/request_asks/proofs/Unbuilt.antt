@@ -1,6 +1,6 @@
 -- Procedures that are not built.
 use Rattle.std.proofs.Common.{◌≡◌, false, decimal, refl, sym}
-use Rattle.domain_requests.specs.Requests.{Fails}
+use Rattle.outcome_spec.specs.Below.domain_requests.Requests.{Fails}
 use Rattle.outcome_spec.specs.Shown.{IsNotBuilt, is_built}
 use Rattle.procedure_spec.specs.Lines.{line}
 use Rattle.procedure_spec.specs.Requests.{procedure_of}

@@ -5,8 +5,8 @@ use Rattle.outcome_spec.specs.Asked.{Asks}
 use Rattle.outcome_spec.specs.Restored.{IsNotRestored}
 use Rattle.outcome_spec.specs.Shown.{IsShown, is_built, shown_by}
 use Rattle.slot_holds.specs.Holds.{call_of}
-use Rattle.store_asks.specs.Turning.{HasReadSaved, StorePass}
-use Rattle.store_asks.specs.declared.restoring.SavedGuest.{SavedGuest}
+use Rattle.outcome_spec.specs.Below.store_asks.Turning.{HasReadSaved, StorePass}
+use Rattle.outcome_spec.specs.Below.store_asks.declared.restoring.SavedGuest.{SavedGuest}
 use Rattle.virt_types.specs.declared.memory.OrNoMemory.{OrNoMemory}
 use Rattle.virt_types.specs.declared.refusal.Refusal.{Refusal}
 use Rattle.virt_types.specs.declared.request.Request.{Request}

@@ -5,3 +5,4 @@ pub mod Found
 pub mod Claims
 pub mod Said
 pub mod Turns
+pub mod Below

@@ -3,7 +3,7 @@ use Rattle.std.specs.Prelude.{◌≡◌}
 use Rattle.def_keeper.specs.declared.mark.StoreBase.{StoreBase}
 use Rattle.def_keeper.specs.declared.mark.StoreMark.{StoreMark}
 use Rattle.outcome_spec.specs.Rows.{Known, KnownRow}
-use Rattle.store_asks.specs.Turning.{StorePass}
+use Rattle.outcome_spec.specs.Below.store_asks.Turning.{StorePass}
 
 -- its number, what it has seen, its own marks, and whether no ticket is left
 abbrev pub known : StorePass → Known StoreBase StoreMark

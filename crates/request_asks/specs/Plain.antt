@@ -1,6 +1,6 @@
 -- Requests of which no word has to be read: what they ask takes no memory to find out.
 use Rattle.std.specs.Prelude.{ℕ, ℤ, Option, None, Some}
-use Rattle.domain_requests.specs.declared.task.Task.TheVariants as task
+use Rattle.outcome_spec.specs.Below.domain_requests.declared.task.Task.TheVariants as task
 use Rattle.session_spec.specs.Bounds.{passed}
 use Rattle.slot_holds.specs.declared.Hold.TheVariants as hold
 use Rattle.virt_types.specs.declared.call.Query.TheVariants as query

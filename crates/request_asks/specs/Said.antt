@@ -1,6 +1,6 @@
 -- What is found out by what a request says alone, whatever the passes are. No public clause cites these.
 use Rattle.std.specs.Prelude.{ℕ, List}
-use Rattle.store_asks.specs.Turning.{StorePass}
+use Rattle.outcome_spec.specs.Below.store_asks.Turning.{StorePass}
 use Rattle.virt_types.specs.declared.memory.OrNoMemory.{OrNoMemory}
 use Rattle.virt_types.specs.declared.memory.OrNoMemory.TheVariants as or
 use Rattle.virt_types.specs.declared.refusal.Refusal.{Refusal}

@@ -1,13 +1,13 @@
 -- A turn in which an image is read for a restore. No public clause cites these.
 use Rattle.std.specs.Prelude.{◌≡◌, ◌⊎◌, ℕ, List, [], Result, Ok, Err}
 use Rattle.files_disk.specs.Telling.{Told}
-use Rattle.domain_requests.specs.declared.task.Task.TheVariants as task
+use Rattle.outcome_spec.specs.Below.domain_requests.declared.task.Task.TheVariants as task
 use Rattle.outcome_spec.specs.Asked.{claim_of}
 use Rattle.outcome_spec.specs.Histories.{front_of}
 use Rattle.slot_holds.specs.Holds.{call_of}
 use Rattle.slot_holds.specs.declared.Hold.{Hold}
-use Rattle.store_asks.specs.Turning.{EndsIn, HasReadSaved, StorePass}
-use Rattle.store_asks.specs.declared.restoring.SavedGuest.{SavedGuest}
+use Rattle.outcome_spec.specs.Below.store_asks.Turning.{EndsIn, HasReadSaved, StorePass}
+use Rattle.outcome_spec.specs.Below.store_asks.declared.restoring.SavedGuest.{SavedGuest}
 use Rattle.text_spec.specs.Fill.{IsFilledBy}
 use Rattle.virt_types.specs.declared.call.Call.TheVariants as call
 use Rattle.virt_types.specs.declared.caller.Front.{Front}

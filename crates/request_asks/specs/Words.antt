@@ -2,15 +2,15 @@
 use Rattle.std.specs.Prelude.{◌≡◌, ℕ, List, [], int_lt, pos, Ok}
 use Rattle.def_keeper.specs.Chapters.{by}
 use Rattle.def_keeper.specs.declared.mark.StoreAction.TheVariants as action
-use Rattle.domain_requests.specs.Requests.{IsTaskOf, parsed_as}
-use Rattle.domain_requests.specs.declared.task.Parsed.{Parsed}
-use Rattle.domain_requests.specs.declared.task.Task.{Task}
-use Rattle.domain_requests.specs.declared.task.Task.TheVariants as task
+use Rattle.outcome_spec.specs.Below.domain_requests.Requests.{IsTaskOf, parsed_as}
+use Rattle.outcome_spec.specs.Below.domain_requests.declared.task.Parsed.{Parsed}
+use Rattle.outcome_spec.specs.Below.domain_requests.declared.task.Task.{Task}
+use Rattle.outcome_spec.specs.Below.domain_requests.declared.task.Task.TheVariants as task
 use Rattle.outcome_spec.specs.Marks.{HasLeft}
 use Rattle.session_spec.specs.DefinitionText.{definition_in}
-use Rattle.store_asks.specs.Restoring.{saved_in}
-use Rattle.store_asks.specs.Turning.{StorePass}
-use Rattle.store_asks.specs.declared.restoring.SavedGuest.{SavedGuest}
+use Rattle.outcome_spec.specs.Below.store_asks.Restoring.{saved_in}
+use Rattle.outcome_spec.specs.Below.store_asks.Turning.{StorePass}
+use Rattle.outcome_spec.specs.Below.store_asks.declared.restoring.SavedGuest.{SavedGuest}
 use Rattle.store_spec.specs.declared.image.Image.{Image}
 use Rattle.text_spec.specs.Fill.{IsFilledBy}
 use Rattle.virt_types.specs.declared.call.Call.TheVariants as call

@@ -2,7 +2,7 @@
 ghost use Rattle.std.specs.Prelude.{◌≡◌};
 ghost use Rattle.request_asks.specs.Said.{refused_by};
 
-use domain_requests::Task;
+use outcome_spec::Task;
 use slot_holds::Hold;
 use virt_types::{Front, OrNoMemory, Refusal};
 

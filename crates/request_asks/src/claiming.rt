@@ -1,12 +1,12 @@
 // Definitions that claim a slot.
 ghost use Rattle.std.specs.Prelude.{◌≡◌};
-ghost use Rattle.store_asks.specs.Asks as spec;
+ghost use Rattle.outcome_spec.specs.Below.store_asks.Asks as spec;
 ghost use Rattle.virt_types.specs.Drawn.{IsMadeOfDrawn};
 ghost use Rattle.request_asks.specs.Claims.{IsClaimed, IsClaimedBy};
 
 use crate::refusing::refuse;
 use definition_fill::fill_domain;
-use domain_texts::read_domain;
+use outcome_spec::read_domain;
 use slot_holds::Hold;
 use std::alloc::Global;
 use virt_types::{

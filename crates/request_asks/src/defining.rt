@@ -1,6 +1,6 @@
 // Requests that bring a definition with them.
 ghost use Rattle.std.specs.Prelude.{◌≡◌, ℤ, None};
-ghost use Rattle.domain_requests.specs.Requests.{passed_one};
+ghost use Rattle.outcome_spec.specs.Below.domain_requests.Requests.{passed_one};
 ghost use Rattle.virt_types.specs.Drawn.{IsMadeOfDrawn};
 ghost use Rattle.virt_types.specs.declared.request.Request.TheVariants as request;
 ghost use Rattle.request_asks.specs.Said.{IsSaid};
@@ -8,7 +8,7 @@ ghost use Rattle.request_asks.specs.Said.{IsSaid};
 use crate::asked::Asked;
 use crate::claiming::{Claimed, claim_text};
 use crate::refusing::refuse_number;
-use domain_requests::Task;
+use outcome_spec::Task;
 use std::alloc::Global;
 use virt_types::{Boxed, Bytes, Call, NoMemory, Random, Text};
 

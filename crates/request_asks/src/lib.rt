@@ -14,4 +14,5 @@ mod restoring;
 mod words;
 
 pub use asked::{Asked, Listing};
+pub use def_keeper::Opening;
 pub use reading::read_request;

@@ -6,7 +6,7 @@ ghost use Rattle.virt_types.specs.declared.request.Request.TheVariants as reques
 ghost use Rattle.request_asks.specs.Said.{IsSaid};
 
 use crate::asked::Asked;
-use domain_requests::{Task, parse, task_of};
+use outcome_spec::{Task, parse, task_of};
 use slot_holds::Hold;
 use std::alloc::Global;
 use virt_types::{Bytes, DomainRequest, DomainTarget, NoMemory, Query, Random, Text, Uuid};

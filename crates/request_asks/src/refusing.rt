@@ -1,7 +1,7 @@
 // Refusals of what a request says.
 ghost use Rattle.std.specs.Prelude.{◌≡◌, ◌++◌, codes, decimal};
 ghost use Rattle.std.specs.Fmt.{signed_decimal};
-ghost use Rattle.domain_requests.specs.Requests.{Fails};
+ghost use Rattle.outcome_spec.specs.Below.domain_requests.Requests.{Fails};
 ghost use Rattle.procedure_spec.specs.Lines.{line};
 ghost use Rattle.procedure_spec.specs.Requests.{procedure_of};
 ghost use Rattle.session_spec.specs.Refused.{refusal};

@@ -10,11 +10,10 @@ use crate::asked::Asked;
 use crate::claiming::{Claimed, claim};
 use crate::naming::name_of;
 use def_keeper::{Keeper, KeeperPass, KeeperTurn, Opening};
-use domain_requests::Task;
 use files_disk::Files;
+use outcome_spec::{SavedGuest, SavedRead, Task, read_saved_in};
 use std::alloc::Global;
 use std::sync::Wait;
-use store_asks::{SavedGuest, SavedRead, read_saved_in};
 use turn_cell::TurnCell;
 use virt_types::{Boxed, Call, Front, Name, NoMemory, OrNoMemory, Random, Text};
 

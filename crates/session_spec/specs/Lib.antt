@@ -3,3 +3,4 @@ pub mod Course
 pub mod DefinitionText
 pub mod Refused
 pub mod Replies
+pub mod Below

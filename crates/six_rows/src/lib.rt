@@ -3,4 +3,5 @@
 
 mod six;
 
+pub use row_session::{End, SixRows, serve};
 pub use six::{put_six, take_six};

@@ -12,10 +12,10 @@ use Rattle.text_spec.specs.Text.{read_of}
 use Rattle.text_spec.specs.Tree.{Tree, trees, none}
 use Rattle.text_spec.specs.Writable.{IsNamed, IsText, IsTree, IsWritable}
 use Rattle.text_spec.specs.Written.{written, in_text, deeper, trees_written}
-use Rattle.text_laws.specs.Texts.{Of}
-use Rattle.text_laws.proofs.Allowed.{both_all}
-use Rattle.text_laws.proofs.Lengths.{AreNoLonger, as_long, both_longer, first_room, fits_too, none_longer, tree_room, with_room}
-use Rattle.text_laws.proofs.Plain.{named_by, word_text}
+use Rattle.definition_print.specs.Below.text_laws.Texts.{Of}
+use Rattle.definition_print.proofs.Below.text_laws.Allowed.{both_all}
+use Rattle.definition_print.proofs.Below.text_laws.Lengths.{AreNoLonger, as_long, both_longer, first_room, fits_too, none_longer, tree_room, with_room}
+use Rattle.definition_print.proofs.Below.text_laws.Plain.{named_by, word_text}
 use Rattle.text_rows.proofs.Formed.{first_in, holder_formed, word_formed, writable}
 use Rattle.tree_words.specs.Called.{is_called, text_called}
 use Rattle.tree_words.specs.Spelled.{spelled, worded, wordeds}

@@ -6,7 +6,7 @@ ghost use Rattle.text_spec.specs.Written.{written};
 ghost use Rattle.snapshot_xml.specs.ReadsAs.{IsSoundInfo, IsSoundSnapshot, ReadsAsSnapshot};
 ghost use Rattle.snapshot_xml.specs.SnapshotText.{info_of, info_tree, kept_tree};
 
-use text_laws::read_is_writable;
+use definition_print::read_is_writable;
 use text_spec::written_reads_back;
 
 /// The text that is printed of what a caller says of a snapshot reads as that.

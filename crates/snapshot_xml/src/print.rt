@@ -6,7 +6,7 @@ ghost use Rattle.snapshot_xml.specs.SnapshotText as spec;
 
 use crate::laws::{kept_snapshot_reads_back, printed_snapshot_reads_back};
 use crate::tree::{info_tree, kept_tree};
-use markup::write_tree;
+use definition_print::write_tree;
 use std::alloc::Global;
 use virt_types::{NoMemory, Snap, SnapInfo, Text};
 

@@ -16,7 +16,7 @@ use Rattle.store_spec.specs.declared.image.Image.{Image}
 use Rattle.store_spec.specs.declared.kind.BookKind.TheVariants as kind
 use Rattle.def_keeper.specs.declared.mark.StoreFault.{StoreFault}
 use Rattle.def_keeper.specs.declared.mark.StoreFault.TheVariants as store
-use Rattle.session_spec.specs.DefinitionText.{text_of}
+use Rattle.domain_texts.specs.Below.session_spec.DefinitionText.{text_of}
 use Rattle.domain_texts.specs.Kept.{entry_of}
 
 -- the identifier of a domain of this definition; one without has the nil UUID (RFC 9562, section 5.9)

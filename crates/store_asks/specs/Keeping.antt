@@ -6,8 +6,8 @@ use Rattle.virt_types.specs.declared.memory.Fault.{Fault}
 use Rattle.virt_types.specs.declared.memory.Fault.TheVariants as fault
 use Rattle.virt_types.specs.declared.memory.OrNoMemory.{OrNoMemory}
 use Rattle.files_disk.specs.Telling.{Told}
-use Rattle.image_store.specs.Storing.{ReadsImage, WritesImage}
-use Rattle.image_store.specs.Storing.{HasDevice as HasImageDevice}
+use Rattle.def_keeper.specs.Below.image_store.Storing.{ReadsImage, WritesImage}
+use Rattle.def_keeper.specs.Below.image_store.Storing.{HasDevice as HasImageDevice}
 use Rattle.store_spec.specs.declared.change.Change.{Change}
 use Rattle.store_spec.specs.declared.image.Image.{Image}
 use Rattle.store_spec.specs.declared.image.ImageFault.{ImageFault}
@@ -19,7 +19,7 @@ use Rattle.def_keeper.specs.Chapters.{moment_of, open_chapter}
 use Rattle.def_keeper.specs.Imaging.{HasRead, HasWritten}
 use Rattle.def_keeper.specs.Keeper.{Keeping}
 use Rattle.def_keeper.specs.Marks.{StoreHistory}
-use Rattle.def_map.specs.Map.{found}
+use Rattle.def_keeper.specs.Below.def_map.Map.{found}
 
 -- how far a history has come
 abbrev pub front_of : StoreHistory → Front

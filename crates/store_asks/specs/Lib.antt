@@ -4,3 +4,4 @@ pub mod Answers
 pub mod Told
 pub mod Restoring
 pub mod Turning
+pub mod Below

@@ -1,7 +1,7 @@
 -- What a restore is told of the image that is read for it.
 use Rattle.std.specs.Prelude.{◌≡◌, ℕ, [], codes, Result, Ok, Err, List}
-use Rattle.session_spec.specs.DefinitionText.{definition_in}
-use Rattle.session_spec.specs.Refused.{refusal}
+use Rattle.domain_texts.specs.Below.session_spec.DefinitionText.{definition_in}
+use Rattle.domain_texts.specs.Below.session_spec.Refused.{refusal}
 use Rattle.virt_types.specs.Memory.{UnlessNoMemory}
 use Rattle.virt_types.specs.declared.ask.ImageKind.{ImageKind}
 use Rattle.virt_types.specs.declared.ask.ImageKind.TheVariants as image

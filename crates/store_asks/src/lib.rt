@@ -10,5 +10,6 @@ mod restoring;
 mod turning;
 
 pub use answering::answer_in;
+pub use def_keeper::{Keeper, Opening};
 pub use restoring::{SavedGuest, read_saved_in};
 pub use turning::{SavedRead, ask_store, read_saved};

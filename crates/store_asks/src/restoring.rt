@@ -1,6 +1,6 @@
 // The image that is read for a restore.
 ghost use Rattle.std.specs.Prelude.{◌≡◌};
-ghost use Rattle.session_spec.specs.Refused.{refusal};
+ghost use Rattle.domain_texts.specs.Below.session_spec.Refused.{refusal};
 ghost use Rattle.virt_types.specs.Memory.{UnlessNoMemory};
 ghost use Rattle.store_asks.specs.Restoring.{Fails, Reads, bad as bad_image, saved_in, unread};
 

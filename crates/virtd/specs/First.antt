@@ -1,7 +1,7 @@
 -- What a daemon does before it serves anybody.
 use Rattle.std.specs.Prelude.{List, Option, None, Some, Bool, true, false}
 use Rattle.std.specs.List.{list_all}
-use Rattle.held_tasks.specs.OfOutcomes.{Outcome}
+use Rattle.daemon.specs.Below.held_tasks.OfOutcomes.{Outcome}
 use Rattle.virt_types.specs.declared.request.Request.{Request}
 use Rattle.virt_types.specs.declared.value.Reply.{Reply}
 use Rattle.virt_types.specs.declared.value.Reply.TheVariants as reply

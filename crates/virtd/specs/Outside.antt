@@ -2,7 +2,7 @@
 use Rattle.std.specs.Prelude.{◌≡◌, ◌⊎◌, ℕ, List, Option, None, Some, Result, Ok, Err}
 use Rattle.daemon.specs.declared.closing.Closed.{Closed}
 use Rattle.def_keeper.specs.Opened.{IsSureAt}
-use Rattle.driver_close.specs.declared.books.Books.{Books}
+use Rattle.daemon.specs.Below.driver_close.declared.books.Books.{Books}
 use Rattle.files_disk.specs.Telling.{Told}
 use Rattle.outside_spec.specs.Faults.{Rose}
 use Rattle.virt_types.specs.declared.memory.Fault.{Fault}

@@ -5,8 +5,8 @@ use Rattle.daemon.specs.Serving.{HasServedOne, Reported}
 use Rattle.daemon.specs.Starting.{HasMade, first_call}
 use Rattle.daemon.specs.declared.closing.Closed.{Closed}
 use Rattle.files_disk.specs.Telling.{Told}
-use Rattle.held_tasks.specs.OfOutcomes.{Outcome}
-use Rattle.held_tasks.specs.OfRows.{DriverRow}
+use Rattle.daemon.specs.Below.held_tasks.OfOutcomes.{Outcome}
+use Rattle.daemon.specs.Below.held_tasks.OfRows.{DriverRow}
 use Rattle.outside_spec.specs.Faults.{Rose}
 use Rattle.service_spec.specs.Activities.{Hand, hand}
 use Rattle.session_spec.specs.Course.{IsServedWhole, IsWhole}

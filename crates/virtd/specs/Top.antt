@@ -5,11 +5,11 @@ use Rattle.daemon_settings.specs.Settings.{HasLoaded}
 use Rattle.daemon_settings.specs.declared.settings.Settings.{Settings}
 use Rattle.daemon_settings.specs.declared.settings.SettingsFault.{SettingsFault}
 use Rattle.daemon_settings.specs.declared.settings.SettingsFault.TheVariants as settings
-use Rattle.driver_close.specs.OfOpening.{HasCells, IsUnopened}
+use Rattle.daemon.specs.Below.driver_close.OfOpening.{HasCells, IsUnopened}
 use Rattle.driver_store.specs.declared.fault.DriverFault.{DriverFault}
 use Rattle.files_disk.specs.Memory.{MemoryFiles, no_files}
 use Rattle.files_disk.specs.Telling.{Told}
-use Rattle.held_tasks.specs.OfRows.{DriverRow}
+use Rattle.daemon.specs.Below.held_tasks.OfRows.{DriverRow}
 use Rattle.outside_spec.specs.Faults.{Rose}
 use Rattle.session_spec.specs.declared.end.End.{End}
 use Rattle.virt_types.specs.declared.ask.GuestEvent.{GuestEvent}

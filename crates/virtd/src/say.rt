@@ -2,9 +2,8 @@
 ghost use Rattle.std.specs.Prelude.{◌≡◌};
 
 use crate::world::World;
-use daemon::{DriverFault, End};
+use daemon::{DriverFault, End, Outcome};
 use daemon_settings::{BadLine, SettingsFault};
-use held_tasks::Outcome;
 use std::alloc::{AllocError, Global};
 use store_spec::BookKind;
 use virt_types::{OrNoMemory, Refusal, Reply, Request, Status};

@@ -2,7 +2,7 @@
 ghost use Rattle.std.specs.Prelude.{◌≡◌, ◌≢◌};
 ghost use Rattle.def_keeper.specs.Opened.{IsSureAt};
 ghost use Rattle.service_spec.specs.Activities.{hand};
-ghost use Rattle.held_tasks.specs.declared.MakerOf.{MakerOf};
+ghost use Rattle.daemon.specs.Below.held_tasks.declared.MakerOf.{MakerOf};
 ghost use Rattle.virtd.specs.First as spec;
 ghost use Rattle.virtd.specs.Outside.{with_books};
 ghost use Rattle.virtd.specs.Serving.{Begins, HasRun};

@@ -3,7 +3,7 @@ ghost use Rattle.std.specs.Prelude.{◌≡◌, ◌≢◌, ◌↔◌, ℕ, List, 
 ghost use Rattle.std.specs.String.{string_bytes};
 ghost use Rattle.daemon_words.specs.Commands.{Demo, Stdio};
 ghost use Rattle.def_keeper.specs.Opened.{IsSureAt};
-ghost use Rattle.held_tasks.specs.declared.MakerOf.{MakerOf};
+ghost use Rattle.daemon.specs.Below.held_tasks.declared.MakerOf.{MakerOf};
 ghost use Rattle.virtd.specs.Outside.{IsStarved, with_files};
 ghost use Rattle.virtd.specs.Top.{ServesDemo, ServesDirectory, ServesOpened};
 ghost use Rattle.virtd.specs.Words.{AsksFor, IsDaemon};

@@ -1,8 +1,8 @@
 use Rattle.std.proofs.Common.{List, subst, sym}
 use Rattle.std.specs.List.{All}
-use Rattle.driver.specs.Cells.{IsIdleRow, IsRowOf}
-use Rattle.driver_close.specs.Closed.{HasClosed}
-use Rattle.held_tasks.specs.OfRows.{DriverRow}
+use Rattle.driver_service.specs.Below.driver.Cells.{IsIdleRow, IsRowOf}
+use Rattle.driver_service.specs.Below.driver_close.Closed.{HasClosed}
+use Rattle.driver_service.specs.Below.held_tasks.OfRows.{DriverRow}
 use Rattle.daemon.proofs.closing.close.Goals as goal
 
 pub close-files-requires-clause-idle : goal.close-files-requires-clause-idle

@@ -1,8 +1,8 @@
 use Rattle.std.proofs.Common.{◌≡◌, ◌≤◌, length, take}
 use Rattle.std.specs.Vec.{vec_capacity}
 use Rattle.daemon.specs.Starting.{HasMade, first_call}
-use Rattle.driver.specs.Cells.{IsRowOf}
-use Rattle.held_tasks.specs.OfRows.{IsReadyRow, KeepsParts}
+use Rattle.driver_service.specs.Below.driver.Cells.{IsRowOf}
+use Rattle.driver_service.specs.Below.held_tasks.OfRows.{IsReadyRow, KeepsParts}
 use Rattle.service_spec.specs.Activities.{hand}
 use Rattle.daemon.proofs.starting.make_all.Given as goal
 

@@ -1,6 +1,6 @@
 use Rattle.std.proofs.Common.{[], ◌∷◌, refl}
-use Rattle.domain_asks.specs.Starving.{starved}
-use Rattle.domain_asks.specs.Going.{first_course}
+use Rattle.domain_ledger.specs.Below.domain_asks.Starving.{starved}
+use Rattle.domain_ledger.specs.Below.domain_asks.Going.{first_course}
 use Rattle.domain_ledger.specs.Ledger.{now_in}
 use Rattle.domain_listeners.specs.Listening.{registrations}
 use Rattle.domain_record.specs.Following.{IsFollowed}

@@ -1,6 +1,6 @@
 use Rattle.std.proofs.Common.{[], ◌∷◌, refl}
 use Rattle.domain_spec.specs.declared.mark.Mark.TheVariants as mark
-use Rattle.domain_history.specs.Closing.{reply_in}
+use Rattle.domain_ledger.specs.Below.domain_history.Closing.{reply_in}
 use Rattle.domain_ledger.specs.Ledger.{now_in}
 use Rattle.domain_listeners.specs.Listening.{registrations}
 use Rattle.domain_record.specs.Record.{open_ends}

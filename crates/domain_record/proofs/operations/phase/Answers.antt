@@ -1,5 +1,5 @@
 use Rattle.std.proofs.Common.{refl}
-use Rattle.domain_asks.specs.Starving.{starved}
+use Rattle.domain_ledger.specs.Below.domain_asks.Starving.{starved}
 use Rattle.domain_ledger.specs.Ledger.{now_in}
 use Rattle.domain_ledger.specs.Operations.{nested_in}
 use Rattle.domain_listeners.specs.Listening.{registrations}

@@ -2,7 +2,7 @@ use Rattle.std.proofs.Common.{◌∙◌, ◌≤◌, List, ap, length, subst, sym
 use Rattle.def_keeper.specs.Keeper.{Keeping}
 use Rattle.def_keeper.specs.Marks.{StoreHistory}
 use Rattle.def_keeper.specs.Safe.{KeepsAll}
-use Rattle.found_domains.specs.declared.found.FoundDomain.{FoundDomain}
+use Rattle.driver_store.specs.Below.found_domains.declared.found.FoundDomain.{FoundDomain}
 use Rattle.driver_open.specs.Cells.{IsFirstRow}
 use Rattle.driver_open.proofs.Firsts.{list_is_idle}
 use Rattle.driver_open.proofs.Made.{first_row}

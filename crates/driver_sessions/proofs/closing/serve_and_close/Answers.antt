@@ -1,5 +1,5 @@
 use Rattle.std.proofs.Common.{◌≡◌, ◌*◌, ℕ, arith, length, subst}
-use Rattle.driver.specs.Cells.{BecomesMany}
+use Rattle.driver_crossing.specs.Below.driver.Cells.{BecomesMany}
 use Rattle.driver_sessions.proofs.Ended.{served_all}
 use Rattle.driver_sessions.proofs.closing.serve_and_close.Goals as goal
 

@@ -1,7 +1,7 @@
 use Rattle.std.proofs.Common.{◌∙◌, ℕ, arith, subst}
-use Rattle.driver.specs.Cells.{BecomesMany}
-use Rattle.driver_close.proofs.OneRow.{many_long, many_whole, whole_has}
-use Rattle.held_tasks.specs.declared.counting.CountingMaker.{CountingMaker}
+use Rattle.driver_crossing.specs.Below.driver.Cells.{BecomesMany}
+use Rattle.driver_crossing.proofs.Below.driver_close.OneRow.{many_long, many_whole, whole_has}
+use Rattle.driver_crossing.specs.Below.held_tasks.declared.counting.CountingMaker.{CountingMaker}
 use Rattle.driver_sessions.proofs.closing.share_out.Goals as goal
 
 pub more-requires-clause-parts : goal.more-requires-clause-parts

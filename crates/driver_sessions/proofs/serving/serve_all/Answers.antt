@@ -1,10 +1,10 @@
 use Rattle.std.proofs.Common.{List, arith, subst}
 use Rattle.std.proofs.lemmas.Slice.Zip.{AllZip-long}
 use Rattle.std.specs.List.{All}
-use Rattle.driver.specs.Cells.{IsRowOf}
+use Rattle.driver_crossing.specs.Below.driver.Cells.{IsRowOf}
 use Rattle.driver_sessions.proofs.Rows.{may_serve, rows_had, rows_kept}
 use Rattle.driver_sessions.specs.Serving.{IsServed}
-use Rattle.held_tasks.specs.OfRows.{DriverRow, IsReadyRow}
+use Rattle.driver_crossing.specs.Below.held_tasks.OfRows.{DriverRow, IsReadyRow}
 use Rattle.driver_sessions.proofs.serving.serve_all.Goals as goal
 
 pub serve_seated-requires-after_bounds : goal.serve_seated-requires-after_bounds

@@ -1,9 +1,9 @@
 use Rattle.std.proofs.Common.{refl, subst, sym}
-use Rattle.driver.specs.Cells.{IsRowOf}
+use Rattle.driver_crossing.specs.Below.driver.Cells.{IsRowOf}
 use Rattle.driver_sessions.proofs.Rows.{as_seen}
 use Rattle.driver_sessions.specs.Seats.{Seat}
 use Rattle.driver_sessions.specs.Serving.{IsServed}
-use Rattle.held_tasks.specs.OfRows.{IsReadyRow}
+use Rattle.driver_crossing.specs.Below.held_tasks.OfRows.{IsReadyRow}
 use Rattle.driver_sessions.proofs.serving.serve_one.Goals as goal
 
 pub serve-rows-requires : goal.serve-rows-requires

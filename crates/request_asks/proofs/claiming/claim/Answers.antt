@@ -1,6 +1,6 @@
 use Rattle.std.proofs.Common.{◌≡◌, ◌∙◌, List, ℕ, Result, ap, subst}
 use Rattle.std.specs.Result.{IfOk}
-use Rattle.store_asks.specs.Asks.{identifier}
+use Rattle.outcome_spec.specs.Below.store_asks.Asks.{identifier}
 use Rattle.text_spec.specs.Fill.{IsFilledBy}
 use Rattle.virt_types.specs.declared.domain_def.DomainDef.{DomainDef}
 use Rattle.virt_types.specs.declared.memory.NoMemory.{NoMemory}

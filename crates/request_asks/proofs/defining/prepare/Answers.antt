@@ -1,7 +1,7 @@
 use Rattle.std.proofs.Common.{◌≡◌, ◌∙◌, ℤ, ◌++◌, [], ap, codes, decimal, subst, sym, to_z, of_z, w32}
 use Rattle.std.specs.Fmt.{signed_decimal}
 use Rattle.std.proofs.lemmas.Int.{to_z-of_z}
-use Rattle.domain_requests.specs.Requests.{Fails, passed_one}
+use Rattle.outcome_spec.specs.Below.domain_requests.Requests.{Fails, passed_one}
 use Rattle.session_spec.specs.Refused.{refusal}
 use Rattle.virt_types.specs.Drawn.{IsMadeOfDrawn}
 use Rattle.virt_types.specs.declared.refusal.RefusalCode.TheVariants as code

@@ -1,7 +1,7 @@
 use Rattle.std.proofs.Common.{◌≡◌, ℕ, ℤ, List, refl, subst, sym, to_z, of_z, w32}
 use Rattle.std.proofs.lemmas.Int.{to_z-of_z}
 use Rattle.std.specs.Prelude.{int_lt, pos}
-use Rattle.domain_requests.specs.declared.task.Task.TheVariants as task
+use Rattle.outcome_spec.specs.Below.domain_requests.declared.task.Task.TheVariants as task
 use Rattle.virt_types.specs.declared.call.Call.TheVariants as call
 use Rattle.virt_types.specs.declared.request.Request.TheVariants as request
 use Rattle.request_asks.specs.Said.{IsSaid}

@@ -1,5 +1,5 @@
 use Rattle.std.proofs.Common.{ℕ, List, [], ◌∙◌, refl, subst, sym}
-use Rattle.domain_requests.specs.declared.task.Task.TheVariants as task
+use Rattle.outcome_spec.specs.Below.domain_requests.declared.task.Task.TheVariants as task
 use Rattle.slot_holds.specs.declared.Hold.TheVariants as hold
 use Rattle.virt_types.specs.declared.call.Query.TheVariants as query
 use Rattle.virt_types.specs.declared.request.Request.TheVariants as request

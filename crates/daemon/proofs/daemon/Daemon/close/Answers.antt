@@ -1,7 +1,7 @@
 use Rattle.std.proofs.Common.{List, [], ◌∷◌, ◌++◌, ◌∙◌, ap, subst}
 use Rattle.daemon.specs.Closing.{IsEndedWith}
 use Rattle.daemon.specs.Daemon.{DaemonView}
-use Rattle.held_tasks.specs.OfRows.{DriverRow}
+use Rattle.driver_service.specs.Below.held_tasks.OfRows.{DriverRow}
 use Rattle.daemon.proofs.daemon.Daemon.close.Goals as goal
 
 pub returns : goal.returns

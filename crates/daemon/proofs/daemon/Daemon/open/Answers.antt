@@ -1,4 +1,4 @@
-use Rattle.driver_close.proofs.OneRow.{opened_whole}
+use Rattle.driver_service.proofs.Below.driver_close.OneRow.{opened_whole}
 use Rattle.daemon.proofs.daemon.Daemon.open.Goals as goal
 
 pub invariant_of-result : goal.invariant_of-result

@@ -5,12 +5,12 @@ use Rattle.daemon.specs.Serving.{HasServedOne, Reported}
 use Rattle.daemon.proofs.Keeping.{session_keeps}
 use Rattle.daemon.proofs.Rows.{alone_all, passes_keep, passes_own, passes_ready, put_alone, put_back, put_back_all, put_back_whole, six_are_all, six_put_back}
 use Rattle.daemon.proofs.Served.{served_by_none, served_by_six}
-use Rattle.driver.specs.Cells.{IsRowOf}
-use Rattle.driver_close.proofs.OneRow.{many_long, one_still_whole, whole_has}
-use Rattle.driver_close.specs.Closed.{IsWhole}
+use Rattle.driver_service.specs.Below.driver.Cells.{IsRowOf}
+use Rattle.driver_service.proofs.Below.driver_close.OneRow.{many_long, one_still_whole, whole_has}
+use Rattle.driver_service.specs.Below.driver_close.Closed.{IsWhole}
 use Rattle.driver_service.specs.Serving.{is_served}
-use Rattle.held_tasks.specs.OfRows.{DriverRow, IsReadyRow}
-use Rattle.held_tasks.specs.declared.counting.CountingMaker.{CountingMaker}
+use Rattle.driver_service.specs.Below.held_tasks.OfRows.{DriverRow, IsReadyRow}
+use Rattle.driver_service.specs.Below.held_tasks.declared.counting.CountingMaker.{CountingMaker}
 use Rattle.service_spec.specs.Activities.{hand}
 use Rattle.session_spec.specs.declared.end.End.TheVariants as end
 use Rattle.daemon.proofs.daemon.Daemon.serve.Goals as goal

@@ -1,0 +1,2 @@
+-- Libraries below this one that are passed on: crates above name them here.
+pub use Rattle.text_laws.specs as text_laws
