@@ -8,6 +8,9 @@ use virt_types::Failed;
 /// How many steps a client takes at most, each call that is repeated counted anew.
 const MOST_STEPS: u32 = 10_000;
 
+/// What a client says that is done.
+const NOTHING: &[u8] = b"";
+
 /// What a client says, step by step. A step is taken once the reply to the call before it was put.
 #[derive(Drop)]
 pub(crate) struct StorySource<H> {
@@ -26,7 +29,7 @@ impl<H: Wait> StorySource<H> {
             signals,
             steps,
             taken: 0,
-            rest: &[],
+            rest: NOTHING,
         }
     }
 
@@ -41,7 +44,7 @@ impl<H: Wait> StorySource<H> {
         for _ in 0..MOST_STEPS {
             let steps = self.steps;
             let Some(step) = steps.get(self.taken) else {
-                return &[];
+                return NOTHING;
             };
             let next = self.taken.saturating_add(1);
             match *step {
@@ -60,7 +63,7 @@ impl<H: Wait> StorySource<H> {
             }
             self.taken = next;
         }
-        &[]
+        NOTHING
     }
 }
 
