@@ -1,0 +1,4 @@
+pub mod Crossing
+pub mod First
+pub mod Pushed
+pub mod Staying

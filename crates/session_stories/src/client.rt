@@ -1,0 +1,87 @@
+// The clients of stories: what they say, and when.
+use crate::stories::Step;
+use packet::Source;
+use std::sync::Wait;
+use story_guests::{SharedSignals, Signal};
+use virt_types::Failed;
+
+/// How many steps a client takes at most, each call that is repeated counted anew.
+const MOST_STEPS: u32 = 10_000;
+
+/// What a client says that is done.
+const NOTHING: &[u8] = b"";
+
+/// What a client says, step by step. A step is taken once the reply to the call before it was put.
+#[derive(Drop)]
+pub(crate) struct StorySource<H> {
+    rt: H,
+    signals: SharedSignals,
+    steps: &'static [Step],
+    taken: usize,
+    rest: &'static [u8],
+}
+
+impl<H: Wait> StorySource<H> {
+    /// A client that takes these steps.
+    pub(crate) fn new(rt: H, signals: SharedSignals, steps: &'static [Step]) -> StorySource<H> {
+        StorySource {
+            rt,
+            signals,
+            steps,
+            taken: 0,
+            rest: NOTHING,
+        }
+    }
+
+    // Whether a call is made once more after this time.
+    fn is_repeated(&self, until: Signal) -> bool {
+        self.signals.rest(&self.rt, until, 0);
+        self.signals.count(until) == 0
+    }
+
+    // The next call. It is empty where the client is done.
+    fn next_call(&mut self) -> &'static [u8] {
+        for _ in 0..MOST_STEPS {
+            let steps = self.steps;
+            let Some(step) = steps.get(self.taken) else {
+                return NOTHING;
+            };
+            let next = self.taken.saturating_add(1);
+            match *step {
+                Step::Call(asked) => {
+                    self.taken = next;
+                    return asked.packet();
+                }
+                Step::Repeat(asked, until) => {
+                    if !self.is_repeated(until) {
+                        self.taken = next;
+                    }
+                    return asked.packet();
+                }
+                Step::Wait(signal, times) => self.signals.wait_for(&self.rt, signal, times),
+                Step::Give(signal) => self.signals.give(signal),
+            }
+            self.taken = next;
+        }
+        NOTHING
+    }
+}
+
+impl<H: Wait> Source for StorySource<H> {
+    ghost use Rattle.std.specs.Prelude.{None};
+
+    ghost left = { λ _. None };
+
+    ghost faults = { λ _. 0 };
+
+    fn take(&mut self, into: &mut [u8]) -> Result<usize, Failed> {
+        if self.rest.is_empty() {
+            self.rest = self.next_call();
+        }
+        let count = self.rest.len().min(into.len());
+        let (front, rest) = self.rest.split_at(count);
+        into.split_at_mut(count).0.copy_from_slice(front);
+        self.rest = rest;
+        Ok(count)
+    }
+}

@@ -1,0 +1,106 @@
+// The stories, as data.
+use crate::asked::Asked;
+use story_guests::{Manner, Signal, Withheld};
+
+/// What a client does next.
+#[derive(Clone, Copy)]
+pub(crate) enum Step {
+    /// It makes this call.
+    Call(Asked),
+    /// It makes this call once, and then again and again until this signal.
+    Repeat(Asked, Signal),
+    /// It waits until this signal was given so often.
+    Wait(Signal, u64),
+    /// It gives this signal.
+    Give(Signal),
+}
+
+/// What one client does, and where its session is held up.
+#[derive(Clone, Copy)]
+pub(crate) struct Part {
+    pub(crate) steps: &'static [Step],
+    /// What its session waits for before each call.
+    pub(crate) before: Option<Signal>,
+    /// What its session gives once a call was answered.
+    pub(crate) after: Option<Signal>,
+}
+
+/// A story.
+#[derive(Clone, Copy)]
+pub(crate) struct Story {
+    pub(crate) title: &'static str,
+    /// Which answer the guest withholds.
+    pub(crate) manner: Manner,
+    pub(crate) parts: &'static [Part],
+}
+
+pub(crate) const STORIES: [Story; 3] = [
+    Story {
+        title: "the answer to a suspend is withheld until an info was answered",
+        manner: Manner::Withholds(Withheld::Stop, Signal::Told),
+        parts: &[
+            Part {
+                steps: &[
+                    Step::Call(Asked::Define),
+                    Step::Call(Asked::Start),
+                    Step::Call(Asked::Suspend),
+                ],
+                before: None,
+                after: None,
+            },
+            Part {
+                steps: &[Step::Call(Asked::Info)],
+                before: Some(Signal::Held),
+                after: Some(Signal::Told),
+            },
+        ],
+    },
+    // The last command of the start is withheld. The second session's suspend is refused meanwhile, and the third reads the
+    // state all the time; then the start may go on, and once it was answered there is a last info.
+    Story {
+        title: "the answer to a start is withheld until a suspend was refused",
+        manner: Manner::Withholds(Withheld::Cont, Signal::Free),
+        parts: &[
+            Part {
+                steps: &[Step::Call(Asked::Define), Step::Call(Asked::Start)],
+                before: None,
+                after: Some(Signal::Answered),
+            },
+            Part {
+                steps: &[Step::Call(Asked::Suspend)],
+                before: Some(Signal::Held),
+                after: Some(Signal::Told),
+            },
+            Part {
+                steps: &[
+                    Step::Repeat(Asked::Info, Signal::Told),
+                    Step::Give(Signal::Free),
+                    Step::Wait(Signal::Answered, 2),
+                    Step::Call(Asked::Info),
+                ],
+                before: Some(Signal::Held),
+                after: None,
+            },
+        ],
+    },
+    Story {
+        title: "the answer to a suspend is withheld until the guest was killed",
+        manner: Manner::Withholds(Withheld::Stop, Signal::Killed),
+        parts: &[
+            Part {
+                steps: &[
+                    Step::Call(Asked::Define),
+                    Step::Call(Asked::Start),
+                    Step::Call(Asked::Suspend),
+                ],
+                before: None,
+                after: None,
+            },
+            Part {
+                steps: &[Step::Call(Asked::Destroy)],
+                before: Some(Signal::Held),
+                after: None,
+            },
+        ],
+    },
+];

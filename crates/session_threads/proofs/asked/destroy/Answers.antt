@@ -1,4 +1,0 @@
-use Rattle.session_threads.proofs.asked.destroy.Goals as goal
-
-pub returns : goal.returns
-returns c = record { target = c.requires; others = tt }
