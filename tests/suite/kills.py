@@ -113,6 +113,22 @@ def at_its_start(place: Place) -> None:
     check_next_daemon(place, before)
 
 
+@case("kills", "A kill at its start leaves a definition of version 1 as it was, or in version 2")
+def at_a_rewriting(place: Place) -> None:
+    domain = named("a", 1)
+    text = definition(domain)
+    path = place.directory / f"domain-{domain.identifier}.def"
+    for waits in range(8):
+        path.write_text(f"def 1 autostart=no name=a\n{text}")
+        session = Session(place)
+        if waits % 2:
+            check(None, session.call("CONNECT_OPEN", None, 0), "a connection")
+        session.kill()
+        found = read_directory(place.directory)
+        check({domain.identifier: Entry("a", False, "", text)}, found, "the definitions")
+        check_directory(place, found)
+
+
 @case("kills", "A guest that ran as its daemon was killed is told of by the next one, once")
 def told_of(place: Place) -> None:
     domain = named("a", 1)

@@ -112,21 +112,21 @@ module _ {E : Type 0} (ends faults : E → ℕ) (unheard : E → Option (List Gu
   built t before after place r (inr stops) = inr (inl stops)
 
   comes_served : (who : Who) (t : Task) (before after : DomainPass) (report now : List (Ask × Answer)) (said : Reply) (place : Option Front) (seen : Seen) → HasServed ends faults unheard who t before after report now said place seen → Comes before after
-  comes_served who (task.Read q) before after report now said place seen h = comes_read q before after h.came h.queried
+  comes_served who (task.Read q) before after report now said place seen h = comes_read q before after h.0.came h.0.queried
   comes_served who (task.Run d) before after report now said place seen h = comes_done who d before after report now said h.came h.done
   comes_served who task.Register before after report now said place seen h = comes_same before after h.same
   comes_served who task.Deregister before after report now said place seen h = comes_same before after h.same
 
   answers_served : (who : Who) (t : Task) (before after : DomainPass) (report now : List (Ask × Answer)) (said r : Reply) (place : Option Front) (seen : Seen) → HasServed ends faults unheard who t before after report now said place seen → IsPrinted said r
       → Answers (known before) (known after) t place r
-  answers_served who (task.Read q) before after report now said r place seen h prints = built (task.Read q) before after place r (answers_read q before after h.came place said r h.queried h.tells h.at prints)
+  answers_served who (task.Read q) before after report now said r place seen h prints = built (task.Read q) before after place r (answers_read q before after h.0.came place said r h.0.queried h.0.tells h.0.at prints)
   answers_served who (task.Run d) before after report now said r place seen h prints =
       built (task.Run d) before after place r (answers_run d before after place h.came.place r h.at (answers_done who d before after report now said r h.came h.done prints))
   answers_served who task.Register before after report now said r place seen h prints = inr (inr (not_built_printed said r h.tells prints))
   answers_served who task.Deregister before after report now said r place seen h prints = inr (inr (not_built_printed said r h.tells prints))
 
   now_served : (who : Who) (t : Task) (before after : DomainPass) (report now : List (Ask × Answer)) (said : Reply) (place : Option Front) (seen : Seen) → HasServed ends faults unheard who t before after report now said place seen → ReadsNow (known after) t place
-  now_served who (task.Read q) before after report now said place seen h = now_read q before after h.came place h.queried h.at
+  now_served who (task.Read q) before after report now said place seen h = now_read q before after h.0.came place h.0.queried h.0.at
   now_served who (task.Run d) before after report now said place seen h = tt
   now_served who task.Register before after report now said place seen h = tt
   now_served who task.Deregister before after report now said place seen h = tt
@@ -137,7 +137,7 @@ module _ {E : Type 0} (ends faults : E → ℕ) (unheard : E → Option (List Gu
 
   sees_at : (spent : Bool) (who : Who) (t : Task) (before after : DomainPass) (report now : List (Ask × Answer)) (said : Reply) (place : Option Front) (saw seen : Seen) → HasServed ends faults unheard who t before after report now said place saw
       → after.spent ≡ spent → (spent ≡ false → seen ≡ saw) → (spent ≡ true → seen ≡ unseen) → SeesAt spent after t seen
-  sees_at false who (task.Read q) before after report now said place saw seen h is fresh gone = subst (λ (s : Seen). IsSeen s after) (sym (fresh refl)) (sees_read q before after h.came saw h.queried h.sees is)
+  sees_at false who (task.Read q) before after report now said place saw seen h is fresh gone = subst (λ (s : Seen). IsSeen s after) (sym (fresh refl)) (sees_read q before after h.0.came saw h.0.queried h.0.sees is)
   sees_at false who (task.Run d) before after report now said place saw seen h is fresh gone = subst (λ (s : Seen). IsSeen s after) (sym (fresh refl)) (saw_done who d before after report now said place saw h is)
   sees_at false who task.Register before after report now said place saw seen h is fresh gone = fresh refl ∙ h.sees
   sees_at false who task.Deregister before after report now said place saw seen h is fresh gone = fresh refl ∙ h.sees

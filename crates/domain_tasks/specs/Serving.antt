@@ -16,11 +16,10 @@ use Rattle.virt_types.specs.declared.call.Query.{Query}
 use Rattle.virt_types.specs.declared.caller.Front.{Front}
 use Rattle.domain_tasks.specs.Telling.{TellsQueried, front_by, not_built_reply, seen_by, unseen}
 
--- a query took a turn and read there, or no ticket was left; nobody was asked
-pub record HasRead (q : Query) (before after : DomainPass) (report now : List (Ask × Answer)) (said : Reply) (place : Option Front) (seen : Seen) : Type 0 where
+-- a query took a turn and read there, or no ticket was left
+pub record HasRead (q : Query) (before after : DomainPass) (said : Reply) (place : Option Front) (seen : Seen) : Type 0 where
   pub came : Queried
   pub queried : HasQueried q before after came
-  pub reported : now ≡ report
   pub tells : TellsQueried came said
   pub at : place ≡ front_by came
   pub sees : IfSome (seen_by came) (λ s. seen ≡ s)
@@ -47,8 +46,8 @@ module _ {E : Type 0} (ends faults : E → ℕ) (unheard : E → Option (List Gu
     pub at : place ≡ Some came.place
     pub sees : seen ≡ record { front = came.seen; occupied = came.occupied }
 
-  -- what the task came to, of which the domain said this
+  -- what the task came to, of which the domain said this; for a query nobody was asked
   abbrev pub HasServed : Who → Task → DomainPass → DomainPass → List (Ask × Answer) → List (Ask × Answer) → Reply → Option Front → Seen → Type 0
-  HasServed who (task.Read q) before after report now said place seen = HasRead q before after report now said place seen
+  HasServed who (task.Read q) before after report now said place seen = HasRead q before after said place seen × (now ≡ report)
   HasServed who (task.Run d) before after report now said place seen = HasCalled who d before after report now said place seen
   HasServed who other before after report now said place seen = IsNotBuilt before after report now said place seen

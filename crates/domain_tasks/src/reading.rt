@@ -4,7 +4,7 @@ ghost use Rattle.domain_tasks.specs.Serving.{HasRead};
 ghost use Rattle.domain_tasks.specs.Telling.{TellsQueried, front_by, seen_by};
 
 use crate::telling::spent;
-use domain_obj::{Desk, DomainObj, DomainPass, Queried, Seen, no_memory};
+use domain_obj::{DomainObj, DomainPass, Queried, Seen, no_memory};
 use monitor_link::{Ears, Killer, Monitor};
 use std::alloc::Global;
 use std::sync::Wait;
@@ -33,16 +33,15 @@ fn told_of_query(alloc: Global, came: Queried) -> (Reply, Option<Front>, Seen)
 }
 
 /// A query takes a turn, and reads. With what is said of it, where it was read, and what the pass saw there.
-pub fn read<M: Monitor + Drop, E: Ears + Drop, Z: Killer + Drop, D: Desk<M, E, Z>, R: Wait>(
+pub fn read<M: Monitor + Drop, E: Ears + Drop, Z: Killer + Drop, R: Wait>(
     rt: &R,
     alloc: Global,
     domain: &DomainObj<M, E, Z>,
     pass: DomainPass<M, E, Z>,
     query: &Query,
-    desk: &mut D,
 ) -> (DomainPass<M, E, Z>, Reply, Option<Front>, Seen)
     requires own { pass.cell ≡ domain.now }
-    ensures { HasRead query.now pass result.0 (D.report desk.old) (D.report desk.new) result.1 result.2 result.3 }
+    ensures { HasRead query.now pass result.0 result.1 result.2 result.3 }
 {
     let (pass, came) = domain.query(rt, alloc, pass, query);
     let (said, place, seen) = told_of_query(alloc, came);

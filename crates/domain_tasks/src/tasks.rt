@@ -43,7 +43,7 @@ fn serve<M: Monitor + Drop, E: Ears + Drop, Z: Killer + Drop, D: Desk<M, E, Z>, 
     ensures { HasServed E.ends E.faults E.unheard who task.now pass result.0 (D.report desk.old) (D.report desk.new) result.1 result.2 result.3 }
 {
     match task {
-        Task::Read(query) => read(rt, alloc, domain, pass, query, desk),
+        Task::Read(query) => read(rt, alloc, domain, pass, query),
         Task::Run(call) => run(rt, alloc, domain, pass, who, call, desk),
         Task::Register => (pass, not_built(alloc), None, UNSEEN),
         Task::Deregister => (pass, not_built(alloc), None, UNSEEN),

@@ -6,6 +6,5 @@ mod service;
 mod serving;
 
 pub use driver::{Books, Driver, DriverFault, Maker, MakerOf, Outcome, Row, RowList, unkept_of};
-pub use saying::is_sayable;
 pub use service::DriverService;
 pub use serving::is_served;

@@ -10,8 +10,8 @@ use result_forms::has_shape;
 use std::alloc::Global;
 use virt_types::{MOST_KEPT_BYTES, Reply, Request};
 
-/// Whether a reply has the form of what the request's procedure replies.
-pub fn is_sayable(request: &Request, reply: &Reply) -> bool
+// Whether a reply has the form of what the request's procedure replies.
+fn is_sayable(request: &Request, reply: &Reply) -> bool
     ensures { IsTrue result ↔ IsSayable (shape_of request.now) reply.now }
 {
     match reply {

@@ -17,6 +17,5 @@ pub use list::ObjectList;
 pub use opening::open;
 pub use slot_name::{FoundDomain, SlotName, SlotNameList};
 pub use turns::{
-    Held, ListPass, ListTurn, claim, claim_in, hold_name, hold_name_in, hold_uuid, hold_uuid_in,
-    names_in, release, release_in,
+    Held, ListPass, ListTurn, claim_in, hold_name_in, hold_uuid_in, names_in, release,
 };

@@ -8,7 +8,7 @@ ghost use Rattle.book_spec.specs.ListCalls.{answer};
 ghost use Rattle.book_spec.specs.ListHistory.{LeavesMark, slots_of, with_call};
 ghost use Rattle.object_list.specs.Names.{AreNames};
 ghost use Rattle.object_list.specs.Table.{Holds, MayLackMemory};
-ghost use Rattle.object_list.specs.Turns.{HasAsked, HasReleased};
+ghost use Rattle.object_list.specs.Turns.{HasReleased};
 
 use crate::list::ObjectList;
 use crate::slot_name::SlotNameList;
@@ -49,25 +49,6 @@ pub fn hold_name_in(turn: &mut ListTurn, name: &[u8]) -> Held
     hold_name_as(turn, name)
 }
 
-/// Takes a turn. Holds the slot of the domain of this name. Where no ticket is left, the pass comes back.
-pub fn hold_name<R: Wait>(
-    rt: &R,
-    cell: &TurnCell<ObjectList>,
-    pass: ListPass,
-    name: &[u8],
-) -> Result<(ListPass, Held), ListPass>
-    requires { pass.cell ≡ cell.now }
-    ensures asked { IfOk result (λ r. HasAsked (call.HoldName name.now) r.1 pass r.0) }
-    ensures spent { IfErr result (λ after. after ≡ record pass { spent = true }) }
-{
-    let mut turn = match cell.enter(rt, pass) {
-        Ok(turn) => turn,
-        Err((pass, _)) => return Err(pass),
-    };
-    let held = hold_name_in(&mut turn, name);
-    Ok((cell.leave(turn), held))
-}
-
 // In the turn of the pass of this number.
 fn hold_uuid_as(turn: &mut ListTurn, uuid: Uuid) -> Held
     ghost number: { ℕ }
@@ -89,25 +70,6 @@ pub fn hold_uuid_in(turn: &mut ListTurn, uuid: Uuid) -> Held
     ensures same { turn.new ≡ record turn.old { value = turn.new.value } }
 {
     hold_uuid_as(turn, uuid)
-}
-
-/// Takes a turn. Holds the slot of the domain of this identifier. Where no ticket is left, the pass comes back.
-pub fn hold_uuid<R: Wait>(
-    rt: &R,
-    cell: &TurnCell<ObjectList>,
-    pass: ListPass,
-    uuid: Uuid,
-) -> Result<(ListPass, Held), ListPass>
-    requires { pass.cell ≡ cell.now }
-    ensures asked { IfOk result (λ r. HasAsked (call.HoldUuid uuid) r.1 pass r.0) }
-    ensures spent { IfErr result (λ after. after ≡ record pass { spent = true }) }
-{
-    let mut turn = match cell.enter(rt, pass) {
-        Ok(turn) => turn,
-        Err((pass, _)) => return Err(pass),
-    };
-    let held = hold_uuid_in(&mut turn, uuid);
-    Ok((cell.leave(turn), held))
 }
 
 // In the turn of the pass of this number.
@@ -133,26 +95,6 @@ pub fn claim_in(turn: &mut ListTurn, name: &Name, uuid: Uuid) -> Held
     claim_as(turn, name, uuid)
 }
 
-/// Takes a turn. Holds the slot of the domain of this name and identifier, or the least free one. Where no ticket is left, the pass comes back.
-pub fn claim<R: Wait>(
-    rt: &R,
-    cell: &TurnCell<ObjectList>,
-    pass: ListPass,
-    name: &Name,
-    uuid: Uuid,
-) -> Result<(ListPass, Held), ListPass>
-    requires { pass.cell ≡ cell.now }
-    ensures asked { IfOk result (λ r. HasAsked (call.Claim name.now uuid) r.1 pass r.0) }
-    ensures spent { IfErr result (λ after. after ≡ record pass { spent = true }) }
-{
-    let mut turn = match cell.enter(rt, pass) {
-        Ok(turn) => turn,
-        Err((pass, _)) => return Err(pass),
-    };
-    let held = claim_in(&mut turn, name, uuid);
-    Ok((cell.leave(turn), held))
-}
-
 // In the turn of the pass of this number.
 fn release_as(turn: &mut ListTurn, slot: u32, front: Front, occupied: bool)
     ghost number: { ℕ }
@@ -163,8 +105,8 @@ fn release_as(turn: &mut ListTurn, slot: u32, front: Front, occupied: bool)
     turn.value().release(slot, front, occupied);
 }
 
-/// Gives a hold back, in a turn of the pass that has it.
-pub fn release_in(turn: &mut ListTurn, slot: u32, front: Front, occupied: bool)
+// Gives a hold back, in a turn of the pass that has it.
+fn release_in(turn: &mut ListTurn, slot: u32, front: Front, occupied: bool)
     requires { Holds turn.old.pass.number slot (slots_of turn.old.value) }
     ensures released { turn.new.value ≡ with_call turn.old.pass.number (call.Release slot front occupied) turn.old.value }
     ensures same { turn.new ≡ record turn.old { value = turn.new.value } }

@@ -1,5 +1,5 @@
 -- A packet is read as a call exactly where it is one.
-use Rattle.std.proofs.Common.{◌≡◌, ℕ, ◌==◌, Bool, true, false, cond, eqb, List, Option, None, Some, Result, Ok, Err, refl, sym, ap, subst}
+use Rattle.std.proofs.Common.{◌≡◌, ℕ, ◌==◌, Bool, true, false, cond, eqb, List, Option, None, Some, Result, Ok, Err, refl, ap}
 use Rattle.std.proofs.lemmas.Bool.{eqb-true}
 use Rattle.std.proofs.Common.{eq-eqb}
 use Rattle.virt_types.specs.declared.request.Request.{Request}
@@ -7,11 +7,10 @@ use Rattle.wire_spec.specs.declared.message.Header.{Header}
 use Rattle.wire_spec.specs.XdrReading.{IsBytes}
 use Rattle.procedure_spec.specs.Arguments.{HasArguments}
 use Rattle.procedure_spec.specs.ArgumentsReading.{request_in}
-use Rattle.procedure_spec.specs.Calls.{AsksBy, IsCall, IsServedCall, call_of, call_packet, in_line, is_program, known_line, line_of, served_line, served_of}
+use Rattle.procedure_spec.specs.Calls.{AsksBy, IsCall, call_of, call_packet, in_line, is_program, known_line, line_of}
 use Rattle.procedure_spec.specs.Lines.{line}
 use Rattle.procedure_spec.specs.Procedures.{row_of}
 use Rattle.procedure_spec.specs.Requests.{procedure_of}
-use Rattle.procedure_spec.specs.Serving.{is_served}
 use Rattle.procedure_spec.specs.declared.fault.ArgFault.{ArgFault}
 use Rattle.procedure_spec.specs.declared.fault.ArgFault.TheVariants as fault
 use Rattle.procedure_spec.specs.declared.procedure.Procedure.{Procedure}
@@ -79,34 +78,6 @@ call_again h payload r is = rw (again_line h payload r is, again_in h payload r 
 pub call_in : (h : Header) (payload : List ℕ) → in_line (line_of h) payload ≡ call_of h payload
 unfolding call_of
 call_in h payload = refl
-
--- ---- calls that are served
-
-served_found_line : (read : Result Row ArgFault) (row : Row) → served_line read ≡ Ok row → (read ≡ Ok row) × (is_served row.procedure ≡ true)
-served_found_line (Ok r) row e =
-    let c = chosen (is_served r.procedure) (Ok r) fault.Procedure row e in
-    let same : r ≡ row = cc in
-    (ap (λ (s : Row). Ok s) same, subst (λ (s : Row). is_served s.procedure ≡ true) same c.0)
-served_found_line (Err bad) row e = absurd cc
-
-pub served_found : (h : Header) (payload : List ℕ) (r : Request) → IsBytes payload → served_of h payload ≡ Ok r → IsServedCall h payload r
-unfolding served_of
-served_found h payload r fits e =
-    let i = line_found_in (served_line (line_of h)) payload r e in
-    let s = served_found_line (line_of h) i.0 i.1 in
-    let call = is_call h payload i.0 r fits s.0 i.2 in
-    let f = in_found i.0 payload r fits i.2 in
-    record { call = call; served = subst (λ (p : Procedure). is_served p ≡ true) (sym f.procedure) s.1 }
-
-pub served_again : (h : Header) (payload : List ℕ) (r : Request) → IsServedCall h payload r → served_of h payload ≡ Ok r
-unfolding served_of
-served_again h payload r is =
-    let served : is_served is.call.row.procedure ≡ true = subst (λ (p : Procedure). is_served p ≡ true) is.call.procedure is.served in
-    rw (again_line h payload r is.call, served, again_in h payload r is.call) refl
-
-pub served_in : (h : Header) (payload : List ℕ) → in_line (served_line (line_of h)) payload ≡ served_of h payload
-unfolding served_of
-served_in h payload = refl
 
 -- ---- the call that is written for a request
 

@@ -4,12 +4,12 @@ use Rattle.virt_types.specs.declared.request.Request.{Request}
 use Rattle.wire_spec.specs.declared.message.Header.{Header}
 use Rattle.wire_spec.specs.declared.message.Packet.{Packet}
 use Rattle.wire_spec.specs.declared.message.TheConstants.{CALL, OK}
+use Rattle.procedure_spec.specs.Announcing.{is_announced}
 use Rattle.procedure_spec.specs.Arguments.{HasArguments, arguments}
 use Rattle.procedure_spec.specs.ArgumentsReading.{request_in}
 use Rattle.procedure_spec.specs.Lines.{line}
 use Rattle.procedure_spec.specs.Procedures.{row_of}
 use Rattle.procedure_spec.specs.Requests.{procedure_of}
-use Rattle.procedure_spec.specs.Serving.{is_announced, is_served}
 use Rattle.procedure_spec.specs.declared.fault.ArgFault.{ArgFault}
 use Rattle.procedure_spec.specs.declared.fault.ArgFault.TheVariants as fault
 use Rattle.procedure_spec.specs.declared.procedure.Procedure.{Procedure}
@@ -30,15 +30,6 @@ pub record IsCall (h : Header) (payload : List ℕ) (asked : Request) : Type 0 w
   pub has : HasArguments asked
   pub spelled : payload ≡ arguments asked
 
--- the daemon serves the request's procedure
-abbrev pub IsServed : Request → Type 0
-IsServed asked = is_served (procedure_of asked) ≡ true
-
--- the packet calls what the request asks, and that is served
-pub record IsServedCall (h : Header) (payload : List ℕ) (asked : Request) : Type 0 where
-  pub call : IsCall h payload asked
-  pub served : IsServed asked
-
 -- the tables have the number, and it is announced
 abbrev pub is_known : Option Row → Bool
 is_known None = false
@@ -54,11 +45,6 @@ known_line (Some row) = Ok row
 unfoldable pub line_of : Header → Result Row ArgFault
 line_of h = if is_program h.prog then (if h.vers == VERSION then known_line (row_of h.prog h.procedure) else Err fault.Version) else Err fault.Program
 
--- the same, of a procedure that is served
-abbrev pub served_line : Result Row ArgFault → Result Row ArgFault
-served_line (Ok row) = if is_served row.procedure then Ok row else Err fault.Procedure
-served_line (Err bad) = Err bad
-
 -- reading a call: the request, or the first fault; the payload is looked at last
 abbrev pub in_line : Result Row ArgFault → List ℕ → Result Request ArgFault
 in_line (Ok row) payload = request_in row payload
@@ -66,10 +52,6 @@ in_line (Err bad) payload = Err bad
 
 unfoldable pub call_of : Header → List ℕ → Result Request ArgFault
 call_of h payload = in_line (line_of h) payload
-
--- the same as the daemon reads it, which passes over the payload where it does not serve the procedure
-unfoldable pub served_of : Header → List ℕ → Result Request ArgFault
-served_of h payload = in_line (served_line (line_of h)) payload
 
 -- ---- writing
 

@@ -1,3 +1,4 @@
+pub mod Announcing
 pub mod Arguments
 pub mod ArgumentsReading
 pub mod Calls
@@ -20,4 +21,3 @@ pub mod ResultItems
 pub mod ResultItemsReading
 pub mod Results
 pub mod ResultsReading
-pub mod Serving

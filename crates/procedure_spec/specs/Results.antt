@@ -3,7 +3,6 @@ use Rattle.std.specs.Prelude.{◌≡◌, ◌≤◌, ◌^◌, ◌<◌, ℕ, List,
 use Rattle.std.specs.List.{AllByRecursion}
 use Rattle.virt_types.specs.Limits.{most_state_bytes}
 use Rattle.virt_types.specs.Name.{IsName}
-use Rattle.virt_types.specs.declared.object_request.DomainRequest.{DomainRequest}
 use Rattle.virt_types.specs.declared.request.Request.{Request}
 use Rattle.virt_types.specs.declared.value.Value.{Value}
 use Rattle.virt_types.specs.declared.value.Value.TheVariants as value
@@ -12,7 +11,7 @@ use Rattle.wire_spec.specs.declared.message.Header.{Header}
 use Rattle.wire_spec.specs.declared.message.TheConstants.{REPLY}
 use Rattle.procedure_spec.specs.Lines.{line}
 use Rattle.procedure_spec.specs.Procedures.{row_of}
-use Rattle.procedure_spec.specs.Requests.{asks_of_domain, procedure_of}
+use Rattle.procedure_spec.specs.Requests.{procedure_of}
 use Rattle.procedure_spec.specs.ResultItems.{IsDomainRow, IsInfo, IsJob, IsLeaseRow, IsMigrated, IsObjectReference, IsPoolRow, IsReference, IsTitleRow, domain_reference, domain_row, info, job, lease_row, listed, migrated, object_reference, pool_row, title_row}
 use Rattle.procedure_spec.specs.declared.shape.ResultShape.{ResultShape}
 use Rattle.procedure_spec.specs.declared.shape.ResultShape.TheVariants as shape
@@ -86,10 +85,6 @@ HasParts _ = Unit {0}
 -- what the reply to a request carries
 abbrev pub result_shape : Request → ResultShape
 result_shape asked = (line (procedure_of asked)).result
-
--- the same of a request for a domain
-abbrev pub domain_result : DomainRequest → ResultShape
-domain_result asked = (line (asks_of_domain asked).0).result
 
 -- the value answers a call of this header's procedure
 pub record HasResult (h : Header) (v : Value) : Type 0 where

@@ -2,6 +2,7 @@
 #![tactic(auto)]
 
 mod addresses;
+mod announced;
 mod arguments;
 mod domain_requested;
 mod fault;
@@ -9,19 +10,18 @@ mod laws;
 mod numbers;
 mod procedure;
 mod requested;
-mod served;
 mod shape;
 mod table;
 mod words;
 
 pub use addresses::{address_of, address_text};
+pub use announced::is_announced;
 pub use arguments::{Arguments, Target};
 pub use fault::ArgFault;
 pub use laws::{payload_fits_packet, procedures_have_their_lines};
 pub use numbers::{call_numbers, result_shape};
 pub use procedure::Procedure;
 pub use requested::request;
-pub use served::{is_announced, is_served};
 pub use shape::{ArgumentShape, ResultShape, TargetShape};
 pub use table::{OWN, PROCEDURES, REMOTE, Row, find};
 pub use words::{

@@ -2,12 +2,12 @@
 ghost use Rattle.std.specs.Prelude.{Ok, ◌≡◌, IfOk, IsErrOf, IsOk};
 ghost use Rattle.virt_types.specs.declared.memory.OrNoMemory.TheVariants.{NoMemory};
 ghost use Rattle.virt_types.specs.declared.request.Request.{Request as Asked};
-ghost use Rattle.procedure_spec.specs.Calls.{IsCall, IsServedCall, call_of, in_line as in_line_of, is_known as is_known_row, is_program, line_of, served_line as served_line_of, served_of};
+ghost use Rattle.procedure_spec.specs.Calls.{IsCall, call_of, in_line as in_line_of, is_known as is_known_row, is_program, line_of};
 ghost use Rattle.procedure_spec.specs.Procedures.{row_of};
 ghost use Rattle.virt_types.specs.Memory.{UnlessNoMemory};
 
 use crate::arguments::requested;
-use procedure_spec::{ArgFault, OWN, REMOTE, Row, VERSION, find, is_announced, is_served};
+use procedure_spec::{ArgFault, OWN, REMOTE, Row, VERSION, find, is_announced};
 use std::alloc::Global;
 use virt_types::{OrNoMemory, Request};
 use wire_spec::Header;
@@ -46,17 +46,6 @@ fn line(header: &Header) -> Result<Row, ArgFault>
     }
 }
 
-// The same, of a procedure that is served.
-fn served_line(header: &Header) -> Result<Row, ArgFault>
-    ensures { result ≡ served_line_of (line_of header.now) }
-{
-    match line(header) {
-        Ok(row) if is_served(row.procedure) => Ok(row),
-        Ok(_) => Err(ArgFault::Procedure),
-        Err(fault) => Err(fault),
-    }
-}
-
 // The request that the payload of a call of this line spells.
 fn in_line(
     alloc: Global,
@@ -85,20 +74,4 @@ pub fn read_call(
     ensures memory { IsErrOf result NoMemory → IsOk (line_of header.now) }
 {
     in_line(alloc, line(header), payload)
-}
-
-/// The same as the daemon reads it: a procedure that it does not serve is answered `Procedure`
-/// whatever the payload.
-pub fn read_served_call(
-    alloc: Global,
-    header: &Header,
-    payload: &[u8],
-) -> Result<Request, OrNoMemory<ArgFault>>
-    ensures found { IfOk result (IsServedCall header.now payload.now) }
-    ensures only { (asked : Asked) → IsServedCall header.now payload.now asked → UnlessNoMemory result (Ok asked) }
-    ensures fault { UnlessNoMemory result (served_of header.now payload.now) }
-    // Memory is asked for only once program, version and procedure are good.
-    ensures memory { IsErrOf result NoMemory → IsOk (served_line_of (line_of header.now)) }
-{
-    in_line(alloc, served_line(header), payload)
 }

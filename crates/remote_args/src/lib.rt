@@ -18,7 +18,7 @@ mod result_list_reader;
 mod result_reader;
 mod written_call;
 
-pub use call::{is_known, read_call, read_served_call};
+pub use call::{is_known, read_call};
 pub use error_reader::read_error;
 pub use event::{write_event, write_lost};
 pub use event_reader::read_event;

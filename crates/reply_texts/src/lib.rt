@@ -4,4 +4,4 @@
 mod printing;
 
 pub use domain_texts::read_domain;
-pub use printing::{print_reply, print_value};
+pub use printing::print_reply;

@@ -41,17 +41,6 @@ fn in_place_of(alloc: Global, value: &Value) -> Result<Option<Value>, NoMemory>
     })
 }
 
-/// A value of a domain's cell as its caller is told it: a reference without what lists alone give; a definition, a running
-/// domain, a snapshot and a guest that leaves by their texts; and any other as it is.
-pub fn print_value(alloc: Global, value: Value) -> Result<Value, NoMemory>
-    ensures { IfOk result (λ v. v ≡ printed value) }
-{
-    match in_place_of(alloc, &value)? {
-        Some(told) => Ok(told),
-        None => Ok(value),
-    }
-}
-
 // What is told in place of a reply; none where it is told as it is.
 fn reply_in_place_of(alloc: Global, reply: &Reply) -> Result<Option<Reply>, NoMemory>
     ensures some { IfOk result (λ it. IfSome it (λ r. r ≡ told reply.now)) }
@@ -66,7 +55,8 @@ fn reply_in_place_of(alloc: Global, reply: &Reply) -> Result<Option<Reply>, NoMe
     }
 }
 
-/// A reply of a domain's cell as its caller is told it.
+/// A reply of a domain's cell as its caller is told it: a reference without what lists alone give; a definition, a running
+/// domain, a snapshot and a guest that leaves by their texts; and any other as it is.
 pub fn print_reply(alloc: Global, reply: Reply) -> Result<Reply, NoMemory>
     ensures { IfOk result (λ r. r ≡ told reply) }
 {

@@ -3,7 +3,7 @@ use Rattle.std.proofs.Common.{◌≡◌, ◌&&◌, ◌==◌, Bool, true, false, 
 use Rattle.std.specs.List.{AllByRecursion, flat_map}
 use Rattle.std.proofs.lemmas.List.{append-nil}
 use Rattle.std.proofs.lemmas.Grind.{flat_map-append}
-use Rattle.procedure_spec.specs.Calls.{served_of}
+use Rattle.procedure_spec.specs.Calls.{call_of}
 use Rattle.procedure_spec.specs.declared.procedure.Procedure.{Procedure}
 use Rattle.row_session.specs.Steps.{AreAnswered}
 use Rattle.row_session.proofs.Dues.{due_to_call}
@@ -62,7 +62,7 @@ left_true true b is = refl
 left_true false b is = absurd cc
 
 kind_of_close : (p : Packet) → closes p ≡ true → (p.header.kind == CALL) ≡ true
-kind_of_close p is = left_true (p.header.kind == CALL) (asks_to_close (served_of p.header p.payload)) is
+kind_of_close p is = left_true (p.header.kind == CALL) (asks_to_close (call_of p.header p.payload)) is
 
 due_to_close : (p : Packet) → closes p ≡ true → due_to p ≡ AReply p ∷ []
 due_to_close p is = rw (kind_of_close p is) refl

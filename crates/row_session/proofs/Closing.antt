@@ -3,10 +3,9 @@ use Rattle.std.proofs.Common.{◌≡◌, Bool, true, false, List, ℕ, Option, N
 use Rattle.std.specs.Prelude.{if◌then◌else◌}
 use Rattle.procedure_spec.proofs.Asked.{request_found}
 use Rattle.procedure_spec.specs.ArgumentsReading.{asked_by, first_call, request_in, request_with}
-use Rattle.procedure_spec.specs.Calls.{in_line, line_of, served_line, served_of}
+use Rattle.procedure_spec.specs.Calls.{call_of, in_line, line_of}
 use Rattle.procedure_spec.specs.Faults.{xdr}
 use Rattle.procedure_spec.specs.RequestsReading.{request_of}
-use Rattle.procedure_spec.specs.Serving.{is_served}
 use Rattle.procedure_spec.specs.declared.arguments.Arguments.{Arguments}
 use Rattle.procedure_spec.specs.declared.arguments.Target.{Target}
 use Rattle.procedure_spec.specs.declared.fault.ArgFault.{ArgFault}
@@ -72,20 +71,14 @@ of_line : (serves : Procedure → Bool) (line : Result Row ArgFault) (payload : 
 of_line serves (Ok row) payload = chosen (is_read serves row.procedure) row payload (λ e. ap (is_read serves) (closing_row row payload e))
 of_line serves (Err bad) payload = refl
 
-of_served_line : (line : Result Row ArgFault) (payload : List ℕ) → asks_to_close (in_line (served_line line) payload) ≡ asks_to_close (in_line line payload)
-of_served_line (Ok row) payload = chosen (is_served row.procedure) row payload (λ e. ap is_served (closing_row row payload e))
-of_served_line (Err bad) payload = refl
-
 read_in : (serves : Procedure → Bool) (h : Header) (payload : List ℕ) → read_of serves h payload ≡ in_line (read_line serves (line_of h)) payload
 unfolding read_of
 read_in serves h payload = refl
 
-served_in : (h : Header) (payload : List ℕ) → served_of h payload ≡ in_line (served_line (line_of h)) payload
-unfolding served_of
-served_in h payload = refl
+call_in : (h : Header) (payload : List ℕ) → in_line (line_of h) payload ≡ call_of h payload
+unfolding call_of
+call_in h payload = refl
 
-pub same_close : (serves : Procedure → Bool) (h : Header) (payload : List ℕ) → asks_to_close (read_of serves h payload) ≡ asks_to_close (served_of h payload)
+pub same_close : (serves : Procedure → Bool) (h : Header) (payload : List ℕ) → asks_to_close (read_of serves h payload) ≡ asks_to_close (call_of h payload)
 same_close serves h payload =
-    let one = ap asks_to_close (read_in serves h payload) ∙ of_line serves (line_of h) payload in
-    let other = ap asks_to_close (served_in h payload) ∙ of_served_line (line_of h) payload in
-    one ∙ sym other
+    ap asks_to_close (read_in serves h payload) ∙ (of_line serves (line_of h) payload ∙ ap asks_to_close (call_in h payload))

@@ -1,6 +1,6 @@
 -- The packets of replies, and which call closes a session (libvirt, src/rpc/virnetprotocol.x).
 use Rattle.std.specs.Prelude.{◌==◌, ◌&&◌, Bool, true, false, Result, Ok}
-use Rattle.procedure_spec.specs.Calls.{served_of}
+use Rattle.procedure_spec.specs.Calls.{call_of}
 use Rattle.procedure_spec.specs.Errors.{refusal_payload}
 use Rattle.procedure_spec.specs.Results.{reply_header, result}
 use Rattle.procedure_spec.specs.declared.fault.ArgFault.{ArgFault}
@@ -24,4 +24,4 @@ asks_to_close _ = false
 
 -- the packet is such a call
 abbrev pub closes : Packet → Bool
-closes packet = (packet.header.kind == CALL) && asks_to_close (served_of packet.header packet.payload)
+closes packet = (packet.header.kind == CALL) && asks_to_close (call_of packet.header packet.payload)

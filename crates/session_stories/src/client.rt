@@ -5,8 +5,11 @@ use std::sync::Wait;
 use story_guests::{SharedSignals, Signal};
 use virt_types::Failed;
 
-/// How many steps a client takes at most, each call that is repeated counted anew.
-const MOST_STEPS: u32 = 10_000;
+/// How many steps a client takes at most from one call to the next.
+const MOST_STEPS: u32 = 100;
+
+/// How often a client repeats calls at most.
+const MOST_REPEATS: u32 = 10_000;
 
 /// What a client says that is done.
 const NOTHING: &[u8] = b"";
@@ -18,6 +21,7 @@ pub(crate) struct StorySource<H> {
     signals: SharedSignals,
     steps: &'static [Step],
     taken: usize,
+    repeats: u32,
     rest: &'static [u8],
 }
 
@@ -29,14 +33,16 @@ impl<H: Wait> StorySource<H> {
             signals,
             steps,
             taken: 0,
+            repeats: 0,
             rest: NOTHING,
         }
     }
 
     // Whether a call is made once more after this time.
-    fn is_repeated(&self, until: Signal) -> bool {
+    fn is_repeated(&mut self, until: Signal) -> bool {
         self.signals.rest(&self.rt, until, 0);
-        self.signals.count(until) == 0
+        self.repeats = self.repeats.saturating_add(1);
+        self.signals.count(until) == 0 && self.repeats < MOST_REPEATS
     }
 
     // The next call. It is empty where the client is done.

@@ -17,9 +17,6 @@ use Rattle.virt_types.specs.declared.ask.Ask.TheVariants as ask
 use Rattle.virt_types.specs.declared.ask.ImageKind.{ImageKind}
 use Rattle.virt_types.specs.declared.domain_def.DomainDef.{DomainDef}
 use Rattle.virt_types.specs.declared.caller.Front.{Front}
-use Rattle.virt_types.specs.declared.refusal.Refusal.{Refusal}
-use Rattle.store_spec.specs.declared.image.Image.{Image}
-use Rattle.store_spec.specs.declared.image.ImageFault.{ImageFault}
 use Rattle.virt_types.specs.declared.memory.Fault.{Fault}
 use Rattle.virt_types.specs.declared.memory.Fault.TheVariants as fault
 use Rattle.virt_types.specs.declared.memory.OrNoMemory.{OrNoMemory}
@@ -37,11 +34,9 @@ use Rattle.def_keeper.specs.Imaging.{failed}
 use Rattle.def_keeper.specs.Turns.{meaning, new_base_keeps, no_mark_lowers}
 use Rattle.store_asks.specs.Answers.{HasAnswered, HasNone}
 use Rattle.store_asks.specs.Asks.{change_answer, drop_of, image_answer, image_of, put_of}
-use Rattle.store_asks.specs.Keeping.{IsRead, IsWritten, front_of, opened}
-use Rattle.store_asks.specs.Restoring.{IsToldOf, Reads}
+use Rattle.store_asks.specs.Keeping.{IsWritten, front_of, opened}
 use Rattle.store_asks.specs.Told.{told_change}
-use Rattle.store_asks.specs.declared.restoring.SavedGuest.{SavedGuest}
-use Rattle.store_asks.specs.Turning.{AreTried, EndsIn, HasAsked, HasReadSaved, MarksTell, ReadTells, StorePass}
+use Rattle.store_asks.specs.Turning.{AreTried, EndsIn, HasAsked, MarksTell, StorePass}
 
 abbrev pub StoreTurn : Type 0 → Type 0
 StoreTurn F = Turned (Keeping F) StoreBase StoreMark (Unit {0})
@@ -259,56 +254,5 @@ module _ {F : Type 0} (told : F → Told) (faults : F → ℕ) where
         seen = tells.0.seen;
         ends = subst (λ (h : StoreHistory). EndsIn h left.more) (sym tells.0.seen) left.ends;
         tells = subst (λ (x : ℕ × StoreHistory). IfSome result (λ a. MarksTell x.0 question (front_of x.1) a left.more)) (λ i. (number i, sym tells.0.seen i)) left.tells;
-        went = subst (λ (h : StoreHistory). Went (meaning told) 1 (tagged h.chapter left.more) before after) (sym tells.0.seen) tells.1;
-      }
-
-  -- ---- a read
-  -- the marks of a turn in which an image was read, and what they say
-  pub record LeftRead (number : ℕ) (name : List ℕ) (old new : Keeping F) (result : Result SavedGuest (OrNoMemory Refusal)) : Type 0 where
-    pub more : List StoreMark
-    pub changes : Changes (meaning told) number more old new
-    pub tells : ReadTells number name result more
-
-  read_so : (number : ℕ) (name : List ℕ) (old new : Keeping F) (result : Result SavedGuest (OrNoMemory Refusal)) (r : Result Image (OrNoMemory ImageFault))
-      → IsRead told faults number name old new r → IsToldOf r result → LeftRead number name old new result
-  read_so number name old new result (Ok i) read tells = record {
-    more = by number (action.ImageRead name (Ok i)) ∷ [];
-    changes = same_chapter told number _ old new (refl, tt) read.marks;
-    tells = inl (Ok i, refl, tells);
-  }
-  read_so number name old new result (Err (or.Fault f)) read tells = record {
-    more = by number (action.ImageRead name (Err f)) ∷ [];
-    changes = same_chapter told number _ old new (refl, tt) read.marks;
-    tells = inl (Err f, refl, tells);
-  }
-  read_so number name old new result (Err or.NoMemory) read tells = record {
-    more = [];
-    changes = same_chapter told number [] old new tt (read.marks ∙ ap (λ ms. record old.history { marks = ms }) (sym (append-nil old.history.marks)));
-    tells = inr (refl, tells);
-  }
-
-  pub left_by_read : (number : ℕ) (name : List ℕ) (old new : Keeping F) (result : Result SavedGuest (OrNoMemory Refusal)) → Reads told faults number name old new result → LeftRead number name old new result
-  left_by_read number name old new result (r, read, tells) = read_so number name old new result r read tells
-
-  pub read_leaves : (name : List ℕ) (result : Result SavedGuest (OrNoMemory Refusal)) (before : StorePass) (turn now : StoreTurn F) → Enters (meaning told) before turn → now ≡ record turn { value = now.value }
-      → (left : LeftRead turn.pass.number name turn.value now.value result) → Changes (meaning told) now.pass.number left.more now.entry now.value
-  read_leaves name result before turn now enters same left =
-      let number : turn.pass.number ≡ now.pass.number = sym (ap (λ (t : StoreTurn F). t.pass.number) same) in
-      let entry : turn.value ≡ now.entry = enters.value ∙ sym (ap (λ (t : StoreTurn F). t.entry) same) in
-      subst (λ (x : ℕ × Keeping F). Changes (meaning told) x.0 left.more x.1 now.value) (λ i. (number i, entry i)) left.changes
-
-  pub has_read : (name : List ℕ) (result : Result SavedGuest (OrNoMemory Refusal)) (before : StorePass) (turn now : StoreTurn F) (after : StorePass) → Enters (meaning told) before turn → now ≡ record turn { value = now.value }
-      → Reads told faults turn.pass.number name turn.value now.value result → after ≡ left_by (meaning told) now → HasReadSaved told faults name result before after
-  has_read name result before turn now after enters same reads is =
-      let number : turn.pass.number ≡ before.number = ap (λ (p : StorePass). p.number) enters.pass in
-      let left = left_by_read turn.pass.number name turn.value now.value result reads in
-      let tells = turn_tells (meaning told) (no_mark_lowers told) (new_base_keeps told) left.more before after turn now enters same left.changes is in
-      record {
-        found = turn.value;
-        left = now.value;
-        more = left.more;
-        read = subst (λ (n : ℕ). Reads told faults n name turn.value now.value result) number reads;
-        seen = tells.0.seen;
-        tells = subst (λ (n : ℕ). ReadTells n name result left.more) number left.tells;
         went = subst (λ (h : StoreHistory). Went (meaning told) 1 (tagged h.chapter left.more) before after) (sym tells.0.seen) tells.1;
       }

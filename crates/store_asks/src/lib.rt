@@ -11,5 +11,5 @@ mod turning;
 
 pub use answering::answer_in;
 pub use def_keeper::{Keeper, Opening};
-pub use restoring::{SavedGuest, read_saved_in};
-pub use turning::{SavedRead, ask_store, read_saved};
+pub use restoring::{SavedGuest, SavedRead, read_saved_in};
+pub use turning::ask_store;

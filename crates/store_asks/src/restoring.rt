@@ -45,6 +45,9 @@ impl SavedGuest {
     }
 }
 
+/// A guest that was read for a restore, or why there is none.
+pub type SavedRead = Result<SavedGuest, OrNoMemory<Refusal>>;
+
 fn refuse(alloc: Global, code: RefusalCode, kept: &str) -> OrNoMemory<Refusal>
     ensures { Fails result (refusal code kept.now) }
 {
@@ -73,7 +76,7 @@ fn unread(alloc: Global, fault: ImageFault) -> OrNoMemory<Refusal>
 }
 
 // The guest that an image is of.
-fn saved_in(alloc: Global, image: Image) -> Result<SavedGuest, OrNoMemory<Refusal>>
+fn saved_in(alloc: Global, image: Image) -> SavedRead
     ensures { UnlessNoMemory result (saved_in image) }
 {
     let Image {
@@ -105,7 +108,7 @@ pub fn read_saved_in<F: Files, K: Opening>(
     alloc: Global,
     turn: &mut KeeperTurn<F, K>,
     name: &Name,
-) -> Result<SavedGuest, OrNoMemory<Refusal>>
+) -> SavedRead
     ensures read { Reads F.told F.faults turn.old.pass.number name.now turn.old.value turn.new.value result }
     ensures same { turn.new ≡ record turn.old { value = turn.new.value } }
 {

@@ -1,18 +1,14 @@
 // The keeper is asked in turns of its cell.
 ghost use Rattle.std.specs.Prelude.{◌≡◌, IfErr, IfOk, true};
-ghost use Rattle.store_asks.specs.Turning.{HasAsked, HasReadSaved};
+ghost use Rattle.store_asks.specs.Turning.{HasAsked};
 
 use crate::answering::answer_in;
-use crate::restoring::{SavedGuest, read_saved_in};
 use def_keeper::{Keeper, KeeperPass, Opening};
 use files_disk::Files;
 use std::alloc::Global;
 use std::sync::Wait;
 use turn_cell::TurnCell;
-use virt_types::{Answer, Ask, Name, OrNoMemory, Refusal};
-
-/// A guest that was read for a restore, or why there is none.
-pub type SavedRead = Result<SavedGuest, OrNoMemory<Refusal>>;
+use virt_types::{Answer, Ask};
 
 /// Takes a turn of the keeper's cell and answers an ask of a domain in it, as `answer_in` says. Where no ticket is
 /// left, the pass comes back.
@@ -33,25 +29,4 @@ pub fn ask_store<R: Wait, F: Files + Drop, K: Opening>(
     };
     let answer = answer_in(alloc, &mut turn, ask);
     Ok((cell.leave(turn), answer))
-}
-
-/// Takes a turn of the keeper's cell and reads the image of a save for a restore in it, as `read_saved_in` says. Where
-/// no ticket is left, the pass comes back.
-pub fn read_saved<R: Wait, F: Files + Drop, K: Opening>(
-    rt: &R,
-    alloc: Global,
-    cell: &TurnCell<Keeper<F, K>>,
-    pass: KeeperPass<F, K>,
-    name: &Name,
-) -> Result<(KeeperPass<F, K>, SavedRead), KeeperPass<F, K>>
-    requires { pass.cell ≡ cell.now }
-    ensures read { IfOk result (λ r. HasReadSaved F.told F.faults name.now r.1 pass r.0) }
-    ensures spent { IfErr result (λ after. after ≡ record pass { spent = true }) }
-{
-    let mut turn = match cell.enter(rt, pass) {
-        Ok(turn) => turn,
-        Err((pass, _)) => return Err(pass),
-    };
-    let saved = read_saved_in(alloc, &mut turn, name);
-    Ok((cell.leave(turn), saved))
 }

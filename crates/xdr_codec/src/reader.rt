@@ -128,14 +128,6 @@ impl<'a> Reader<'a> {
         keep(&mut self.rest, step)
     }
 
-    /// Takes opaque data after a length word (4.10).
-    pub fn take_opaque(&mut self, alloc: Global) -> Result<Bytes, OrNoMemory<XdrFault>>
-        ensures value { AnswersOrNoMemory (λ v. length v ≤ u32.MAX) opaque self.old result self.new }
-        ensures fault { ReadsOrNoMemory (first_opaque u32.MAX) self.old result self.new }
-    {
-        self.take_opaque_within(alloc, u32::MAX)
-    }
-
     /// Takes opaque data of at most `most` bytes after a length word (4.10).
     pub fn take_opaque_within(
         &mut self,
@@ -150,18 +142,7 @@ impl<'a> Reader<'a> {
         keep(&mut self.rest, step)
     }
 
-    /// Takes a string of at most `most` bytes (4.11), which are UTF-8.
-    pub fn take_string(&mut self, alloc: Global, most: u32) -> Result<Bytes, OrNoMemory<XdrFault>>
-        ensures value { AnswersOrNoMemory (IsString most) opaque self.old result self.new }
-        ensures fault { ReadsOrNoMemory (first_string most) self.old result self.new }
-    {
-        match self.take_text(alloc, most) {
-            Ok(text) => Ok(Bytes::of(text.into_string().into_bytes())),
-            Err(fault) => Err(fault),
-        }
-    }
-
-    /// Takes a string of at most `most` bytes (4.11) as the text that it is.
+    /// Takes a string of at most `most` bytes (4.11), which are UTF-8, as the text that it is.
     pub fn take_text(&mut self, alloc: Global, most: u32) -> Result<Text, OrNoMemory<XdrFault>>
         ensures value { AnswersOrNoMemory (IsString most) opaque self.old result self.new }
         ensures fault { ReadsOrNoMemory (first_string most) self.old result self.new }
