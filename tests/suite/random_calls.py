@@ -134,8 +134,8 @@ class Caller:
 
     def next(self, daemon: Daemon) -> Act | Passed:
         """One more act: the next of a series that was begun, or any."""
-        if self.series is None and self.often(0.02):
-            self.series = self.random.choice(SERIES)(self, daemon)
+        if self.series is None and self.often(0.03):
+            self.series = self.random.choices(SERIES, SERIES_WEIGHTS)[0](self, daemon)
         if self.series is not None and self.often(0.9):
             act = next(self.series, None)
             if act is not None and self.is_soon_answered(daemon, act):
@@ -403,11 +403,73 @@ class Caller:
         yield Act("DOMAIN_DESTROY", (Target("one-7"),))
         yield self.one_of_many(MOST_DOMAINS + 1)
         yield self.one_of_many(MOST_DOMAINS + 2)
+        yield from self.large()
 
     def one_of_many(self, number: int) -> Act:
         name = f"one-{number}"
         text = self.texts.plain_domain(name, identifier_of(name))
         return Act("DOMAIN_CREATE_XML", (text, 0))
+
+    def mishap(self, daemon: Daemon) -> Iterator[Act]:
+        """Calls of several asks on a guest that at one of them ends, refuses it or is lost."""
+        name = self.random.choice(NAMES)
+        target = Target(name)
+        slot = next((slot for slot in daemon.slots if slot.name == name), None)
+        boot = (slot.cell.boots if slot else 0) + self.random.choice((1, 1, 1, 2))
+        deed = self.random.choice(("end", "refuse", "refuse", "refuse", "lost"))
+        entries = [f"boot {boot} command {self.random.randint(1, 14)} {deed}"]
+        if self.often(0.3):
+            entries.append(f"boot {boot} command {self.random.randint(4, 14)} refuse")
+        if self.often(0.5):
+            entries.append(f"slow {self.random.randint(0, 2)}")
+        text = self.texts.plain_domain(name, identifier_of(name), "; ".join(entries), "vda")
+        yield Act("DOMAIN_DESTROY", (target,))
+        yield Act("DOMAIN_DEFINE_XML", (text,))
+        yield Act("DOMAIN_CREATE", (target,))
+        for _ in range(self.random.randint(1, 3)):
+            yield from self.random.choice(COURSES)(self, target, text)
+            yield Act("DOMAIN_GET_INFO", (target,))
+            if self.often(0.5):
+                yield Act("DOMAIN_RESUME", (target,))
+        yield Act("MEMORY_STATS", (target,))
+
+    def saved(self, target: Target, _text: str) -> Iterator[Act]:
+        yield Act("DOMAIN_SAVE", (target, "two"))
+        yield Act("DOMAIN_RESTORE", ("two",))
+
+    def dumped(self, target: Target, _text: str) -> Iterator[Act]:
+        yield Act("DOMAIN_CORE_DUMP", (target, "two", 0))
+
+    def reverted(self, target: Target, _text: str) -> Iterator[Act]:
+        yield Act("SNAP_CREATE", (target, self.texts.snapshot("s1")))
+        if self.often(0.5):
+            yield self.random.choice(
+                (Act("DOMAIN_SUSPEND", (target,)), Act("KICK", (target, 2)),
+                 Act("DOMAIN_DESTROY", (target,)), Act("DOMAIN_SET_MEMORY", (target, 99)))
+            )
+        yield Act("SNAP_REVERT", (target, "s1"))
+        yield Act("SNAP_DELETE", (target, "s1", 0))
+
+    def ended_by_snapshot(self, target: Target, _text: str) -> Iterator[Act]:
+        yield Act("DOMAIN_DESTROY", (target,))
+        yield Act("SNAP_CREATE", (target, self.texts.snapshot("s2")))
+        yield Act("DOMAIN_CREATE", (target,))
+        yield Act("SNAP_REVERT", (target, "s2"))
+        yield Act("SNAP_DELETE", (target, "s2", 0))
+
+    def moved(self, target: Target, text: str) -> Iterator[Act]:
+        yield Act("MIGRATE_PERFORM", (target,))
+        for _ in range(2):
+            yield Act("MIGRATE_CONFIRM", (target, self.random.choice((0, 1, 1))))
+        yield Act("MIGRATE_PREPARE", (text, self.random.randint(0, 1), self.random.choice(STATES)))
+        for _ in range(2):
+            yield Act("MIGRATE_FINISH", (target, self.random.choice((0, 1, 1))))
+
+    def plugged(self, target: Target, _text: str) -> Iterator[Act]:
+        yield Act("DOMAIN_ATTACH_DEVICE", (target, self.texts.disk("vdb")))
+        yield Act("DOMAIN_DETACH_DEVICE", (target, self.texts.disk("vda")))
+        yield Act("DOMAIN_ATTACH_DEVICE", (target, self.texts.disk("vdc")))
+        yield Act("DOMAIN_GET_XML_DESC", (target, 0))
 
     def stall(self, _daemon: Daemon) -> Iterator[Act]:
         """Copies a guest whose copy makes no headway."""
@@ -443,18 +505,19 @@ class Caller:
              Act("DOMAIN_GET_XML_DESC", (target, 0)), Act("DOMAIN_DESTROY", (target,)))
         )
 
-    def large(self, _daemon: Daemon) -> Iterator[Act]:
-        """Texts at their greatest length, and one byte past it; elements likewise, and levels."""
-        text = self.texts.plain_domain("web1", identifier_of("web1"))
-        size = len(text.encode())
+    def large(self) -> Iterator[Act]:
+        """Texts at their greatest length, levels and elements, and with one more of each."""
+        target = Target("one-0")
+        disk = self.texts.disk("vda")
         for length in (65_536, 65_537):
-            yield Act("DOMAIN_DEFINE_XML", (text + " " * (length - size),))
-        for levels in (29, 30):
-            deep = "<a>" * levels + "</a>" * levels
-            yield Act("SNAP_CREATE", (Target("web1"), f"<b><domainsnapshot>{deep}</domainsnapshot></b>"))
-            yield Act("SNAP_CREATE", (Target("web1"), f"<domainsnapshot>{deep}<a/></domainsnapshot>"))
-        for count in (4_094, 4_095, 4_096):
-            yield Act("SNAP_CREATE", (Target("web1"), f"<domainsnapshot>{'<a/>' * count}</domainsnapshot>"))
+            yield Act("DOMAIN_ATTACH_DEVICE", (target, disk + " " * (length - len(disk.encode()))))
+        for levels in (31, 32):
+            yield self.snapshot_around(target, "<a>" * levels + "</a>" * levels)
+        for count in (4_095, 4_096):
+            yield self.snapshot_around(target, "<a/>" * count)
+
+    def snapshot_around(self, target: Target, content: str) -> Act:
+        return Act("SNAP_CREATE", (target, f"<domainsnapshot>{content}</domainsnapshot>"))
 
 
 #: Calls that never look for a job, so never wait for one.
@@ -557,13 +620,23 @@ _TABLE: tuple[tuple[int, Callable], ...] = (
 WEIGHTS = [weight for weight, _ in _TABLE]
 MAKERS = [make for _, make in _TABLE]
 
-#: Series of calls, each begun as often as the others.
-SERIES = (
-    Caller.fill_slots,
-    Caller.fill_snapshots,
-    Caller.stall,
-    Caller.stall,
-    Caller.move,
-    Caller.move,
-    Caller.large,
+#: Series of calls, and how often each is begun beside the others.
+_SERIES_TABLE: tuple[tuple[int, Callable], ...] = (
+    (1, Caller.fill_slots),
+    (1, Caller.fill_snapshots),
+    (3, Caller.stall),
+    (6, Caller.move),
+    (20, Caller.mishap),
+)
+SERIES_WEIGHTS = [weight for weight, _ in _SERIES_TABLE]
+SERIES = [series for _, series in _SERIES_TABLE]
+
+#: Calls of several asks, in each of which a guest may come to grief.
+COURSES = (
+    Caller.saved,
+    Caller.dumped,
+    Caller.reverted,
+    Caller.ended_by_snapshot,
+    Caller.moved,
+    Caller.plugged,
 )

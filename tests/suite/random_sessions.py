@@ -123,6 +123,23 @@ class Differs(Exception):
         self.text = text
 
 
+class LockStep(Session):
+    """A session whose calls wait for their replies, so that what is sent finds the pipe empty."""
+
+    #: So many bytes go into an empty pipe at once, and need no watch.
+    ROOM = 4_096
+
+    def send(self, what: bytes | Packet) -> None:
+        given = what.to_bytes() if isinstance(what, Packet) else what
+        if len(given) > self.ROOM:
+            super().send(given)
+            return
+        try:
+            self._write(given)
+        except BrokenPipeError:
+            self.refused_input = True
+
+
 # Playing it ---------------------------------------------------------------------------------------
 
 
@@ -146,7 +163,7 @@ class Player:
             plant.put(self.store)
             self.shown.append(f"   file {plant.file}: {plant.content!r}")
         daemon = Daemon(self.store, self.draws)
-        session = Session(self.place)
+        session = LockStep(self.place)
         try:
             self._judge_acts(session, daemon, acts)
             self._judge_end(session, daemon, run.end)
@@ -278,7 +295,8 @@ class Maker:
     def image(self, _store: Store) -> Plant:
         """An image that another program wrote, often with something wrong with it."""
         name = self.random.choice(("by-hand", "by-hand-too"))
-        text = self.texts.plain_domain(BY_HAND, identifier_of(BY_HAND)).encode()
+        disk = self.random.choice(("", "vda"))
+        text = self.texts.plain_domain(BY_HAND, identifier_of(BY_HAND), disk=disk).encode()
         state = self.random.choice(STATES)
         words = [IMAGE_MAGIC, IMAGE_VERSION, SAVE, self.random.randint(0, 1), 0]
         if self.random.random() < 0.4:
