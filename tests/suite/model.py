@@ -18,7 +18,7 @@ from suite.model_domain import Cell, Domain, State
 from suite.model_markup import NotInGrammar
 from suite.model_payload import BadPayload, read_arguments
 from suite.model_refusals import Code, Refused, no_domain, within
-from suite.model_store import Store
+from suite.model_store import Entry, Store
 from suite.model_texts import (
     BadDefinition,
     print_domain,
@@ -64,7 +64,7 @@ class Daemon:
             )
         self._start_what_is_marked()
 
-    def _entries(self) -> list:
+    def _entries(self) -> list[Entry]:
         return sorted(self.store.entries.values(), key=lambda entry: entry.name.encode())
 
     def _start_what_is_marked(self) -> None:
