@@ -11,7 +11,7 @@ from suite.cases import Failed, case, check
 from suite.daemon import Place, Session
 from suite.directory import Change, Drop, Entry, Map, Mark, Put, judge, read_directory
 from suite.samples import definition, named
-from suite.wire import Domain, Refusal
+from suite.wire import Domain, Refusal, show
 
 #: How many changes are asked for at once, before a kill.
 BURST = 12
@@ -79,13 +79,16 @@ def _burst_and_kill(
         (name, *values), change = draw.draw(stored)
         changes.append(change)
         serials.append(session.begin(name, *values))
-    for serial in serials[:waits]:
-        session.reply_of(serial)
+    replies = [session.reply_of(serial) for serial in serials[:waits]]
     session.kill()
-    return changes, waits + len(session.left())
+    replies += session.left()
+    for packet in replies:
+        if packet.status != 0:
+            raise Failed(f"a change is refused: {show(packet)}")
+    return changes, len(replies)
 
 
-@case("kills", "After so many replies, a kill leaves the first changes, with each that was answered")
+@case("kills", "A kill after so many replies leaves the first changes, with each answered one")
 def among_changes(place: Place) -> None:
     chance = random.Random(19)
     draw = Changes(place, chance)
@@ -113,7 +116,7 @@ def at_its_start(place: Place) -> None:
     check_next_daemon(place, before)
 
 
-@case("kills", "A kill at its start leaves a definition of version 1 as it was, or in version 2")
+@case("kills", "A kill at its start leaves a definition of version 1, or the same in version 2")
 def at_a_rewriting(place: Place) -> None:
     domain = named("a", 1)
     text = definition(domain)

@@ -9,7 +9,7 @@ addresses of interfaces) is taken from its replies and looked at for its form.
 from __future__ import annotations
 
 from collections.abc import Callable
-from dataclasses import dataclass, field
+from dataclasses import dataclass, replace
 from uuid import UUID
 
 from suite import model_operations as operations
@@ -18,7 +18,7 @@ from suite.model_domain import Cell, Domain, State
 from suite.model_markup import NotInGrammar
 from suite.model_payload import BadPayload, read_arguments
 from suite.model_refusals import Code, Refused, no_domain, within
-from suite.model_store import Store
+from suite.model_store import Entry, Store
 from suite.model_texts import (
     BadDefinition,
     print_domain,
@@ -54,16 +54,17 @@ class Daemon:
     def __init__(self, store: Store, draws: Draws) -> None:
         self.store = store
         self.draws = draws
-        self.slots = [Slot(Cell(store)) for _ in range(MOST_DOMAINS)]
+        #: The slots that were used so far; one that is free is used again before a new one.
+        self.slots: list[Slot] = []
         self.lines = store.take_reports()
-        for slot, entry in zip(self.slots, self._entries()):
-            slot.name, slot.identifier = entry.name, entry.definition.identifier
+        for entry in self._entries():
+            slot = self.free_slot(entry.name, entry.definition.identifier)
             slot.cell.domain = Domain(
                 slot.name, slot.identifier, entry.definition, autostart=entry.autostart
             )
         self._start_what_is_marked()
 
-    def _entries(self) -> list:
+    def _entries(self) -> list[Entry]:
         return sorted(self.store.entries.values(), key=lambda entry: entry.name.encode())
 
     def _start_what_is_marked(self) -> None:
@@ -144,10 +145,17 @@ class Daemon:
         for slot in self._held():
             if slot.identifier == definition.identifier:
                 raise Refused(Code.DOMAIN_EXISTS, slot.name)
+        return self.free_slot(definition.name, definition.identifier)
+
+    def free_slot(self, name: str, identifier: UUID) -> Slot:
+        """The least free slot, for a domain of this name and identifier."""
         free = next((slot for slot in self.slots if not slot.cell.is_occupied), None)
         if free is None:
-            raise Refused(Code.LIST_FULL, MOST_DOMAINS)
-        free.name, free.identifier = definition.name, definition.identifier
+            if len(self.slots) == MOST_DOMAINS:
+                raise Refused(Code.LIST_FULL, MOST_DOMAINS)
+            free = Slot(Cell(self.store))
+            self.slots.append(free)
+        free.name, free.identifier = name, identifier
         return free
 
     def _rows(self) -> list[Domain]:
@@ -254,8 +262,10 @@ class Daemon:
         self._on(of.identifier, operations.dump, name)
 
     def restore(self, name: str) -> None:
+        """An image by another program may lack addresses; its identifier has to be there."""
         _check_name(name)
         image = self.store.image(name)
+        image = replace(image, definition=self.draws.fill_domain(image.definition))
         self._in(self.claim(image.definition), operations.restore, image)
 
     def create_snapshot(self, of: Reference, text: str) -> str:

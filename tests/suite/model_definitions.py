@@ -196,7 +196,7 @@ _IDENTIFIERS = (
     re.compile("([0-9a-fA-F]{32})"),
     re.compile(f"({_HYPHENATED})"),
     re.compile(f"\\{{({_HYPHENATED})\\}}"),
-    re.compile(f"urn:uuid:({_HYPHENATED})"),
+    re.compile(f"(?i:urn:uuid:)({_HYPHENATED})"),
 )
 
 

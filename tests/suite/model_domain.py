@@ -27,7 +27,6 @@ from suite.model_snapshots import Snapshots
 from suite.model_store import Entry, Status, Store
 
 GREATEST_NUMBER = 2_147_483_647
-MOST_LEFT = 1 << 40
 #: Class of a refused lease: there is no such network. Networks are not served yet.
 NO_NETWORK = 11
 

@@ -21,8 +21,13 @@ _NAME_START = (
     "\u2070-\u218f\u2c00-\u2fef\u3001-\ud7ff\uf900-\ufdcf\ufdf0-\ufffd\U00010000-\U000effff"
 )
 _NAME = re.compile(f"[{_NAME_START}][{_NAME_START}\\-.0-9\u00b7\u0300-\u036f\u203f-\u2040]*")
+_BLANKS = re.compile(f"[{BLANKS}]*")
+_RUN_END = re.compile("[<&]")
 _NAME_FIRST = re.compile(f"[{_NAME_START}]")
-_CHARACTERS = re.compile("[\t\n\r\u0020-\ud7ff\ue000-\ufffd\U00010000-\U0010ffff]*")
+_CHARACTER = "[\t\n\r\u0020-\ud7ff\ue000-\ufffd\U00010000-\U0010ffff]"
+_CHARACTERS = re.compile(f"{_CHARACTER}*")
+#: What a value holds up to a reference, its quote, or what it may not hold.
+_VALUE_RUN = {quote: re.compile(f"(?:(?![<&{quote}]){_CHARACTER})*") for quote in "'\""}
 _GREATEST_CHARACTER = 0x10FFFF
 
 
@@ -120,8 +125,8 @@ class _Reader:
 
     def may_become(self, word: str) -> bool:
         """Whether the text ends within what could become `word`."""
-        rest = self.text[self.place :]
-        return len(rest) < len(word) and word.startswith(rest)
+        left = len(self.text) - self.place
+        return left < len(word) and word.startswith(self.text[self.place :])
 
     def expect(self, word: str, start: int) -> None:
         """Takes `word`, or what begins at `start` is at fault."""
@@ -134,8 +139,7 @@ class _Reader:
     def blanks(self) -> bool:
         """Takes blanks; whether there were any."""
         begin = self.place
-        while not self.at_end() and self.text[self.place] in BLANKS:
-            self.place += 1
+        self.place = _BLANKS.match(self.text, begin).end()
         return self.place > begin
 
     def name(self, start: int) -> str:
@@ -296,13 +300,14 @@ class _Reader:
         self.place += 1
         value = ""
         while self.peek() != quote:
-            if self.peek() == "&":
+            match = _VALUE_RUN[quote].match(self.text, self.place)
+            if match.end() > self.place:
+                value += match.group()
+                self.place = match.end()
+            elif self.peek() == "&":
                 value += self.reference()
-            elif self.peek() == "<" or not is_character(ord(self.peek())):
-                raise self.fault(start)
             else:
-                value += self.peek()
-                self.place += 1
+                raise self.fault(start)
         self.place += 1
         return name, value
 
@@ -314,22 +319,27 @@ class _Reader:
                 text += self.reference()
             elif self.peek() != "<":
                 text += self.run()
-            elif self.sees("<![CDATA["):
-                start = self.place
-                self.place += len("<![CDATA[")
-                text += self.characters_up_to("]]>", start)
-            elif self.sees("<!--") or self.sees("<?"):
-                self.comment_or_instruction()
-            elif any(self.may_become(word) for word in ("<!--", "<![CDATA[")):
-                raise _EndsEarly
+            elif self.sees("<!") or self.sees("<?"):
+                text += self.section_or_aside()
             else:
                 tree.children.append(self.element(level + 1))
         tree.text = text.strip(BLANKS)
 
+    def section_or_aside(self) -> str:
+        """Takes a section, whose text counts, or a comment or an instruction, which is nothing."""
+        start = self.place
+        if self.sees("<!--") or self.sees("<?"):
+            self.comment_or_instruction()
+            return ""
+        if self.may_become("<!--"):
+            raise _EndsEarly
+        self.expect("<![CDATA[", start)
+        return self.characters_up_to("]]>", start)
+
     def run(self) -> str:
         """Takes a run of text, up to the next tag or reference."""
         start = self.place
-        stop = re.compile("[<&]").search(self.text, start)
+        stop = _RUN_END.search(self.text, start)
         end = stop.start() if stop else len(self.text)
         run = self.text[start:end]
         if _CHARACTERS.fullmatch(run) is None or "]]>" in run:

@@ -54,7 +54,7 @@ def _check_places(place: Place, calls: list[tuple[Procedure, bytes]]) -> None:
     check(0, session.finish().status, "the exit status")
 
 
-@case("payloads", "A call that is cut off behind any of its bytes is refused at the cut item's place")
+@case("payloads", "A call that is cut off behind any of its bytes is refused at the item's place")
 def cut_off(place: Place) -> None:
     calls = [(one, _example(one)[:cut]) for one in SERVED for cut in range(len(_example(one)))]
     _check_places(place, calls)
@@ -81,7 +81,7 @@ def _check_readings(place: Place, calls: list[tuple[Procedure, bytes]]) -> None:
     check(0, session.finish().status, "the exit status")
 
 
-@case("payloads", "A call with another word in any place is refused where the protocol says, or read")
+@case("payloads", "A call with another word anywhere is refused where the protocol says, or read")
 def other_words(place: Place) -> None:
     calls = []
     for procedure in SERVED:

@@ -1,29 +1,21 @@
-"""Calls made at random, most of them such that the model's daemon accepts them.
-
-What is made is an `Act` that names domains by their names, so that a session can be played again
-although the daemon draws other identifiers.
-"""
+"""Calls made at random, most of them such that the model's daemon accepts them."""
 
 from __future__ import annotations
 
 import random
 from collections.abc import Callable, Iterator
-from dataclasses import dataclass, replace
-from uuid import UUID
+from dataclasses import replace
 
-from suite.model import MOST_DOMAINS, Daemon
-from suite.model_definitions import MOST_DEVICES
+from suite.model import Daemon
 from suite.model_domain import Domain, Kind, State
 from suite.model_markup import NotInGrammar
-from suite.model_refusals import Refused
-from suite.model_snapshots import MOST_SNAPSHOTS
 from suite.model_texts import BadDefinition, read_domain
-from suite.procedures import CALL, DRIVER_PROGRAM, PROCEDURES, SECOND_PROGRAM
+from suite.procedures import DRIVER_PROGRAM, PROCEDURES, SECOND_PROGRAM
+from suite.random_acts import NAMES, PING, STATES, Act, Identified, Passed, Target, identifier_of
+from suite.random_series import SERIES, SERIES_WEIGHTS
 from suite.random_texts import TARGETS, Texts
-from suite.wire import Domain as Reference
-from suite.wire import Packet, call
+from suite.wire import Packet
 
-NAMES = ("web1", "web2", "db", "a", "b", "Z", "näme", "漢字", "with blank", "x" * 128)
 IMAGES = ("one", "two", "drei", "b", "by-hand", "by-hand-too", "a file")
 SNAPSHOTS = ("s1", "s2", "s3", "snap1", "snap2", "é")
 #: With fewer domains, and fewer that are active, most calls would be refused.
@@ -32,92 +24,6 @@ FEW_GUESTS = 3
 #: The domain of images that are put into a store by hand.
 BY_HAND = "a"
 NO_NAMES = ("a/b", "", ".", "..", "\x01", "y" * 129)
-STATES = (bytes(8), (2_048).to_bytes(8, "big"), (1 << 63).to_bytes(8, "big"), b"", b"12345", bytes(9))
-
-KEEPALIVE_PROGRAM = 0x6B656570
-PING = Packet(KEEPALIVE_PROGRAM, 1, 1, 2, 5, 0, b"whatever")
-
-
-def identifier_of(name: str) -> UUID:
-    """The identifier that the definitions of a name have, where they have one."""
-    number = NAMES.index(name) + 1 if name in NAMES else 0x1000 + int(name.rsplit("-", 1)[1])
-    return UUID(int=0x4000_8000_0000_0000_0000 + number)
-
-
-# Acts ---------------------------------------------------------------------------------------------
-
-
-@dataclass(frozen=True)
-class Target:
-    """The domain of this name, as an argument of a call."""
-
-    name: str
-
-
-@dataclass(frozen=True)
-class Identified(Target):
-    """The identifier alone of the domain of this name."""
-
-
-@dataclass(frozen=True)
-class Act:
-    """A call, perhaps with other words in its header, or with a payload that is bent."""
-
-    procedure: str
-    arguments: tuple[object, ...] = ()
-    program: int | None = None
-    version: int | None = None
-    number: int | None = None
-    cut: int | None = None
-    put: tuple[int, int] | None = None
-    more: bytes = b""
-
-    def packet(self, daemon: Daemon, serial: int) -> Packet:
-        """The packet, with the identifiers that the domains have by now."""
-        values = (_resolved(daemon, argument) for argument in self.arguments)
-        packet = call(self.procedure, serial, *values)
-        return replace(
-            packet,
-            program=packet.program if self.program is None else self.program,
-            version=packet.version if self.version is None else self.version,
-            procedure=packet.procedure if self.number is None else self.number,
-            payload=self._bent(packet.payload) + self.more,
-        )
-
-    def _bent(self, payload: bytes) -> bytes:
-        if self.cut is not None and payload:
-            payload = payload[: self.cut % len(payload)]
-        if self.put is not None and payload:
-            at = self.put[0] % len(payload)
-            payload = payload[:at] + bytes([self.put[1]]) + payload[at + 1 :]
-        return payload
-
-
-def _resolved(daemon: Daemon, argument: object) -> object:
-    if not isinstance(argument, Target):
-        return argument
-    try:
-        identifier = daemon.find_name(argument.name).identifier
-    except Refused:
-        identifier = identifier_of(argument.name)
-    if isinstance(argument, Identified):
-        return identifier
-    return Reference(argument.name, identifier, -1)
-
-
-@dataclass(frozen=True)
-class Passed:
-    """A packet that is no call, and is passed over; only a ping is answered, by a message."""
-
-    packet: Packet
-
-    @property
-    def is_ping(self) -> bool:
-        return self.packet == PING
-
-
-# Making them --------------------------------------------------------------------------------------
-
 
 class Caller:
     """Makes the next act from what the model's daemon has."""
@@ -134,8 +40,8 @@ class Caller:
 
     def next(self, daemon: Daemon) -> Act | Passed:
         """One more act: the next of a series that was begun, or any."""
-        if self.series is None and self.often(0.02):
-            self.series = self.random.choice(SERIES)(self, daemon)
+        if self.series is None and self.often(0.04):
+            self.series = self.random.choices(SERIES, SERIES_WEIGHTS)[0](self, daemon)
         if self.series is not None and self.often(0.9):
             act = next(self.series, None)
             if act is not None and self.is_soon_answered(daemon, act):
@@ -165,7 +71,7 @@ class Caller:
         """Whether the call is let in at once, or is one of the few that may wait in vain."""
         if not self.is_kept_out(daemon, act):
             return True
-        if self.waits == 0 or self.often(0.7):
+        if self.waits == 0 or self.often(0.4):
             return False
         self.waits -= 1
         return True
@@ -369,93 +275,6 @@ class Caller:
         kind, status = self.random.choice(((1, 0), (1, 1), (1, 2), (2, 0)))
         return Passed(Packet(program, 1, 12, kind, 3, status, bytes(self.random.randint(0, 9))))
 
-    # Series that lead to what single calls hardly come to
-
-    def fill_slots(self, daemon: Daemon) -> Iterator[Act]:
-        """Takes all slots of a guest, and one device more."""
-        target = self.running(daemon)
-        letters = "abcdefghijklmnopqrstuvwxyz"
-        for number in range(MOST_DEVICES + 2):
-            text = self.texts.disk(f"sd{letters[number % 26]}{number // 26}")
-            yield Act("DOMAIN_ATTACH_DEVICE", (target, text))
-        yield Act("DOMAIN_GET_XML_DESC", (target, 0))
-        slots = range(self.random.randint(2, 6))
-        for number in slots:
-            text = self.texts.disk(f"sd{letters[number * 5]}0")
-            yield Act("DOMAIN_DETACH_DEVICE", (target, text))
-        yield Act("DOMAIN_ATTACH_DEVICE", (target, self.texts.disk("sdz9")))
-        yield Act("DOMAIN_GET_XML_DESC", (target, 0))
-
-    def fill_snapshots(self, daemon: Daemon) -> Iterator[Act]:
-        """Takes as many snapshots of a domain as there may be, and one more."""
-        target = self.idle(daemon)
-        for _ in range(MOST_SNAPSHOTS + 1):
-            yield Act("SNAP_CREATE", (target, self.texts.snapshot(None)))
-        yield Act("SNAP_LIST", (target,))
-        yield Act("SNAP_DELETE", (target, "snap2", 1))
-        yield Act("SNAP_DELETE", (target, "snap1", 1))
-
-    def fill_list(self, _daemon: Daemon) -> Iterator[Act]:
-        """Creates domains until the list is full, and one more where one was ended."""
-        for number in range(MOST_DOMAINS + 1):
-            yield self.one_of_many(number)
-        yield Act("LIST_ALL")
-        yield Act("DOMAIN_DESTROY", (Target("one-7"),))
-        yield self.one_of_many(MOST_DOMAINS + 1)
-        yield self.one_of_many(MOST_DOMAINS + 2)
-
-    def one_of_many(self, number: int) -> Act:
-        name = f"one-{number}"
-        text = self.texts.plain_domain(name, identifier_of(name))
-        return Act("DOMAIN_CREATE_XML", (text, 0))
-
-    def stall(self, _daemon: Daemon) -> Iterator[Act]:
-        """Copies a guest whose copy makes no headway."""
-        name = self.random.choice(NAMES)
-        script = self.random.choice(("stall", "slow 3; stall", "slow 70; stall", "slow 64"))
-        text = self.texts.plain_domain(name, identifier_of(name), script)
-        target = Target(name)
-        yield Act("DOMAIN_DESTROY", (target,))
-        yield Act("DOMAIN_DEFINE_XML", (text,))
-        yield Act("DOMAIN_CREATE", (target,))
-        yield self.random.choice(
-            (Act("DOMAIN_SAVE", (target, "one")), Act("DOMAIN_CORE_DUMP", (target, "one", 0)),
-             Act("SNAP_CREATE", (target, self.texts.snapshot(None))),
-             Act("MIGRATE_PERFORM", (target,)))
-        )
-        yield Act("JOB_INFO", (target,))
-        yield Act("DOMAIN_GET_INFO", (target,))
-
-    def move(self, daemon: Daemon) -> Iterator[Act]:
-        """Lets a guest leave or come back, with calls of all kinds while it is between two hosts."""
-        target = self.running(daemon)
-        yield Act("MIGRATE_PERFORM", (target,))
-        for _ in range(self.random.randint(0, 3)):
-            yield self.while_moving(target)
-        yield Act("MIGRATE_CONFIRM", (target, self.random.randint(0, 1)))
-        yield Act("DOMAIN_GET_INFO", (target,))
-
-    def while_moving(self, target: Target) -> Act:
-        return self.random.choice(
-            (Act("JOB_INFO", (target,)), Act("MEMORY_STATS", (target,)), Act("JOB_ABORT", (target,)),
-             Act("KICK", (target, self.random.randint(0, 5))), Act("DOMAIN_SUSPEND", (target,)),
-             Act("MIGRATE_LIMIT", (target, 5)), Act("MIGRATE_FINISH", (target, 1)),
-             Act("DOMAIN_GET_XML_DESC", (target, 0)), Act("DOMAIN_DESTROY", (target,)))
-        )
-
-    def large(self, _daemon: Daemon) -> Iterator[Act]:
-        """Texts at their greatest length, and one byte past it; elements likewise, and levels."""
-        text = self.texts.plain_domain("web1", identifier_of("web1"))
-        size = len(text.encode())
-        for length in (65_536, 65_537):
-            yield Act("DOMAIN_DEFINE_XML", (text + " " * (length - size),))
-        for levels in (29, 30):
-            deep = "<a>" * levels + "</a>" * levels
-            yield Act("SNAP_CREATE", (Target("web1"), f"<b><domainsnapshot>{deep}</domainsnapshot></b>"))
-            yield Act("SNAP_CREATE", (Target("web1"), f"<domainsnapshot>{deep}<a/></domainsnapshot>"))
-        for count in (4_094, 4_095, 4_096):
-            yield Act("SNAP_CREATE", (Target("web1"), f"<domainsnapshot>{'<a/>' * count}</domainsnapshot>"))
-
 
 #: Calls that never look for a job, so never wait for one.
 NEVER_WAITS = frozenset(
@@ -556,14 +375,3 @@ _TABLE: tuple[tuple[int, Callable], ...] = (
 )
 WEIGHTS = [weight for weight, _ in _TABLE]
 MAKERS = [make for _, make in _TABLE]
-
-#: Series of calls, each begun as often as the others.
-SERIES = (
-    Caller.fill_slots,
-    Caller.fill_snapshots,
-    Caller.stall,
-    Caller.stall,
-    Caller.move,
-    Caller.move,
-    Caller.large,
-)

@@ -68,9 +68,14 @@ class Texts:
             self._spoil(tree)
         return self.styled(tree)
 
-    def plain_domain(self, name: str, identifier: UUID | None, script: str = "") -> str:
-        """A small definition with just this script."""
+    def plain_domain(
+        self, name: str, identifier: UUID | None, script: str = "", disk: str = ""
+    ) -> str:
+        """A small definition with just this script, and perhaps one disk."""
         children = [Tree("name", text=name), Tree("memory", text="4096")]
+        if disk:
+            target = Tree("target", [("dev", disk)])
+            children.append(Tree("devices", children=[Tree("disk", children=[target])]))
         if identifier:
             children.append(Tree("uuid", text=str(identifier)))
         if script:
@@ -85,7 +90,7 @@ class Texts:
         for element in ("title", "description"):
             if self.often(0.3):
                 children.append(Tree(element, text=self.random.choice(TEXTS)))
-        if self.often(0.4):
+        if self.often(0.5):
             guest = Tree("guest", text=self.script(boots))
             children.append(Tree("metadata", children=[guest, Tree("other")]))
         if self.often(0.3):
@@ -126,15 +131,16 @@ class Texts:
         return Tree("os", children=[Tree("type", attributes, "hvm"), *boots])
 
     def _identifier(self, identifier: UUID) -> str:
-        forms = (str(identifier), identifier.hex, f"{{{identifier}}}", f"urn:uuid:{identifier}")
-        return self.random.choice((forms[0], forms[0], *forms, str(identifier).upper()))
+        plain = str(identifier)
+        forms = (identifier.hex, f"{{{plain}}}", f"urn:uuid:{plain}", plain.upper())
+        return self.random.choice((plain, plain, plain, *forms))
 
     def script(self, boots: int) -> str:
         """What a guest is to do in one of the boots that come next."""
         entries = []
         for _ in range(self.random.randint(1, 3)):
-            boot = boots + self.random.randint(1, 3)
-            command = self.random.choice((1, 2, 3, 3, 4, 4, 5, 6, 7, 8, 10, 14))
+            boot = boots + self.random.choice((1, 1, 1, 1, 2, 2, 3))
+            command = self.random.choice((1, 2, *range(3, 13), *range(3, 24)))
             deed = self.random.choice(("end", "refuse", "refuse", "refuse", "lost"))
             entries.append(f"boot {boot} command {command} {deed}")
         if self.often(0.4):

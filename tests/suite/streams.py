@@ -1,4 +1,4 @@
-"""What happens where standard input or output fails, or the daemon may not write as much as it likes.
+"""Standard input and output that fail, and files that may not grow as far as the daemon likes.
 
 The status of a fault of either is 5, and the replies before it have come.
 """
