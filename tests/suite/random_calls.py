@@ -193,7 +193,8 @@ class Caller:
         return Act("DOMAIN_SAVE", (self.running(daemon), self.file()))
 
     def dump(self, daemon: Daemon) -> Act:
-        return Act("DOMAIN_CORE_DUMP", (self.active(daemon), self.file(), self.random.randint(0, 9)))
+        flags = self.random.randint(0, 9)
+        return Act("DOMAIN_CORE_DUMP", (self.active(daemon), self.file(), flags))
 
     def restore(self, daemon: Daemon) -> Act:
         saved = tuple(daemon.store.saves)
