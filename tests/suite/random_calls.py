@@ -25,6 +25,7 @@ FEW_GUESTS = 3
 BY_HAND = "a"
 NO_NAMES = ("a/b", "", ".", "..", "\x01", "y" * 129)
 
+
 class Caller:
     """Makes the next act from what the model's daemon has."""
 
