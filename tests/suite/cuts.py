@@ -1,4 +1,4 @@
-"""It does not matter how the input is cut: every row again, with its calls in pieces.
+"""It does not matter how the input is cut: rows of several packets again, in pieces.
 
 A piece is a record of a socket, so that one read of the daemon gives one piece and no more.
 """
@@ -15,8 +15,12 @@ ROWS = Path(__file__).resolve().parents[1] / "rows"
 
 
 def _sessions() -> list[Row]:
-    """The rows in which something is said to the daemon."""
-    return [row for row in all_rows(ROWS) if any(step.verb in (">", "call") for step in row.steps)]
+    """The rows in which more than one thing is said to the daemon."""
+    return [
+        row
+        for row in all_rows(ROWS)
+        if sum(step.verb in (">", "call") for step in row.steps) > 1
+    ]
 
 
 def _play_all(place: Place, pieces: int) -> None:
@@ -31,21 +35,21 @@ def _play_all(place: Place, pieces: int) -> None:
             own.close()
 
 
-@case("cuts", "Every row stands where each read gives one byte")
+@case("cuts", "Rows of several packets stand where each read gives one byte")
 def one_byte(place: Place) -> None:
     _play_all(place, 1)
 
 
-@case("cuts", "Every row stands where each read gives at most 5 bytes")
+@case("cuts", "Rows of several packets stand where each read gives at most 5 bytes")
 def five_bytes(place: Place) -> None:
     _play_all(place, 5)
 
 
-@case("cuts", "Every row stands where each read gives at most 7 bytes")
+@case("cuts", "Rows of several packets stand where each read gives at most 7 bytes")
 def seven_bytes(place: Place) -> None:
     _play_all(place, 7)
 
 
-@case("cuts", "Every row stands where each read gives at most 8,192 bytes")
+@case("cuts", "Rows of several packets stand where each read gives at most 8,192 bytes")
 def pages(place: Place) -> None:
     _play_all(place, 8192)

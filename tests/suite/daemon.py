@@ -3,6 +3,8 @@
 Nothing here sleeps: a wait ends with what it waits for, or fails at its deadline.
 """
 
+import os
+import select
 import socket
 import subprocess
 import threading
@@ -11,11 +13,11 @@ from collections.abc import Callable, Sequence
 from dataclasses import dataclass
 from pathlib import Path
 
-from suite.procedures import REPLY
-from suite.wire import Packet, call, split, value_of
+from suite.procedures import CALL, REPLY
+from suite.wire import Packet, call, show, split, value_of
 
 #: A wait that takes longer than this many seconds is a hang, and a failure.
-DEADLINE = 20.0
+DEADLINE = 60.0
 
 #: How many bytes are read from a pipe at once.
 PIECE = 65_536
@@ -30,7 +32,7 @@ class Hang(Exception):
 
 
 class NoReply(Exception):
-    """The daemon's output ended before the reply that was waited for."""
+    """The reply that was waited for can not come any more, or another came in its place."""
 
 
 @dataclass(frozen=True)
@@ -91,7 +93,7 @@ class _Drain:
     def _read(self) -> None:
         while True:
             try:
-                piece = self._pipe.read1(PIECE)
+                piece = os.read(self._pipe.fileno(), PIECE)
             except (OSError, ValueError):
                 piece = b""
             with self.news:
@@ -137,9 +139,9 @@ class Session:
     ):
         if not words:
             words = ("stdio", place.directory)
-        self._input = None
+        records = None
         if place.pieces is not None and stdin is subprocess.PIPE:
-            self._input, stdin = _records()
+            records, stdin = _records()
         self._pieces = place.pieces
         self.process = subprocess.Popen(
             [*under, str(place.binary), *(str(word) for word in words if word is not NO_WORDS)],
@@ -147,37 +149,46 @@ class Session:
             stdout=stdout,
             stderr=stderr,
             cwd=place.root,
+            bufsize=0,
         )
-        if self._input is not None:
+        if records is not None:
             stdin.close()
+        self._input = records or self.process.stdin
+        if self._input is not None:
+            os.set_blocking(self._input.fileno(), False)
         place.keep(self)
         self._output = _Drain(self.process.stdout) if self.process.stdout else None
         self._errors = _Drain(self.process.stderr) if self.process.stderr else None
         self._arrived: list[Packet] = []
         self._looked_at = 0
         self._serial = 0
-        #: Whether the daemon closed its input before it had taken all that was sent.
-        self.refused_input = False
+        self._called: set[int] = set()
+        self._unparsed = b""
 
     def send(self, what: bytes | Packet) -> None:
         """Write bytes or a packet to the daemon. It may end before it has read them all."""
         given = what.to_bytes() if isinstance(what, Packet) else what
-        watch = threading.Timer(DEADLINE, self.process.kill)
-        watch.start()
+        self._note_calls(given)
+        size = self._pieces or len(given)
         try:
-            self._write(given)
+            for begin in range(0, len(given), size or 1):
+                self._write(given[begin : begin + size])
         except BrokenPipeError:
-            self.refused_input = True
-        finally:
-            watch.cancel()
+            pass  # how it ended says why
+
+    def _note_calls(self, given: bytes) -> None:
+        packets, self._unparsed = split(self._unparsed + given)
+        self._called.update(packet.serial for packet in packets if packet.kind == CALL)
 
     def _write(self, given: bytes) -> None:
-        if self._input is None:
-            self.process.stdin.write(given)
-            self.process.stdin.flush()
-            return
-        for begin in range(0, len(given), self._pieces):
-            self._input.send(given[begin : begin + self._pieces])
+        """Write all of this, as the daemon makes room for it."""
+        deadline = time.monotonic() + DEADLINE
+        while given:
+            left = max(0.0, deadline - time.monotonic())
+            _, writable, _ = select.select([], [self._input], [], left)
+            if not writable:
+                raise Hang(f"the daemon did not read its input within {DEADLINE:.0f} s")
+            given = given[os.write(self._input.fileno(), given) :]
 
     def call(self, name: str, *values: object) -> object:
         """Call a procedure, wait for its reply, and give what it says (`wire.value_of`)."""
@@ -200,6 +211,8 @@ class Session:
             for at, packet in enumerate(self._arrived):
                 if packet.kind == REPLY and packet.serial == serial:
                     return self._arrived.pop(at)
+                if packet.kind == REPLY and packet.serial not in self._called:
+                    raise NoReply(f"a reply came to a call that nobody made: {show(packet)}")
             return None
 
         return self._await(taken, f"the reply to call {serial}")
@@ -240,7 +253,8 @@ class Session:
                     break
                 left = deadline - time.monotonic()
                 if left <= 0:
-                    raise Hang(f"{what} did not come within {DEADLINE:.0f} s")
+                    came = "; ".join(show(packet) for packet in self._arrived) or "nothing"
+                    raise Hang(f"{what} did not come within {DEADLINE:.0f} s, but {came}")
                 output.news.wait(left)
         raise NoReply(f"the output ended before {what}{self._last_words()}")
 
@@ -264,11 +278,6 @@ class Session:
         """Say that nothing more comes."""
         if self._input is not None:
             self._input.close()
-        if self.process.stdin is not None:
-            try:
-                self.process.stdin.close()
-            except BrokenPipeError:
-                self.refused_input = True
 
     def finish(self) -> Ended:
         """Close the input, wait for the daemon's end, and say how it ended."""

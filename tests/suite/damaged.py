@@ -101,7 +101,7 @@ def long_files(place: Place) -> None:
         check((4, "virtd: store\n"), (ended.status, ended.stderr), f"{words[0]} on a longer file")
 
 
-@case("damaged", "A definition of version 1 is served, and written again in version 2 with its title")
+@case("damaged", "A definition of version 1 is served, and written again in version 2")
 def rewritten(place: Place) -> None:
     text = definition(DOMAIN).replace("<memory>", "<title>The first\nof two</title><memory>")
     (place.directory / FILE).write_bytes(first(text, flag="yes"))

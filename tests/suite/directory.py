@@ -72,7 +72,7 @@ def read_entry(content: bytes) -> Entry:
 
 
 def read_directory(directory: Path) -> Map:
-    """The map that a directory stands for. Fails where a file that should be one is no definition."""
+    """The map that a directory stands for. Fails where a definition's file is no definition."""
     found: Map = {}
     for path in sorted(directory.glob("*.def")):
         named = _FILE.fullmatch(path.name)

@@ -3,7 +3,7 @@
 from suite.cases import case, check
 from suite.daemon import Place, Session
 from suite.samples import definition, disk, interface, named
-from suite.wire import Domain, refusal
+from suite.wire import Domain, refusal, value_of
 
 MOST_DOMAINS = 256
 MOST_SNAPSHOTS = 64
@@ -116,3 +116,20 @@ def looks(place: Place) -> None:
     check(refusal(68, "migrate-out"), came, "a call that the operation excludes")
     check(None, session.call("MIGRATE_CONFIRM", domain, 0), "the confirm")
     check(None, session.call("DOMAIN_SET_MEMORY", domain, 512), "the same call after it")
+
+
+@case("fullness", "A domain goes on once its history has begun another chapter")
+def chapters(place: Place) -> None:
+    session = Session(place)
+    domain = _running(session)
+    # each of these calls leaves two marks, and a chapter ends behind 4,096
+    serials = [
+        session.begin("DOMAIN_SET_MEMORY", domain, number % 1024 + 1) for number in range(2100)
+    ]
+    for number, serial in enumerate(serials):
+        check(None, value_of(session.reply_of(serial)), f"call {number}")
+    check((1, 1024, 2099 % 1024 + 1, 1, 0), session.call("DOMAIN_GET_INFO", domain), "the domain")
+    check(None, session.call("DOMAIN_DESTROY", domain), "a destroy")
+    check(None, session.call("DOMAIN_CREATE", domain), "a start")
+    looked_up = session.call("DOMAIN_LOOKUP_BY_NAME", domain.name)
+    check(2, looked_up.number, "its boot, which is counted on")

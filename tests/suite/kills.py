@@ -11,7 +11,7 @@ from suite.cases import Failed, case, check
 from suite.daemon import Place, Session
 from suite.directory import Change, Drop, Entry, Map, Mark, Put, judge, read_directory
 from suite.samples import definition, named
-from suite.wire import Domain, Refusal
+from suite.wire import Domain, Refusal, show
 
 #: How many changes are asked for at once, before a kill.
 BURST = 12
@@ -79,13 +79,16 @@ def _burst_and_kill(
         (name, *values), change = draw.draw(stored)
         changes.append(change)
         serials.append(session.begin(name, *values))
-    for serial in serials[:waits]:
-        session.reply_of(serial)
+    replies = [session.reply_of(serial) for serial in serials[:waits]]
     session.kill()
-    return changes, waits + len(session.left())
+    replies += session.left()
+    for packet in replies:
+        if packet.status != 0:
+            raise Failed(f"a change is refused: {show(packet)}")
+    return changes, len(replies)
 
 
-@case("kills", "After so many replies, a kill leaves the first changes, with each that was answered")
+@case("kills", "A kill after so many replies leaves the first changes, with each answered one")
 def among_changes(place: Place) -> None:
     chance = random.Random(19)
     draw = Changes(place, chance)
@@ -111,6 +114,22 @@ def at_its_start(place: Place) -> None:
         Session(place).kill()
         check(before, read_directory(place.directory), "the definitions")
     check_next_daemon(place, before)
+
+
+@case("kills", "A kill at its start leaves a definition of version 1, or the same in version 2")
+def at_a_rewriting(place: Place) -> None:
+    domain = named("a", 1)
+    text = definition(domain)
+    path = place.directory / f"domain-{domain.identifier}.def"
+    for waits in range(8):
+        path.write_text(f"def 1 autostart=no name=a\n{text}")
+        session = Session(place)
+        if waits % 2:
+            check(None, session.call("CONNECT_OPEN", None, 0), "a connection")
+        session.kill()
+        found = read_directory(place.directory)
+        check({domain.identifier: Entry("a", False, "", text)}, found, "the definitions")
+        check_directory(place, found)
 
 
 @case("kills", "A guest that ran as its daemon was killed is told of by the next one, once")

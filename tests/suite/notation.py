@@ -113,7 +113,7 @@ _VALUE = re.compile(r"\[((?:\\.|[^\]\\])*)\]|([,()])|([^\s,()\[\]]+)")
 
 
 def read_values(notation: str) -> list[object]:
-    """The values of a line: words, bytes of texts, and lists of these. Texts side by side are one."""
+    """The values of a line: words, bytes of texts, and lists. Texts side by side are one."""
     values: list[object] = []
     outer: list[list[object]] = []
     last = ","

@@ -5,7 +5,7 @@ import random
 from suite.cases import Failed, case, check
 from suite.daemon import Place, Session
 from suite.procedures import BY_NUMBER, CALL, PROCEDURES, VERSION, Procedure
-from suite.samples import definition, named
+from suite.samples import definition, identifier, named
 from suite.wire import (
     LONGEST_DEFINITION,
     LONGEST_PACKET,
@@ -17,18 +17,24 @@ from suite.wire import (
     split,
     value_of,
 )
-from suite.wire_examples import examples_of_the_protocol
+from suite.wire_examples import DEMO, examples_of_the_protocol
 
 SERVED = [procedure for procedure in PROCEDURES.values() if procedure.served]
+
+#: An identifier that no domain of the demo has, so that a call that is well spelled does nothing.
+ABSENT = identifier(99)
+
+#: Words that a payload is given in the place of its own.
+OTHER_WORDS = (0, 1, 2, 0x7FFFFFFF, 0xFFFFFFFF)
 
 #: How many payloads are changed at random.
 CHANGED = 1500
 
 
 def _example(procedure: Procedure) -> bytes:
-    """The payload of the protocol's example of a call."""
+    """The payload of the protocol's example of a call, of a domain that is not there."""
     packets, _ = split(examples_of_the_protocol()[procedure.name][0])
-    return packets[0].payload
+    return packets[0].payload.replace(DEMO.bytes, ABSENT.bytes)
 
 
 def _call(procedure: Procedure, serial: int, payload: bytes) -> Packet:
@@ -48,7 +54,7 @@ def _check_places(place: Place, calls: list[tuple[Procedure, bytes]]) -> None:
     check(0, session.finish().status, "the exit status")
 
 
-@case("payloads", "A call that is cut off behind any of its bytes is refused at the cut item's place")
+@case("payloads", "A call that is cut off behind any of its bytes is refused at the item's place")
 def cut_off(place: Place) -> None:
     calls = [(one, _example(one)[:cut]) for one in SERVED for cut in range(len(_example(one)))]
     _check_places(place, calls)
@@ -59,19 +65,11 @@ def one_more(place: Place) -> None:
     _check_places(place, [(one, _example(one) + b"\0") for one in SERVED])
 
 
-@case("payloads", "A payload that is changed anywhere is refused where the protocol says, or else read")
-def changed(place: Place) -> None:
-    chance = random.Random(46)
+def _check_readings(place: Place, calls: list[tuple[Procedure, bytes]]) -> None:
+    """Each call is refused at its first fault, or read where it has none."""
     session = Session(place, "demo")
-    lasting = [procedure for procedure in SERVED if procedure.name != "CONNECT_CLOSE"]
-    calls = []
-    for serial in range(CHANGED):
-        procedure = chance.choice(lasting)
-        payload = bytearray(_example(procedure) or b"\0")
-        for _ in range(chance.randint(1, 3)):
-            payload[chance.randrange(len(payload))] = chance.choice((0, 1, 2, 0x7F, 0xFF, 0xC3))
-        calls.append((procedure, bytes(payload)))
-        session.send(_call(procedure, serial, bytes(payload)))
+    for serial, (procedure, payload) in enumerate(calls):
+        session.send(_call(procedure, serial, payload))
     for serial, (procedure, payload) in enumerate(calls):
         fault = first_fault(procedure.arguments, payload)
         came = value_of(session.reply_of(serial))
@@ -81,6 +79,32 @@ def changed(place: Place) -> None:
         elif isinstance(came, Refusal) and came.code == 39:
             raise Failed(f"{what} is well spelled, and yet refused: {came}")
     check(0, session.finish().status, "the exit status")
+
+
+@case("payloads", "A call with another word anywhere is refused where the protocol says, or read")
+def other_words(place: Place) -> None:
+    calls = []
+    for procedure in SERVED:
+        payload = _example(procedure)
+        for at in range(0, len(payload), 4):
+            for word in OTHER_WORDS:
+                changed_one = payload[:at] + word.to_bytes(4, "big") + payload[at + 4 :]
+                calls.append((procedure, changed_one))
+    _check_readings(place, calls)
+
+
+@case("payloads", "A call that is changed at random is refused where the protocol says, or read")
+def changed(place: Place) -> None:
+    chance = random.Random(46)
+    with_payload = [procedure for procedure in SERVED if procedure.arguments]
+    calls = []
+    for _ in range(CHANGED):
+        procedure = chance.choice(with_payload)
+        payload = bytearray(_example(procedure))
+        for _ in range(chance.randint(1, 3)):
+            payload[chance.randrange(len(payload))] = chance.choice((0, 1, 2, 0x7F, 0xFF, 0xC3))
+        calls.append((procedure, bytes(payload)))
+    _check_readings(place, calls)
 
 
 @case("payloads", "What is not served is refused with its number, whatever its payload is")

@@ -1,4 +1,4 @@
-"""What happens where standard input or output fails, or the daemon may not write as much as it likes.
+"""Standard input and output that fail, and files that may not grow as far as the daemon likes.
 
 The status of a fault of either is 5, and the replies before it have come.
 """
@@ -47,7 +47,7 @@ def _whole_replies(place: Place) -> bytes:
     return ended.unread
 
 
-@case("ends", "Nobody reads the replies: the session ends with the fault of its output")
+@case("streams", "Nobody reads the replies: the session ends with the fault of its output")
 def closed_output(place: Place) -> None:
     reading, writing = os.pipe()
     session = Session(place, "demo", stdout=writing)
@@ -61,7 +61,7 @@ def closed_output(place: Place) -> None:
     check(5, ended.status, "the exit status")
 
 
-@case("ends", "A full device takes no reply")
+@case("streams", "A full device takes no reply")
 def full_device(place: Place) -> None:
     for words in (["demo"], ["stdio", place.directory]):
         with open("/dev/full", "wb") as full:
@@ -72,7 +72,7 @@ def full_device(place: Place) -> None:
         check(5, ended.status, f"the exit status of {words[0]}")
 
 
-@case("ends", "A full device takes no list of words and no lines of a check")
+@case("streams", "A full device takes no list of words and no lines of a check")
 def full_device_without_a_session(place: Place) -> None:
     (place.directory / "domain-x.def").write_text("none")
     for words in (["words"], ["check", place.directory]):
@@ -82,7 +82,7 @@ def full_device_without_a_session(place: Place) -> None:
         check(5, ended.status, f"the exit status of {words[0]}")
 
 
-@case("ends", "An output that takes so many bytes has the front of the replies")
+@case("streams", "An output that takes so many bytes has the front of the replies")
 def output_of_a_size(place: Place) -> None:
     whole = _whole_replies(place)
     for most in (1, 27, 28, 29, 83, 84, 85, 179, 180):
@@ -97,7 +97,7 @@ def output_of_a_size(place: Place) -> None:
         check(0 if is_whole else 5, ended.status, f"the exit status at {most}")
 
 
-@case("ends", "Words that are cut off by their output are a fault")
+@case("streams", "Words that are cut off by their output are a fault")
 def words_of_a_size(place: Place) -> None:
     whole = place.run("words").unread
     for most in (1, 8, len(whole) - 1, len(whole)):
@@ -108,7 +108,7 @@ def words_of_a_size(place: Place) -> None:
         check(0 if most == len(whole) else 5, ended.status, f"the exit status at {most}")
 
 
-@case("ends", "Lines of a check that are cut off are a fault, whatever the files are")
+@case("streams", "Lines of a check that are cut off are a fault, whatever the files are")
 def check_of_a_size(place: Place) -> None:
     (place.directory / "domain-x.def").write_text("none")
     path = place.root / "lines"
@@ -128,7 +128,7 @@ def _reset_pair() -> tuple[socket.socket, socket.socket]:
     return ours, theirs
 
 
-@case("ends", "An input that fails leaves the replies before it")
+@case("streams", "An input that fails leaves the replies before it")
 def input_that_fails(place: Place) -> None:
     ours, theirs = _reset_pair()
     with ours, theirs:
@@ -145,7 +145,7 @@ def input_that_fails(place: Place) -> None:
     check(5, ended.status, "the exit status")
 
 
-@case("ends", "An input that can not be read is a fault")
+@case("streams", "An input that can not be read is a fault")
 def input_that_is_a_directory(place: Place) -> None:
     directory = os.open(place.root, os.O_RDONLY | os.O_DIRECTORY)
     try:
@@ -156,7 +156,7 @@ def input_that_is_a_directory(place: Place) -> None:
     check(5, ended.status, "the exit status")
 
 
-@case("ends", "A definition that the store can not take is refused, and the next one is taken")
+@case("streams", "A definition that the store can not take is refused, and the next one is taken")
 def full_store(place: Place) -> None:
     session = Session(place, under=limited(1000))
     small, large = named("small", 1), named("large", 2)
@@ -171,7 +171,7 @@ def full_store(place: Place) -> None:
     check(["small"], again.call("CONNECT_LIST_DEFINED_DOMAINS", 10), "what the next daemon finds")
 
 
-@case("ends", "An image that the store can not take is refused, and the guest runs on")
+@case("streams", "An image that the store can not take is refused, and the guest runs on")
 def full_store_of_images(place: Place) -> None:
     session = Session(place, under=limited(100))
     domain = named("a", 1)
