@@ -128,7 +128,8 @@ def chapters(place: Place) -> None:
     ]
     for number, serial in enumerate(serials):
         check(None, value_of(session.reply_of(serial)), f"call {number}")
-    check((1, 1024, 2099 % 1024 + 1, 1, 0), session.call("DOMAIN_GET_INFO", domain), "the domain")
+    check(None, session.call("DOMAIN_SET_MEMORY", domain, 77), "one more call")
+    check((1, 1024, 77, 1, 0), session.call("DOMAIN_GET_INFO", domain), "the domain")
     check(None, session.call("DOMAIN_DESTROY", domain), "a destroy")
     check(None, session.call("DOMAIN_CREATE", domain), "a start")
     looked_up = session.call("DOMAIN_LOOKUP_BY_NAME", domain.name)

@@ -114,13 +114,14 @@ class Script:
 
 _BLANK = "[ \t]"
 _DEED = re.compile(
-    f"boot{_BLANK}+([0-9]{{1,19}}){_BLANK}+command{_BLANK}+([0-9]{{1,19}}){_BLANK}+(end|refuse|lost)"
+    f"boot{_BLANK}+([0-9]{{1,19}}){_BLANK}+command{_BLANK}+([0-9]{{1,19}}){_BLANK}+"
+    "(end|refuse|lost)"
 )
 _SLOW = re.compile(f"slow{_BLANK}+([0-9]{{1,19}})")
 
 
 def read_script(text: str) -> Script | None:
-    """The script that a text is; none where the text is none. The empty text is the empty script."""
+    """The script that a text is; nothing where it is none. The empty text is the empty script."""
     if not text:
         return Script()
     deeds: list[tuple[int, int, Deed]] = []

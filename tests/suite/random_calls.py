@@ -25,6 +25,7 @@ FEW_GUESTS = 3
 BY_HAND = "a"
 NO_NAMES = ("a/b", "", ".", "..", "\x01", "y" * 129)
 
+
 class Caller:
     """Makes the next act from what the model's daemon has."""
 
@@ -193,7 +194,8 @@ class Caller:
         return Act("DOMAIN_SAVE", (self.running(daemon), self.file()))
 
     def dump(self, daemon: Daemon) -> Act:
-        return Act("DOMAIN_CORE_DUMP", (self.active(daemon), self.file(), self.random.randint(0, 9)))
+        flags = self.random.randint(0, 9)
+        return Act("DOMAIN_CORE_DUMP", (self.active(daemon), self.file(), flags))
 
     def restore(self, daemon: Daemon) -> Act:
         saved = tuple(daemon.store.saves)

@@ -4,6 +4,7 @@ from __future__ import annotations
 
 import random
 from collections.abc import Iterator
+from dataclasses import replace
 from uuid import UUID
 
 from suite.model import Daemon
@@ -104,16 +105,21 @@ class Maker:
         return Plant(file, content, lambda store: store.unread.add(file))
 
     def old_definition(self, store: Store) -> Plant | None:
-        """A definition of version 1, which the daemon puts again as one of version 2."""
+        """A definition of version 1, which the daemon puts again as one of version 2.
+
+        A text that names no identifier is of the domain of its file.
+        """
         free = [name for name in NAMES if identifier_of(name) not in store.entries
                 and all(entry.name != name for entry in store.entries.values())]
         if not free:
             return None
         name = self.random.choice(free)
         identifier = identifier_of(name)
-        text = self.texts.plain_domain(name, identifier)
+        named = identifier if self.random.random() < 0.7 else None
+        text = self.texts.plain_domain(name, named)
         flag = self.random.random() < 0.5
-        entry = Entry(read_domain(text.encode()), flag, by_hand=text)
+        definition = replace(read_domain(text.encode()), identifier=identifier)
+        entry = Entry(definition, flag, by_hand=text)
         content = f"def 1 autostart={'yes' if flag else 'no'} name={name}\n{text}".encode()
         put = lambda store: store.entries.update({identifier: entry})
         return Plant(definition_file(identifier), content, put)

@@ -75,23 +75,6 @@ class Differs(Exception):
         self.text = text
 
 
-class LockStep(Session):
-    """A session whose calls wait for their replies, so that what is sent finds the pipe empty."""
-
-    #: So many bytes go into an empty pipe at once, and need no watch.
-    ROOM = 4_096
-
-    def send(self, what: bytes | Packet) -> None:
-        given = what.to_bytes() if isinstance(what, Packet) else what
-        if len(given) > self.ROOM:
-            super().send(given)
-            return
-        try:
-            self._write(given)
-        except BrokenPipeError:
-            self.refused_input = True
-
-
 # Playing it ---------------------------------------------------------------------------------------
 
 
@@ -115,7 +98,7 @@ class Player:
             plant.put(self.store)
             self.shown.append(f"   file {plant.file}: {plant.content!r}")
         daemon = Daemon(self.store, self.draws)
-        session = LockStep(self.place)
+        session = Session(self.place)
         try:
             self._judge_acts(session, daemon, acts)
             self._judge_end(session, daemon, run.end)

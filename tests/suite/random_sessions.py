@@ -70,11 +70,11 @@ def play_all(place: Place, seed: str, packets: int) -> None:
         raise Failed(f"{SEED_VARIABLE}={asked}: never came: {missing}\n  of {counts}")
 
 
-@case("random sessions", f"{PACKETS} packets are answered as the model says")
+@case("random sessions", f"Of {PACKETS} calls each is answered as the model says")
 def random_sessions(place: Place) -> None:
     play_all(place, SEED, PACKETS)
 
 
-@case("random sessions", f"{PACKETS_WITH_LONG} packets of another seed each time", long=True)
+@case("random sessions", f"Of {PACKETS_WITH_LONG} more, of another seed each time, too", long=True)
 def many_random_sessions(place: Place) -> None:
     play_all(place, str(random.SystemRandom().randrange(1 << 32)), PACKETS_WITH_LONG)

@@ -18,8 +18,8 @@ from suite.model_texts import (
 
 #: Texts that writers and readers have to get right.
 TEXTS = (
-    "plain", "", "two  words", "a & b < c > d", "\"quoted\" and 'so'", "tab\there", "é ü 漢字 🖥",
-    "first line\nsecond line", "]]", "&amp;", "x" * 1_022 + "é" + "y" * 40,
+    "plain", "", "two  words", "a & b < c > d", "\"quoted\" and 'so'", "tab\there",
+    "é ü 漢字 🖥", "first line\nsecond line", "]]", "&amp;", "x" * 1_022 + "é" + "y" * 40,
 )
 ATTRIBUTES = ("plain", "", " blank ", "a & b", "\"quoted\"", "it's", "é", "1 < 2", "tab\there")
 MEMORIES = (
@@ -39,6 +39,11 @@ WRONG = (
     ("disk", "device", "tape"), ("target", "dev", ""), ("interface", "type", "wifi"),
     ("mac", "address", "52:54:00:00:00"), ("guest", None, "boot 0 command 1 end"),
     ("guest", None, "slow 1000001"), ("guest", None, "stall;"), ("guest", None, "boot 1 end"),
+)
+#: What is put into a text to bend it.
+SPLINTERS = (
+    "<", ">", "&", "'", '"', "=", "/", "]]>", "--", "<!DOCTYPE a>", "<?xml?>", "\x01", "é",
+    "&#0;", "&#65;", "&nbsp;", "</a>", "<a>", "<a/>", "<![CDATA[x]]>", "<!-- x -->", " x=''",
 )
 #: Elements without which there is no domain.
 NEEDED = ("name", "memory", "os", "type", "target")
@@ -251,10 +256,7 @@ class Texts:
         if self.often(0.3):
             return text[: self.random.randint(0, len(text))]
         at = self.random.randint(0, len(text))
-        piece = self.random.choice(
-            ("<", ">", "&", "'", '"', "=", "/", "]]>", "--", "<!DOCTYPE a>", "<?xml?>", "\x01", "é",
-             "&#0;", "&#65;", "&nbsp;", "</a>", "<a>", "<a/>", "<![CDATA[x]]>", "<!-- x -->", " x=''")
-        )
+        piece = self.random.choice(SPLINTERS)
         return text[:at] + piece + text[at + self.random.randint(0, 2) :]
 
     # Styles
