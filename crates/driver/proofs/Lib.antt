@@ -2,6 +2,6 @@ pub mod Requests
 pub mod Outcomes
 pub mod Going
 pub mod Rejoined
-pub mod Opening
+pub mod OpenedRow
 pub mod Splitting
 pub mod Below
