@@ -4,3 +4,4 @@ pub mod Keeping
 pub mod Rows
 pub mod Turning
 pub mod Whole
+pub mod Below

@@ -1,4 +1,4 @@
-use Rattle.driver_close.proofs.OneRow.{opened_whole}
+use Rattle.driver_sessions.proofs.Below.driver_close.OneRow.{opened_whole}
 use Rattle.session_stories.proofs.stage.open.Goals as goal
 
 pub returns-in-Ok-clause-whole : goal.returns-in-Ok-clause-whole
