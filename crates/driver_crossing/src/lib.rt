@@ -3,7 +3,7 @@
 #![tactic(auto)]
 
 use def_keeper::Opening;
-use driver_service::{Driver, MakerOf, Row};
+pub use driver_service::{Books, Driver, DriverService, Maker, MakerOf, Row, RowList};
 use files_disk::Files;
 use monitor_link::Guests;
 
@@ -24,5 +24,3 @@ pub fn driver_is_shared<
 >() {
     is_shared::<Driver<F, K, MakerOf<G>>>();
 }
-
-pub use driver_service::{Books, Driver, DriverService, Maker, MakerOf, Row, RowList};
