@@ -45,7 +45,7 @@ map_vec-requires-sync-F g c κs within =
     let e = g.E.Ears in
     let z = g.Z.Killer in
     record {
-      shared = (two_sync [] (ShrRef (named 7) κs.1.1.1.1.1.1.1.0 (Scene.the_row H)) (ShrRef (named 8) κs.1.1.1.1.1.1.1.1.0 (DomainObj.the_row M E Z f e z))
+      shared = (two_sync [] (ShrRef (named 7) κs.1.1.1.1.1.1.1.1.0 (Scene.the_row H)) (ShrRef (named 8) κs.1.1.1.1.1.1.1.1.1.0 (DomainObj.the_row M E Z f e z))
           (shr_sync _ _ _ (scene.the_sync H may.sync-H))
           (shr_sync _ _ _ (object_sync M E Z f e z may.send-M may.send-E may.send-Z))).shared;
     }
