@@ -173,8 +173,8 @@ class Session:
         try:
             for begin in range(0, len(given), size or 1):
                 self._write(given[begin : begin + size])
-        except BrokenPipeError:
-            pass  # how it ended says why
+        except (BrokenPipeError, ConnectionResetError):
+            pass  # how it ended says why; a socket is reset where records of it were left unread
 
     def _note_calls(self, given: bytes) -> None:
         packets, self._unparsed = split(self._unparsed + given)
