@@ -7,7 +7,7 @@ use Rattle.std.proofs.lemmas.List.Quantifiers.{position-Some}
 use Rattle.history_spec.specs.Tally.{one_fewer}
 use Rattle.virt_types.specs.Front.{is_longer}
 use Rattle.virt_types.specs.Limits.{most_domains}
-use Rattle.virt_types.specs.declared.caller.Front.{Front}
+use Rattle.virt_types.specs.Below.types_base.declared.caller.Front.{Front}
 use Rattle.book_spec.specs.declared.list.Entry.{Entry}
 use Rattle.book_spec.specs.declared.list.ListCall.{ListCall}
 use Rattle.book_spec.specs.declared.list.ListCall.TheVariants as call

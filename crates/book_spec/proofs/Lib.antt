@@ -1,4 +1,4 @@
+pub mod HoldProofs
 pub mod Positions
 pub mod SlotProofs
 pub mod StayProofs
-pub mod HoldProofs

@@ -1,4 +1,16 @@
-pub mod Slots
+pub mod Leases
 pub mod ListCalls
 pub mod ListHistory
 pub mod ListLaws
+pub mod NetCalls
+pub mod NetHistory
+pub mod NetReads
+pub mod Networks
+pub mod PoolCalls
+pub mod PoolHistory
+pub mod PoolReads
+pub mod Pools
+pub mod Slots
+pub mod Volumes
+pub mod WorkedLeases
+pub mod WorkedVolumes

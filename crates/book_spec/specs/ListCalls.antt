@@ -1,7 +1,7 @@
 -- What each call of the list of domains answers, and what the slots are after it.
 use Rattle.std.specs.Prelude.{ℕ, List, slice_set, bytes_eq, option_map, Option, None, Some, Result, Ok, Err, if◌then◌else◌}
 use Rattle.virt_types.specs.Limits.{most_domains}
-use Rattle.virt_types.specs.declared.caller.Front.{Front}
+use Rattle.virt_types.specs.Below.types_base.declared.caller.Front.{Front}
 use Rattle.book_spec.specs.declared.list.Entry.{Entry}
 use Rattle.book_spec.specs.declared.list.ListCall.{ListCall}
 use Rattle.book_spec.specs.declared.list.ListCall.TheVariants as call

@@ -1,11 +1,11 @@
 // A book of networks whose one user is pass 0.
-ghost use Rattle.network_spec.specs.declared.book.NetCall.{NetCall};
-ghost use Rattle.network_spec.specs.NetCalls.{IsStored};
-ghost use Rattle.network_spec.specs.NetHistory.{CanCall};
+ghost use Rattle.book_spec.specs.declared.book.NetCall.{NetCall};
+ghost use Rattle.book_spec.specs.NetCalls.{IsStored};
+ghost use Rattle.book_spec.specs.NetHistory.{CanCall};
 
 use crate::refusals::spent;
+use book_spec::{LeaseFault, NetRowList};
 use net_core::NetBook;
-use network_spec::{LeaseFault, NetRowList};
 use std::alloc::Global;
 use std::test::Fail;
 use virt_types::{

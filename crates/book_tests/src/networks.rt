@@ -1,7 +1,7 @@
 // Calls on the book of networks.
 use crate::network_tester::{Tester, mac, network};
 use crate::refusals::is_refused;
-use network_spec::LeaseFault;
+use book_spec::LeaseFault;
 use std::alloc::Global;
 use std::test::Fail;
 use virt_types::{LeaseRow, OrNoMemory, RefusalCode, Uuid};

@@ -5,7 +5,7 @@ use Rattle.turn_cell.specs.Passes.{Enters, Turned, left_by}
 use Rattle.turn_cell.specs.Turning.{Changes}
 use Rattle.turn_cell.proofs.Turning.{changes_by, turn_tells}
 use Rattle.files_disk.specs.Telling.{Told}
-use Rattle.virt_types.specs.declared.memory.Fault.{Fault}
+use Rattle.virt_types.specs.Below.types_base.declared.memory.Fault.{Fault}
 use Rattle.virt_types.specs.declared.status.Status.{Status}
 use Rattle.def_keeper.specs.declared.mark.StoreBase.{StoreBase}
 use Rattle.def_keeper.specs.declared.mark.StoreMark.{StoreMark}

@@ -1,7 +1,7 @@
 -- What a pass of the store knows once a status was kept.
 use Rattle.std.specs.Prelude.{◌≡◌, ◌≢◌, ◌≤◌, ◌^◌, ◌+◌, ℕ, [], Option, Result, Ok, Err, true, false}
-use Rattle.virt_types.specs.declared.memory.Fault.{Fault}
-use Rattle.virt_types.specs.declared.memory.Fault.TheVariants as fault
+use Rattle.virt_types.specs.Below.types_base.declared.memory.Fault.{Fault}
+use Rattle.virt_types.specs.Below.types_base.declared.memory.Fault.TheVariants as fault
 use Rattle.virt_types.specs.declared.status.Status.{Status}
 use Rattle.files_disk.specs.Telling.{Told}
 use Rattle.turn_cell.specs.Passes.{Passed, turns_of_all}

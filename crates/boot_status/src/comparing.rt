@@ -1,7 +1,7 @@
 // Whether a change left a boot's status as it was.
 ghost use Rattle.std.specs.Prelude.{◌≡◌, ◌↔◌, IsTrue};
 
-use same::Same;
+use types_eq::Same;
 use virt_types::Status;
 
 fn is_same(one: &Status, other: &Status) -> bool

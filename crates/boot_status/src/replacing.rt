@@ -1,7 +1,7 @@
 // In the store, what was reported of a boot is replaced.
 ghost use Rattle.std.specs.Prelude.{◌≡◌, ◌≤◌, IsErrOf};
 ghost use Rattle.outside_spec.specs.Faults.{Rose};
-ghost use Rattle.virt_types.specs.declared.memory.Fault.TheVariants as fault;
+ghost use Rattle.virt_types.specs.Below.types_base.declared.memory.Fault.TheVariants as fault;
 ghost use Rattle.boot_status.specs.Storing.{Exchanges, IsReplaced};
 
 use def_keeper::{Keeper, KeeperTurn, Opening};

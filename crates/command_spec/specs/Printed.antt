@@ -9,8 +9,8 @@ use Rattle.virt_types.specs.Mac.{mac_text}
 use Rattle.virt_types.specs.Numbers.{job_number, phase_number, state_word}
 use Rattle.virt_types.specs.Refusal.{refusal_message}
 use Rattle.virt_types.specs.declared.reference.DomainRef.{DomainRef}
-use Rattle.virt_types.specs.declared.refusal.Refusal.{Refusal}
-use Rattle.virt_types.specs.declared.transition.Transition.{Transition}
+use Rattle.virt_types.specs.Below.types_base.declared.refusal.Refusal.{Refusal}
+use Rattle.virt_types.specs.Below.types_base.declared.transition.Transition.{Transition}
 use Rattle.virt_types.specs.declared.value.DomainInfo.{DomainInfo}
 use Rattle.virt_types.specs.declared.value.DomainRow.{DomainRow}
 use Rattle.virt_types.specs.declared.value.JobInfo.{JobInfo}

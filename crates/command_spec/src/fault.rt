@@ -13,7 +13,7 @@ pub struct WordFault {
 
 impl From<WordFault> for OrNoMemory<WordFault> {
     ghost use Rattle.std.specs.Prelude.{◌≡◌};
-    ghost use Rattle.virt_types.specs.declared.memory.OrNoMemory.TheVariants as or;
+    ghost use Rattle.virt_types.specs.Below.types_base.declared.memory.OrNoMemory.TheVariants as or;
 
     ghost from_gives = { λ fault e. e ≡ or.Fault fault };
 

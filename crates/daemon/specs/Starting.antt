@@ -7,7 +7,7 @@ use Rattle.driver_service.specs.Below.held_tasks.OfRows.{DriverRow}
 use Rattle.service_spec.specs.Activities.{Hand, call_of, next_who}
 use Rattle.service_spec.specs.Course.{reader}
 use Rattle.virt_types.specs.declared.ask.GuestEvent.{GuestEvent}
-use Rattle.virt_types.specs.declared.caller.Who.{Who}
+use Rattle.virt_types.specs.Below.types_base.declared.caller.Who.{Who}
 use Rattle.virt_types.specs.declared.request.Request.{Request}
 
 -- the call by which the n-th of them is made: those of session 0

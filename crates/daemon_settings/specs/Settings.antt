@@ -2,8 +2,8 @@
 use Rattle.std.specs.Prelude.{◌≡◌, ◌+◌, List, [], ℕ, codes, fold, not, position, unwrap_or, Option, None, Some, Result, Ok, Err}
 use Rattle.files_disk.specs.Telling.{Told}
 use Rattle.store_spec.specs.Directory.{Directory, directory}
-use Rattle.virt_types.specs.declared.memory.OrNoMemory.{OrNoMemory}
-use Rattle.virt_types.specs.declared.memory.OrNoMemory.TheVariants as or
+use Rattle.types_base.specs.declared.memory.OrNoMemory.{OrNoMemory}
+use Rattle.types_base.specs.declared.memory.OrNoMemory.TheVariants as or
 use Rattle.daemon_settings.specs.declared.settings.BadLine.{BadLine}
 use Rattle.daemon_settings.specs.declared.settings.Settings.{Settings}
 use Rattle.daemon_settings.specs.declared.settings.SettingsFault.{SettingsFault}

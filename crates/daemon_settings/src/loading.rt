@@ -1,7 +1,7 @@
 // The configuration of a directory.
 ghost use Rattle.std.specs.Prelude.{◌≡◌, ◌≤◌, IfOk, IsErrOf};
 ghost use Rattle.outside_spec.specs.Faults.{Rose};
-ghost use Rattle.virt_types.specs.declared.memory.OrNoMemory.TheVariants as or;
+ghost use Rattle.types_base.specs.declared.memory.OrNoMemory.TheVariants as or;
 ghost use Rattle.daemon_settings.specs.declared.settings.SettingsFault.TheVariants as fault;
 ghost use Rattle.daemon_settings.specs.Lines.{IsCount};
 ghost use Rattle.daemon_settings.specs.Settings.{HasLoaded, file_name};
@@ -10,7 +10,7 @@ use crate::reading::read_settings;
 use crate::settings::{Settings, SettingsFault};
 use files_disk::Files;
 use std::alloc::Global;
-use virt_types::{Fault, NoMemory, OrNoMemory, Text};
+use types_base::{Fault, NoMemory, OrNoMemory, Text};
 
 fn file_name(alloc: Global) -> Result<Text, NoMemory>
     ensures { IfOk result (λ name. name ≡ file_name) }

@@ -2,8 +2,8 @@
 use Rattle.std.proofs.Common.{◌≡◌, ⊎_elim, ◌+◌, ◌++◌, false, List, [], ◌∷◌, ℕ, zero, suc, Option, None, Some, Result, Ok, Err, codes, get_or, length, option_map, take, refl, sym, ◌∙◌, ap, subst, arith, length-append}
 use Rattle.std.specs.List.{AllByRecursion}
 use Rattle.std.proofs.lemmas.List.{get_or-append-add}
-use Rattle.virt_types.specs.declared.memory.Fault.{Fault}
-use Rattle.virt_types.specs.declared.memory.Fault.TheVariants as fault
+use Rattle.virt_types.specs.Below.types_base.declared.memory.Fault.{Fault}
+use Rattle.virt_types.specs.Below.types_base.declared.memory.Fault.TheVariants as fault
 use Rattle.files_disk.specs.Putting.{PutsFile, all_more, putting}
 use Rattle.files_disk.specs.Telling.{Told, more}
 use Rattle.store_spec.specs.declared.operation.Operation.{Operation}

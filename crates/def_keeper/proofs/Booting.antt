@@ -2,8 +2,8 @@
 use Rattle.std.proofs.Common.{⊎_elim, ◌++◌, List, ℕ, Option, Result, Ok, Err, codes, refl, sym, subst, take, arith}
 use Rattle.std.specs.List.{AllByRecursion}
 use Rattle.uuid.specs.Text.{hyphenated_text, lower}
-use Rattle.virt_types.specs.declared.memory.Fault.{Fault}
-use Rattle.virt_types.specs.declared.memory.Fault.TheVariants as fault
+use Rattle.virt_types.specs.Below.types_base.declared.memory.Fault.{Fault}
+use Rattle.virt_types.specs.Below.types_base.declared.memory.Fault.TheVariants as fault
 use Rattle.virt_types.specs.declared.status.Status.{Status}
 use Rattle.files_disk.specs.Putting.{all_more}
 use Rattle.files_disk.specs.Telling.{Told}

@@ -6,7 +6,7 @@ use Rattle.std.specs.List.Sorted.{IsStrictlySortedBy}
 use Rattle.std.proofs.lemmas.Bool.{cases_Bool}
 use Rattle.std.proofs.lemmas.List.{map_push}
 use Rattle.std.proofs.lemmas.List.Elements.{All-push, Contains-append_left, Contains-append_right}
-use Rattle.virt_types.specs.declared.memory.Fault.{Fault}
+use Rattle.virt_types.specs.Below.types_base.declared.memory.Fault.{Fault}
 use Rattle.files_disk.specs.Telling.{IsListed, IsRead, Lists, Told}
 use Rattle.store_spec.specs.declared.entry.Entry.{Entry}
 use Rattle.store_spec.specs.declared.kind.BookKind.{BookKind}

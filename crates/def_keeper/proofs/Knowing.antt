@@ -21,15 +21,15 @@ use Rattle.store_spec.proofs.Operating.{bytes_eq_same}
 use Rattle.store_spec.proofs.Settling.{IsAside, settled_aside}
 use Rattle.store_spec.proofs.Stands.{changed_else, changed_here, eq_of, kind_by_test, same_kind_itself}
 use Rattle.store_spec.proofs.Whole.{aside_sync, aside_write}
-use Rattle.virt_types.specs.declared.memory.Fault.TheVariants as fault
+use Rattle.virt_types.specs.Below.types_base.declared.memory.Fault.TheVariants as fault
 use Rattle.files_disk.specs.Telling.{Told, more}
 use Rattle.def_keeper.specs.declared.mark.DefKey.{DefKey}
 use Rattle.def_keeper.specs.declared.mark.StoreAction.TheVariants as action
 use Rattle.def_keeper.specs.declared.mark.StoreFault.TheVariants as store
 use Rattle.def_keeper.specs.declared.mark.StoreMark.{StoreMark}
-use Rattle.virt_types.specs.declared.memory.Fault.{Fault}
-use Rattle.virt_types.specs.declared.memory.OrNoMemory.{OrNoMemory}
-use Rattle.virt_types.specs.declared.memory.OrNoMemory.TheVariants as or
+use Rattle.virt_types.specs.Below.types_base.declared.memory.Fault.{Fault}
+use Rattle.virt_types.specs.Below.types_base.declared.memory.OrNoMemory.{OrNoMemory}
+use Rattle.virt_types.specs.Below.types_base.declared.memory.OrNoMemory.TheVariants as or
 use Rattle.def_keeper.specs.declared.mark.StoreFault.{StoreFault}
 use Rattle.store_spec.specs.DefinitionFile.{IsEntryOf}
 use Rattle.def_keeper.specs.Calls.{AllGood, HasLeft, HasMade, IsSettling, as_answer}

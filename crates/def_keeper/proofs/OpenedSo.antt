@@ -1,8 +1,8 @@
 -- An opened directory.
 use Rattle.std.proofs.Common.{◌≡◌, ⊎_elim, ◌++◌, true, List, [], ◌∷◌, ℕ, suc, Option, None, Some, All, option_map, sym, ◌∙◌, ap, subst, arith, append_assoc, append-nil}
 use Rattle.std.proofs.lemmas.Bool.{cases_Bool}
-use Rattle.virt_types.specs.declared.memory.OrNoMemory.{OrNoMemory}
-use Rattle.virt_types.specs.declared.memory.OrNoMemory.TheVariants as or
+use Rattle.virt_types.specs.Below.types_base.declared.memory.OrNoMemory.{OrNoMemory}
+use Rattle.virt_types.specs.Below.types_base.declared.memory.OrNoMemory.TheVariants as or
 use Rattle.files_disk.specs.Telling.{IsListed, Lists, Told, more}
 use Rattle.store_spec.specs.declared.operation.Operation.{Operation}
 use Rattle.store_spec.specs.declared.operation.Operation.TheVariants as op

@@ -2,10 +2,10 @@
 use Rattle.std.specs.Prelude.{◌≡◌, ◌⊎◌, ◌≤◌, false, ℕ, List, [], ◌∷◌, length, Option, None, Some, Result, Ok, Err}
 use Rattle.virt_types.specs.Limits.{most_text_bytes}
 use Rattle.outside_spec.specs.Faults.{Rose}
-use Rattle.virt_types.specs.declared.memory.Fault.{Fault}
-use Rattle.virt_types.specs.declared.memory.Fault.TheVariants as fault
-use Rattle.virt_types.specs.declared.memory.OrNoMemory.{OrNoMemory}
-use Rattle.virt_types.specs.declared.memory.OrNoMemory.TheVariants as or
+use Rattle.virt_types.specs.Below.types_base.declared.memory.Fault.{Fault}
+use Rattle.virt_types.specs.Below.types_base.declared.memory.Fault.TheVariants as fault
+use Rattle.virt_types.specs.Below.types_base.declared.memory.OrNoMemory.{OrNoMemory}
+use Rattle.virt_types.specs.Below.types_base.declared.memory.OrNoMemory.TheVariants as or
 use Rattle.store_spec.specs.declared.change.Change.{Change}
 use Rattle.store_spec.specs.declared.change.Change.TheVariants as change
 use Rattle.store_spec.specs.declared.entry.Entry.{Entry}

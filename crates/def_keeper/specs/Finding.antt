@@ -1,8 +1,8 @@
 -- How the files of a directory are taken in, one after another, when a store is opened.
 use Rattle.std.specs.Prelude.{◌≡◌, ◌⊎◌, ◌<◌, ◌++◌, List, [], ◌∷◌, ℕ, Option, None, Some, Result, Err, get_or, length, take}
 use Rattle.outside_spec.specs.Faults.{Rose}
-use Rattle.virt_types.specs.declared.memory.OrNoMemory.{OrNoMemory}
-use Rattle.virt_types.specs.declared.memory.OrNoMemory.TheVariants as or
+use Rattle.virt_types.specs.Below.types_base.declared.memory.OrNoMemory.{OrNoMemory}
+use Rattle.virt_types.specs.Below.types_base.declared.memory.OrNoMemory.TheVariants as or
 use Rattle.files_disk.specs.Telling.{Told}
 use Rattle.store_spec.specs.declared.change.Change.TheVariants as change
 use Rattle.store_spec.specs.declared.entry.Entry.{Entry}

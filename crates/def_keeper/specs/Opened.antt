@@ -1,8 +1,8 @@
 -- What is known of a store once it was opened.
 use Rattle.std.specs.Prelude.{◌≡◌, List, ℕ, Option, None, Some}
 use Rattle.outside_spec.specs.Faults.{Rose}
-use Rattle.virt_types.specs.declared.memory.OrNoMemory.{OrNoMemory}
-use Rattle.virt_types.specs.declared.memory.OrNoMemory.TheVariants as or
+use Rattle.virt_types.specs.Below.types_base.declared.memory.OrNoMemory.{OrNoMemory}
+use Rattle.virt_types.specs.Below.types_base.declared.memory.OrNoMemory.TheVariants as or
 use Rattle.virt_types.specs.declared.status.Status.{Status}
 use Rattle.files_disk.specs.Telling.{Told, more}
 use Rattle.store_spec.specs.declared.operation.Operation.{Operation}

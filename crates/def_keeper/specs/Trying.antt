@@ -1,7 +1,7 @@
 -- What the try of a change adds to the operations that a store tells.
 use Rattle.std.specs.Prelude.{◌≡◌, ◌⊎◌, ◌≤◌, List, ℕ, Result, Ok, Err, take}
-use Rattle.virt_types.specs.declared.memory.Fault.{Fault}
-use Rattle.virt_types.specs.declared.memory.Fault.TheVariants as fault
+use Rattle.virt_types.specs.Below.types_base.declared.memory.Fault.{Fault}
+use Rattle.virt_types.specs.Below.types_base.declared.memory.Fault.TheVariants as fault
 use Rattle.files_disk.specs.Putting.{all_more}
 use Rattle.files_disk.specs.Telling.{Told, more}
 use Rattle.store_spec.specs.declared.change.Change.{Change}

@@ -1,7 +1,7 @@
 // The status files of live boots are written and removed.
 ghost use Rattle.std.specs.Prelude.{◌≡◌, ◌≤◌, IfOk, IsErrOf};
 ghost use Rattle.outside_spec.specs.Faults.{Rose};
-ghost use Rattle.virt_types.specs.declared.memory.Fault.TheVariants as fault;
+ghost use Rattle.virt_types.specs.Below.types_base.declared.memory.Fault.TheVariants as fault;
 ghost use Rattle.store_spec.specs.FileNames.{status_draft, status_name};
 ghost use Rattle.store_spec.specs.StatusFile.{status_bytes};
 ghost use Rattle.def_keeper.specs.Boots.{DropsStatus, PutsDraft, PutsStatus};

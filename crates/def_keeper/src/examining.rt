@@ -1,7 +1,7 @@
 // A directory is examined: what each of its files is, with nothing changed.
 ghost use Rattle.std.specs.Prelude.{◌≡◌, ◌≤◌, ◌++◌, [], ◌∷◌, IfOk, IsErrOf, OnOk};
 ghost use Rattle.outside_spec.specs.Faults.{Rose};
-ghost use Rattle.virt_types.specs.declared.memory.Fault.TheVariants as fault;
+ghost use Rattle.virt_types.specs.Below.types_base.declared.memory.Fault.TheVariants as fault;
 ghost use Rattle.files_disk.specs.Telling.{IsListed};
 ghost use Rattle.def_keeper.specs.Examining.{IsExaminedAt};
 ghost use Rattle.def_keeper.specs.Judging.{AddsDefinition, AddsStatus, HasDefinitionsAt, HasStatusesAt, FoundBy, IsNewName, Judges, TellsFound};

@@ -1,7 +1,7 @@
 // Images in turns.
 ghost use Rattle.std.specs.Prelude.{◌≡◌, ◌≤◌, ℕ, IsErrOf};
 ghost use Rattle.outside_spec.specs.Faults.{Rose};
-ghost use Rattle.virt_types.specs.declared.memory.Fault.TheVariants as fault;
+ghost use Rattle.virt_types.specs.Below.types_base.declared.memory.Fault.TheVariants as fault;
 ghost use Rattle.image_store.specs.Storing.{HasDevice, ReadsImage, WritesImage};
 ghost use Rattle.def_keeper.specs.Imaging.{HasRead, HasWritten};
 

@@ -1,7 +1,7 @@
 // Changes are made, and what is in doubt is settled.
 ghost use Rattle.std.specs.Prelude.{◌≡◌, ℕ, List, ◌≤◌, ◌<◌, ◌+◌, ◌^◌, ◌∷◌, [], length, IfOk, OnOk, OnErr, IsErrOf, Err, None, Some};
 ghost use Rattle.outside_spec.specs.Faults.{Rose};
-ghost use Rattle.virt_types.specs.declared.memory.Fault.TheVariants as fault;
+ghost use Rattle.virt_types.specs.Below.types_base.declared.memory.Fault.TheVariants as fault;
 ghost use Rattle.store_spec.specs.declared.kind.BookKind.{BookKind as TheKind};
 ghost use Rattle.store_spec.specs.declared.change.Change.TheVariants as change;
 ghost use Rattle.store_spec.specs.Changes.{changed, kind_of, uuid_of};

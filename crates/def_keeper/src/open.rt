@@ -1,7 +1,7 @@
 // A store is opened.
 ghost use Rattle.std.specs.Prelude.{◌≡◌, ◌≤◌, [], IfErr, IfOk, IsErrOf, None, OnOk};
 ghost use Rattle.outside_spec.specs.Faults.{Rose};
-ghost use Rattle.virt_types.specs.declared.memory.Fault.TheVariants as fault;
+ghost use Rattle.virt_types.specs.Below.types_base.declared.memory.Fault.TheVariants as fault;
 ghost use Rattle.def_keeper.specs.Calls.{AllGood};
 ghost use Rattle.def_keeper.specs.Chapters.{first_chapter};
 ghost use Rattle.def_keeper.specs.Finding.{HasDeviceFault};

@@ -1,7 +1,7 @@
 // The status files of a directory are reported, and removed.
 ghost use Rattle.std.specs.Prelude.{◌≡◌, ◌≤◌, [], IsErrOf, OnOk};
 ghost use Rattle.outside_spec.specs.Faults.{HasCause, Rose};
-ghost use Rattle.virt_types.specs.declared.memory.Fault.TheVariants as fault;
+ghost use Rattle.virt_types.specs.Below.types_base.declared.memory.Fault.TheVariants as fault;
 ghost use Rattle.files_disk.specs.Telling.{IsListed};
 ghost use Rattle.def_keeper.specs.Opening.{IsInOrder};
 ghost use Rattle.def_keeper.specs.Tidying.{HasRemovedAt, HasReportedAt, Removes, ReportsAt, Tidies};

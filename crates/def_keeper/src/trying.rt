@@ -5,7 +5,7 @@ ghost use Rattle.store_spec.specs.declared.change.Change.TheVariants as change;
 ghost use Rattle.store_spec.specs.declared.version.Version.TheVariants as version;
 ghost use Rattle.store_spec.specs.DefinitionFile.{definition_bytes as the_bytes};
 ghost use Rattle.store_spec.specs.FileNames as name;
-ghost use Rattle.virt_types.specs.declared.memory.Fault.TheVariants as fault;
+ghost use Rattle.virt_types.specs.Below.types_base.declared.memory.Fault.TheVariants as fault;
 ghost use Rattle.def_keeper.specs.Trying.{Tries};
 
 use crate::spelling::{definition_bytes, definition_draft, definition_name};

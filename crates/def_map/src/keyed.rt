@@ -6,7 +6,7 @@ ghost use Rattle.def_map.specs.Rows.{at, rows_in, Stays, Updates};
 use std::alloc::Global;
 use std::collections::HashMap;
 use std::marker::Model;
-use virt_types::NoMemory;
+use types_base::NoMemory;
 
 /// Values by bytes. Contracts see the rows. What one lookup costs does not grow with them.
 #[derive(Drop)]

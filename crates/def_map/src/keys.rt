@@ -4,7 +4,7 @@ ghost use Rattle.def_map.specs.Map as spec;
 
 use std::alloc::Global;
 use store_spec::BookKind;
-use virt_types::{Name, NoMemory, Uuid};
+use types_base::{Name, NoMemory, Uuid};
 
 /// The most bytes of a key: that of a kind, and those of a name.
 pub(crate) const MOST_KEY: usize = 129;

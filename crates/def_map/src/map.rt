@@ -14,7 +14,7 @@ use crate::walk::{picked, risen};
 use std::alloc::Global;
 use std::marker::Model;
 use store_spec::{BookKind, Entry};
-use virt_types::{Name, NoMemory, Uuid};
+use types_base::{Name, NoMemory, Uuid};
 
 /// Definitions by kind and identifier. Contracts see their rows, and with `found` the entries.
 #[derive(Drop)]

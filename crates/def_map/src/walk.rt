@@ -11,7 +11,7 @@ use crate::keys::kind_byte;
 use std::alloc::Global;
 use std::collections::HashMap;
 use store_spec::{BookKind, Entry};
-use virt_types::NoMemory;
+use types_base::NoMemory;
 
 // Whether a row is of this kind.
 fn is_of(kind: BookKind, key: &[u8]) -> bool

@@ -2,8 +2,8 @@
 use Rattle.std.proofs.Common.{◌≡◌, ℕ, List, ◌∷◌, true, None, refl, sym, ap, ◌∙◌, cond}
 use Rattle.std.specs.Prelude.{Option, filter}
 use Rattle.std.specs.Option.{option_or}
-use Rattle.virt_types.specs.declared.memory.OrNoMemory.{OrNoMemory}
-use Rattle.virt_types.specs.declared.memory.OrNoMemory.TheVariants as or
+use Rattle.types_base.specs.declared.memory.OrNoMemory.{OrNoMemory}
+use Rattle.types_base.specs.declared.memory.OrNoMemory.TheVariants as or
 use Rattle.text_spec.specs.declared.definition.DefFault.{DefFault}
 use Rattle.text_spec.specs.declared.device_kind.DeviceKind.{DeviceKind}
 use Rattle.text_spec.specs.declared.vocabulary.ElementName.{ElementName}

@@ -8,11 +8,11 @@ ghost use Rattle.device_xml.specs.Keys.{Holds};
 
 use crate::keys::{add_key, key_in};
 use crate::table::{element_for, key_element, rows_for};
-use element_table::{fault_at, is_element, rows_test};
 use std::alloc::Global;
 use std::collections::BTreeSet;
 use text_spec::{DefFault, DefKind, DeviceKind, ElementName, Place, Tree};
-use virt_types::OrNoMemory;
+use types_base::OrNoMemory;
+use xml_tables::{fault_at, is_element, rows_test};
 
 /// Tests the key of a device against those that were met, and adds it.
 fn key_test(

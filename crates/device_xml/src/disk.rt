@@ -4,16 +4,16 @@ ghost use Rattle.text_spec.specs.DeviceText as spec;
 ghost use Rattle.text_spec.specs.Look.{attribute_of as spec_attribute_of, first_of as spec_first_of};
 ghost use Rattle.text_spec.specs.Tree.{seen};
 ghost use Rattle.text_spec.specs.Words as words;
-ghost use Rattle.virt_types.specs.declared.device_def.DiskDevice.TheVariants as disk_device;
-ghost use Rattle.virt_types.specs.declared.device_def.DiskType.TheVariants as disk_type;
+ghost use Rattle.types_base.specs.declared.device_def.DiskDevice.TheVariants as disk_device;
+ghost use Rattle.types_base.specs.declared.device_def.DiskType.TheVariants as disk_type;
 
-use definition_words::{disk_device_of, disk_type_of};
-use element_table::{attribute_of, copied_attribute, copied_value, first_of, value_at};
 use std::alloc::Global;
 use text_spec::{AttributeName, ElementName, Place, Source, Tree};
-use virt_types::{
+use types_base::{
     Disk, DiskDevice, DiskDriver, DiskSource, DiskTarget, DiskType, NoMemory, Text, TryCopy, both,
 };
+use xml_tables::{attribute_of, copied_attribute, copied_value, first_of, value_at};
+use xml_words::{disk_device_of, disk_type_of};
 
 fn type_of(tree: &Tree) -> DiskType
     ensures { result ≡ unwrap_or (option_and_then words.disk_type_of

@@ -4,14 +4,14 @@ ghost use Rattle.text_spec.specs.DeviceText as spec;
 ghost use Rattle.text_spec.specs.Look.{attribute_of as spec_attribute_of, first_of as spec_first_of};
 ghost use Rattle.text_spec.specs.Tree.{seen};
 ghost use Rattle.text_spec.specs.Words as words;
-ghost use Rattle.virt_types.specs.declared.device_def.InterfaceType.TheVariants as interface_type;
+ghost use Rattle.types_base.specs.declared.device_def.InterfaceType.TheVariants as interface_type;
 
-use definition_words::{interface_type_of, mac_of};
-use element_table::{attribute_of, copied_attribute, first_of, value_at};
 use text_spec::{AttributeName, ElementName, Place, Source, Tree};
-use virt_types::{
+use types_base::{
     Interface, InterfaceModel, InterfaceSource, InterfaceType, Mac, NoMemory, Text, both,
 };
+use xml_tables::{attribute_of, copied_attribute, first_of, value_at};
+use xml_words::{interface_type_of, mac_of};
 
 // The type is needed, so this default is not used where the element has no fault.
 fn type_of(tree: &Tree) -> InterfaceType

@@ -12,7 +12,7 @@ use crate::interface::mac_address;
 use std::alloc::Global;
 use std::collections::BTreeSet;
 use text_spec::{DeviceKind, Tree};
-use virt_types::{NoMemory, Text};
+use types_base::{NoMemory, Text};
 
 /// Adds a key, and says whether it is new.
 pub(crate) fn add_key(keys: &mut BTreeSet<String>, key: String) -> Result<bool, NoMemory>

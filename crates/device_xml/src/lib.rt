@@ -9,10 +9,10 @@ mod keys;
 mod reading;
 mod table;
 
-pub use definition_fill::{fill_device, fill_domain};
-pub use definition_print::{domain_fits, print_device, print_domain, read_tree};
 pub use devices::devices_test;
 pub use disk::disk_of;
 pub use interface::interface_of;
 pub use reading::read;
 pub use text_spec::{DefFault, DefKind, DeviceKind};
+pub use xml_fill::{fill_device, fill_domain};
+pub use xml_print::{domain_fits, print_device, print_domain, print_live, read_tree};

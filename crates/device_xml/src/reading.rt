@@ -3,17 +3,17 @@ ghost use Rattle.std.specs.Prelude.{◌≡◌, IfOk};
 ghost use Rattle.text_spec.specs.Definition.{device_read};
 ghost use Rattle.text_spec.specs.DeviceList as spec;
 ghost use Rattle.text_spec.specs.Tree.{seen};
-ghost use Rattle.virt_types.specs.Memory.{UnlessNoMemory};
+ghost use Rattle.types_base.specs.Memory.{UnlessNoMemory};
 ghost use Rattle.text_spec.specs.Tests.{Tests};
 
 use crate::disk::disk_of;
 use crate::interface::interface_of;
 use crate::table::{element_for, rows_for};
-use definition_print::device_fits;
-use element_table::{fault_of_root, is_element, rows_test};
 use std::alloc::Global;
 use text_spec::{DefFault, DefKind, DeviceKind, ElementName, Tree};
-use virt_types::{DeviceDef, OrNoMemory};
+use types_base::{DeviceDef, OrNoMemory};
+use xml_print::device_fits;
+use xml_tables::{fault_of_root, is_element, rows_test};
 
 fn alone_test(alloc: Global, kind: DeviceKind, tree: &Tree) -> Result<(), OrNoMemory<DefFault>>
     ensures { Tests result (spec.alone_fault kind (seen tree.now)) }

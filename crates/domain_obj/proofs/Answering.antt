@@ -6,15 +6,15 @@ use Rattle.domain_spec.specs.Types.{Answer, Ask}
 use Rattle.domain_spec.specs.declared.core_step.CoreStep.TheVariants as step
 use Rattle.domain_spec.specs.declared.mark.Mark.{Mark}
 use Rattle.domain_spec.specs.Cell.{OpenCall, Share, share_of}
-use Rattle.domain_cell.specs.Celled.{CellShare, Celled, KeepsOtherShares, cell_in, cell_share, standing_in}
-use Rattle.domain_cell.specs.Meaning.{history_of, meaning}
-use Rattle.domain_cell.proofs.Changing.{turns_change}
-use Rattle.domain_cell.specs.OfTurns.{Back as CoreBack}
-use Rattle.domain_cell.specs.OfTurns.back_variants as core_back
-use Rattle.domain_cell.specs.OfTurns.{GoesBack}
-use Rattle.domain_cell.specs.OfTurns.{AsksLast as LastAsk, HasTurned, Takes, Turning}
+use Rattle.domain_core.specs.Celled.{CellShare, Celled, KeepsOtherShares, cell_in, cell_share, standing_in}
+use Rattle.domain_core.specs.Meaning.{history_of, meaning}
+use Rattle.domain_core.proofs.Changing.{turns_change}
+use Rattle.domain_core.specs.OfTurns.{Back as CoreBack}
+use Rattle.domain_core.specs.OfTurns.back_variants as core_back
+use Rattle.domain_core.specs.OfTurns.{GoesBack}
+use Rattle.domain_core.specs.OfTurns.{AsksLast as LastAsk, HasTurned, Takes, Turning}
 use Rattle.domain_obj.specs.Asking.{IsAsked}
-use Rattle.virt_types.specs.declared.caller.Front.{Front}
+use Rattle.virt_types.specs.Below.types_base.declared.caller.Front.{Front}
 use Rattle.domain_obj.specs.InTurn.{DomainPass, DomainTurn, GoesBackIn}
 use Rattle.domain_obj.specs.Placing.{IsLastPlace}
 use Rattle.domain_obj.specs.Running.{Goes, IsLegalHistory}
@@ -23,19 +23,19 @@ use Rattle.domain_obj.specs.declared.calls.Answered.{Answered}
 use Rattle.domain_obj.proofs.Closed.{back_told, closed_so, ticket_told}
 use Rattle.domain_obj.proofs.Entering.{awaits_now, kept_found, kept_turn, may_leave}
 use Rattle.domain_obj.proofs.Taking.{one_turn}
-use Rattle.domain_cell.specs.Tickets.{HasMonitor, back_of}
-use Rattle.domain_cell.specs.declared.ticket.Back.{Back}
-use Rattle.domain_cell.specs.declared.ticket.Ticket.{Ticket}
+use Rattle.domain_core.specs.Tickets.{HasMonitor, back_of}
+use Rattle.domain_core.specs.declared.ticket.Back.{Back}
+use Rattle.domain_core.specs.declared.ticket.Ticket.{Ticket}
 use Rattle.turn_cell.specs.Passes.{Enters, left_by}
 use Rattle.turn_cell.specs.Turning.{Changes, HasTurned as PassTurned}
 use Rattle.turn_cell.proofs.Turning.{has_turned}
-use Rattle.domain_cell.specs.OfShares.{IsAnsweredTo}
-use Rattle.domain_cell.proofs.OfShares.{answers_keep}
-use Rattle.domain_cell.specs.OfShares.{BackLeaves}
-use Rattle.domain_cell.specs.OfShares.{IsSteady}
-use Rattle.domain_cell.proofs.OfShares.{answers_leave}
-use Rattle.domain_cell.specs.OfShares.{whose}
-use Rattle.domain_cell.proofs.OfShares.{marks_are_own}
+use Rattle.domain_core.specs.OfShares.{IsAnsweredTo}
+use Rattle.domain_core.proofs.OfShares.{answers_keep}
+use Rattle.domain_core.specs.OfShares.{BackLeaves}
+use Rattle.domain_core.specs.OfShares.{IsSteady}
+use Rattle.domain_core.proofs.OfShares.{answers_leave}
+use Rattle.domain_core.specs.OfShares.{whose}
+use Rattle.domain_core.proofs.OfShares.{marks_are_own}
 
 back_changes : (n : ℕ) (x : Answer) (old new : Celled) (left : List (Mark ℕ)) → HasTurned old.core.turning new.core.turning (step.Back n x) left → KeepsOtherShares n old new → Changes meaning n (own whose n left) old new
 back_changes n x old new left turned others = turns_change old new (step.Back n x) n left refl turned others

@@ -2,7 +2,7 @@
 use Rattle.std.proofs.Common.{◌≡◌, ◌⊎◌, inl, inr, ◌≤◌, ℕ, ◌+◌, ◌++◌, List, [], ◌∷◌, length, Bool, false, Option, None, Some, IfSome, slice_get, zero, suc, refl, sym, ap, ◌∙◌, subst, append-nil, arith}
 use Rattle.std.specs.Prelude.{min}
 use Rattle.std.proofs.Math.Nat.{min-le_left}
-use Rattle.virt_types.specs.declared.caller.Front.{Front}
+use Rattle.virt_types.specs.Below.types_base.declared.caller.Front.{Front}
 use Rattle.history_spec.specs.Begins.{Begins}
 use Rattle.history_spec.specs.Chapter.{tagged}
 use Rattle.history_spec.proofs.Beginnings.{begins_chapter, begins_itself, begins_through}
@@ -26,9 +26,9 @@ use Rattle.domain_obj.specs.Placing.{IsPlaced}
 use Rattle.domain_obj.specs.Refusing.{IsLeftUndone, IsRefusedSo, IsSpentWaiting}
 use Rattle.domain_obj.specs.Running.{DomainHistory, Goes, IsAtRest, IsReady, IsSpent}
 use Rattle.domain_obj.proofs.Going.{goes_nowhere, goes_on, some_call}
-use Rattle.domain_cell.specs.Celled.{CellShare}
-use Rattle.domain_cell.specs.Keeping.{no_mark_lowers}
-use Rattle.domain_cell.specs.Shares.{IsFree, KeepsFirst}
+use Rattle.domain_core.specs.Celled.{CellShare}
+use Rattle.domain_core.specs.Keeping.{no_mark_lowers}
+use Rattle.domain_core.specs.Shares.{IsFree, KeepsFirst}
 use Rattle.domain_obj.specs.Called.{CarriesBoot, HasCalled, IsDone, IsSpentAway, IsTimedOut}
 use Rattle.domain_obj.specs.Ending.{HasEnded}
 use Rattle.domain_obj.specs.Looking.{KnowsFirst, WasLiveAt, first_after}
@@ -37,9 +37,9 @@ use Rattle.domain_obj.specs.declared.ending.Called.{Called}
 use Rattle.domain_obj.specs.declared.ending.Called.TheVariants as called
 use Rattle.domain_obj.proofs.Known.{live_on}
 use Rattle.job_rules.specs.declared.record.JobRecord.{JobRecord}
-use Rattle.domain_cell.specs.OfShares.{AsideStays, RestStays}
-use Rattle.refusal_replies.specs.Replies.{IsExcludedReply}
-use Rattle.domain_cell.specs.OfShares.{told}
+use Rattle.domain_core.specs.OfShares.{AsideStays, RestStays}
+use Rattle.refusals.specs.Replies.{IsExcludedReply}
+use Rattle.domain_core.specs.OfShares.{told}
 
 -- the pass was at rest, and nothing is kept for it now but who waits by it
 pub record Rests (who : Who) (before now : DomainPass) : Type 0 where

@@ -15,20 +15,20 @@ use Rattle.domain_obj.specs.Turns.{IsClosedSo, TellsBack, answered_of, answered_
 use Rattle.domain_obj.specs.declared.calls.Answered.{Answered}
 use Rattle.domain_obj.specs.declared.calls.Answered.TheVariants as answered
 use Rattle.domain_obj.proofs.Leading.{IsLedTo, leads_step, led_stands, led_told, own_led}
-use Rattle.domain_cell.specs.OfTurns.back_variants as core_back
-use Rattle.domain_cell.specs.OfTurns.{Step}
-use Rattle.domain_cell.specs.OfTurns.{GoesBack}
-use Rattle.domain_cell.specs.OfTurns.{HasLedTo}
-use Rattle.domain_cell.specs.OfTurns.{HasTurned, Turning}
-use Rattle.domain_cell.proofs.OfTurns.{not_nested}
-use Rattle.domain_cell.specs.Tickets.{back_of, back_ticket}
-use Rattle.domain_cell.specs.declared.ticket.Back.{Back}
-use Rattle.domain_cell.specs.declared.ticket.Back.TheVariants as back
-use Rattle.domain_cell.specs.declared.ticket.Ticket.{Ticket}
-use Rattle.domain_cell.specs.OfShares.{BackLeaves}
-use Rattle.domain_cell.proofs.OfShares.{IsAnswered, answered_by}
-use Rattle.domain_cell.proofs.OfShares.{IsDoneIn, IsOpenAs, done_in, open_keeps}
-use Rattle.domain_cell.specs.OfShares.{whose}
+use Rattle.domain_core.specs.OfTurns.back_variants as core_back
+use Rattle.domain_core.specs.OfTurns.{Step}
+use Rattle.domain_core.specs.OfTurns.{GoesBack}
+use Rattle.domain_core.specs.OfTurns.{HasLedTo}
+use Rattle.domain_core.specs.OfTurns.{HasTurned, Turning}
+use Rattle.domain_core.proofs.OfTurns.{not_nested}
+use Rattle.domain_core.specs.Tickets.{back_of, back_ticket}
+use Rattle.domain_core.specs.declared.ticket.Back.{Back}
+use Rattle.domain_core.specs.declared.ticket.Back.TheVariants as back
+use Rattle.domain_core.specs.declared.ticket.Ticket.{Ticket}
+use Rattle.domain_core.specs.OfShares.{BackLeaves}
+use Rattle.domain_core.proofs.OfShares.{IsAnswered, answered_by}
+use Rattle.domain_core.proofs.OfShares.{IsDoneIn, IsOpenAs, done_in, open_keeps}
+use Rattle.domain_core.specs.OfShares.{whose}
 
 -- a call that is done was no phase
 

@@ -10,17 +10,17 @@ use Rattle.domain_spec.specs.declared.mark.Mark.{Mark}
 use Rattle.domain_spec.specs.declared.standing.Base.{Base}
 use Rattle.domain_spec.specs.Cell.{OpenCall, Share, share_of, waits_of}
 use Rattle.domain_spec.specs.Chapter.{next_base}
-use Rattle.domain_cell.specs.Celled.{CellShare, Celled, KeepsOtherShares, cell_in, cell_share, chapter_of, monitor_of, standing_in}
-use Rattle.domain_cell.specs.Keeping.{new_base_keeps}
-use Rattle.domain_cell.specs.Meaning.{history_of, meaning}
-use Rattle.domain_cell.proofs.Changing.{still_turns_change}
-use Rattle.domain_cell.specs.OfTurns.{Turning}
+use Rattle.domain_core.specs.Celled.{CellShare, Celled, KeepsOtherShares, cell_in, cell_share, chapter_of, monitor_of, standing_in}
+use Rattle.domain_core.specs.Keeping.{new_base_keeps}
+use Rattle.domain_core.specs.Meaning.{history_of, meaning}
+use Rattle.domain_core.proofs.Changing.{still_turns_change}
+use Rattle.domain_core.specs.OfTurns.{Turning}
 use Rattle.domain_obj.specs.InTurn.{EndsChapter, IsNotRenewed, IsRenewed}
 use Rattle.domain_obj.specs.Running.{DomainHistory}
-use Rattle.domain_cell.proofs.Linking.{same_true}
-use Rattle.domain_cell.proofs.OfShares.{chapters_keep, leavers_keep}
+use Rattle.domain_core.proofs.Linking.{same_true}
+use Rattle.domain_core.proofs.OfShares.{chapters_keep, leavers_keep}
 use Rattle.turn_cell.specs.Turning.{Changes}
-use Rattle.domain_cell.specs.OfShares.{whose}
+use Rattle.domain_core.specs.OfShares.{whose}
 
 -- in one chapter
 

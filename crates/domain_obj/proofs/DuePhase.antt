@@ -1,6 +1,6 @@
 -- A due phase from its first turn to its end.
 use Rattle.std.proofs.Common.{◌≡◌, ◌≢◌, inl, inr, ℕ, ◌+◌, ◌++◌, List, [], ◌∷◌, Bool, Option, None, Some, refl, sym, ap, ◌∙◌, subst}
-use Rattle.virt_types.specs.declared.caller.Front.{Front}
+use Rattle.virt_types.specs.Below.types_base.declared.caller.Front.{Front}
 use Rattle.history_spec.specs.Chapter.{tagged}
 use Rattle.domain_spec.specs.Types.{Answer, Ask, Phase, Reply, Transition, Who}
 use Rattle.domain_spec.specs.Types.job
@@ -18,16 +18,16 @@ use Rattle.domain_obj.specs.Placing.{IsPlaced}
 use Rattle.domain_obj.specs.Running.{Goes, IsSpent}
 use Rattle.domain_obj.specs.declared.next.Next.{Next}
 use Rattle.domain_obj.proofs.Going.{goes_nowhere, goes_on, some_call}
-use Rattle.domain_cell.specs.Celled.{CellShare}
+use Rattle.domain_core.specs.Celled.{CellShare}
 use Rattle.domain_obj.specs.Phases.{HasFinishedPhase, HasRunPhase, IsInPhase, IsLostAt}
 use Rattle.domain_obj.specs.Phasing.{IsDueFor, IsPhaseAway, IsPhaseDone, IsUnchanged, PhaseDone, led, marks_of, phase_let_in, phase_mark}
 use Rattle.domain_obj.specs.declared.operating.phases.OnePhase.{OnePhase}
 use Rattle.domain_obj.specs.declared.operating.phases.OnePhase.TheVariants as one
 use Rattle.domain_obj.proofs.Calling.{heard_all, none_said, some_chapter}
-use Rattle.domain_cell.specs.OfTurns.{led_to}
-use Rattle.domain_cell.specs.OfTurns.{IsDue}
-use Rattle.domain_cell.specs.OfShares.{AsideStays}
-use Rattle.domain_cell.specs.OfShares.{told}
+use Rattle.domain_core.specs.OfTurns.{led_to}
+use Rattle.domain_core.specs.OfTurns.{IsDue}
+use Rattle.domain_core.specs.OfShares.{AsideStays}
+use Rattle.domain_core.specs.OfShares.{told}
 
 -- what holds before a turn of the phase: nothing changed for the pass so far
 pub record Awaits (before now : DomainPass) : Type 0 where

@@ -1,6 +1,6 @@
 -- What one turn leaves of the pass of a call that begins an operation or takes one up.
 use Rattle.std.proofs.Common.{◌≡◌, inl, inr, ℕ, List, [], ◌∷◌, Option, None, Some, refl, sym, ap, ◌∙◌, subst}
-use Rattle.virt_types.specs.declared.caller.Front.{Front}
+use Rattle.virt_types.specs.Below.types_base.declared.caller.Front.{Front}
 use Rattle.history_spec.specs.Pass.{own}
 use Rattle.domain_spec.specs.Types.{Call, Reply, Who}
 use Rattle.domain_spec.specs.Types.code
@@ -18,8 +18,8 @@ use Rattle.domain_obj.specs.Placing.{IsLastPlace}
 use Rattle.domain_obj.specs.Running.{IsLegalHistory}
 use Rattle.domain_obj.proofs.Composing.{not_renewed_changes}
 use Rattle.domain_obj.proofs.Going.{closed_share}
-use Rattle.domain_cell.specs.Celled.{CellShare, Celled, cell_in, standing_in}
-use Rattle.domain_cell.specs.Meaning.{history_of, meaning}
+use Rattle.domain_core.specs.Celled.{CellShare, Celled, cell_in, standing_in}
+use Rattle.domain_core.specs.Meaning.{history_of, meaning}
 use Rattle.domain_obj.specs.Entered.{HasEntered, IsBegun, IsDoneNow, IsFirst, IsReadyToEnter, IsWaiting, operating}
 use Rattle.domain_obj.specs.Entering.{Enters, EntersAnew, LooksForIn}
 use Rattle.domain_obj.specs.Turned.{IsLeftNow}
@@ -29,15 +29,15 @@ use Rattle.domain_obj.proofs.RunsEntering.{LeavesFor, leaves_for}
 use Rattle.domain_obj.proofs.Moving.{Adds, still_history, still_standing}
 use Rattle.domain_obj.proofs.Turned.{IsLeft, PassGoes, cell_becomes, change_leaves, given_up_after, given_up_waits, goes_of, goes_with, is_left, look_change, none_open, not_renewed_now, pass_becomes, pass_waits, placed_with, refused_now, same_but_waits}
 use Rattle.job_rules.specs.declared.record.JobRecord.{JobRecord}
-use Rattle.domain_cell.specs.OfTurns.{IsDue}
-use Rattle.domain_cell.specs.OfTurns.{OperationLook}
-use Rattle.domain_cell.specs.OfTurns.operation_look_variants as look
-use Rattle.domain_cell.specs.OfShares.{waiting_by}
+use Rattle.domain_core.specs.OfTurns.{IsDue}
+use Rattle.domain_core.specs.OfTurns.{OperationLook}
+use Rattle.domain_core.specs.OfTurns.operation_look_variants as look
+use Rattle.domain_core.specs.OfShares.{waiting_by}
 use Rattle.turn_cell.specs.Passes.{Enters as EntersTurn, left_by}
 use Rattle.turn_cell.specs.Turning.{Changes}
-use Rattle.domain_cell.specs.OfShares.{live_in}
-use Rattle.domain_cell.specs.OfShares.{jobs_in}
-use Rattle.domain_cell.specs.OfShares.{whose}
+use Rattle.domain_core.specs.OfShares.{live_in}
+use Rattle.domain_core.specs.OfShares.{jobs_in}
+use Rattle.domain_core.specs.OfShares.{whose}
 
 -- it has its operation
 

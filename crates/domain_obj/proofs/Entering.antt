@@ -5,10 +5,10 @@ use Rattle.domain_spec.specs.declared.mark.Mark.{Mark}
 use Rattle.domain_spec.specs.declared.open.OpenJob.{OpenJob}
 use Rattle.domain_spec.specs.CanTake.{WaitsForAnswer}
 use Rattle.domain_spec.specs.Cell.{Cell, OpenCall, as_let_in, asks_so_far, call_of, share_of, standing_of}
-use Rattle.domain_cell.specs.Celled.{CellShare, Celled, cell_in, cell_share}
-use Rattle.domain_cell.specs.Meaning.{meaning}
-use Rattle.domain_cell.specs.Shares.{AwaitsAnswer}
-use Rattle.domain_cell.specs.OfTurns.{AsksLast as LastAsk}
+use Rattle.domain_core.specs.Celled.{CellShare, Celled, cell_in, cell_share}
+use Rattle.domain_core.specs.Meaning.{meaning}
+use Rattle.domain_core.specs.Shares.{AwaitsAnswer}
+use Rattle.domain_core.specs.OfTurns.{AsksLast as LastAsk}
 use Rattle.domain_obj.specs.InTurn.{DomainPass, DomainTurn}
 use Rattle.turn_cell.specs.Passes.{Enters}
 use Rattle.turn_cell.specs.Turning.{Changes}

@@ -3,16 +3,16 @@ use Rattle.std.proofs.Common.{◌≡◌, ℕ, ◌+◌, ◌++◌, List, [], ◌�
 use Rattle.history_spec.specs.Chapter.{tagged}
 use Rattle.history_spec.specs.Pass.{own}
 use Rattle.history_spec.proofs.Beginnings.{begins_itself}
-use Rattle.virt_types.specs.declared.caller.Front.{Front}
+use Rattle.virt_types.specs.Below.types_base.declared.caller.Front.{Front}
 use Rattle.domain_spec.specs.Types.{Answer, Ask, Phase, Reply, Transition}
 use Rattle.domain_spec.specs.declared.step.Outcome.{Outcome}
 use Rattle.domain_spec.specs.declared.open.OpenJob.{OpenJob}
 use Rattle.domain_spec.specs.declared.mark.Mark.{Mark}
 use Rattle.domain_spec.specs.declared.mark.Mark.TheVariants as mark
 use Rattle.domain_spec.specs.Cell.{OpenCall, Share, share_of}
-use Rattle.domain_cell.specs.Celled.{CellShare, Celled, cell_in, cell_share, chapter_of, monitor_of}
-use Rattle.domain_cell.specs.Keeping.{no_mark_lowers}
-use Rattle.domain_cell.specs.Meaning.{meaning}
+use Rattle.domain_core.specs.Celled.{CellShare, Celled, cell_in, cell_share, chapter_of, monitor_of}
+use Rattle.domain_core.specs.Keeping.{no_mark_lowers}
+use Rattle.domain_core.specs.Meaning.{meaning}
 use Rattle.domain_obj.specs.Asking.{AsksLast, FitsAsk, IsAsked, MayBeAnswered}
 use Rattle.domain_obj.specs.Finishing.{IsAway, IsClosed, IsFinished, IsFinishedBy, IsPhased, IsStillAway}
 use Rattle.domain_obj.specs.InTurn.{DomainPass}
@@ -24,12 +24,12 @@ use Rattle.domain_obj.specs.declared.calls.Answered.TheVariants as answered
 use Rattle.domain_obj.specs.declared.next.Next.{Next}
 use Rattle.domain_obj.proofs.Leading.{led_own}
 use Rattle.domain_obj.proofs.Placing.{placed_last}
-use Rattle.domain_cell.specs.declared.ticket.Ticket.{Ticket}
-use Rattle.domain_cell.specs.OfShares.{AsideStays}
-use Rattle.domain_cell.specs.OfTurns.{HasLedTo}
+use Rattle.domain_core.specs.declared.ticket.Ticket.{Ticket}
+use Rattle.domain_core.specs.OfShares.{AsideStays}
+use Rattle.domain_core.specs.OfTurns.{HasLedTo}
 use Rattle.turn_cell.proofs.Turning.{went_on}
-use Rattle.domain_cell.specs.OfShares.{told, told_then}
-use Rattle.domain_cell.specs.OfShares.{whose}
+use Rattle.domain_core.specs.OfShares.{told, told_then}
+use Rattle.domain_core.specs.OfShares.{whose}
 
 -- turns after turns
 

@@ -1,7 +1,7 @@
 -- An operation that goes on phase after phase: what holds between two of them, and what becomes of it.
 use Rattle.std.proofs.Common.{◌≡◌, inl, inr, ℕ, ◌+◌, ◌++◌, List, [], ◌∷◌, Option, None, Some, refl, sym, ap, ◌∙◌, subst, append_assoc, append-nil}
 use Rattle.std.specs.Prelude.{unwrap_or}
-use Rattle.virt_types.specs.declared.caller.Front.{Front}
+use Rattle.virt_types.specs.Below.types_base.declared.caller.Front.{Front}
 use Rattle.history_spec.specs.Chapter.{tagged}
 use Rattle.domain_spec.specs.Types.{Answer, Ask, Call, Phase, Reply, Who}
 use Rattle.domain_spec.specs.Types.job
@@ -19,16 +19,16 @@ use Rattle.domain_obj.specs.Running.{Goes, IsSpent}
 use Rattle.domain_obj.specs.declared.next.Next.{Next}
 use Rattle.domain_obj.specs.declared.next.Next.TheVariants as next
 use Rattle.domain_obj.proofs.Going.{goes_nowhere, goes_on}
-use Rattle.domain_cell.specs.Celled.{CellShare}
-use Rattle.domain_cell.specs.OfTurns.{IsToldAtEnd}
+use Rattle.domain_core.specs.Celled.{CellShare}
+use Rattle.domain_core.specs.OfTurns.{IsToldAtEnd}
 use Rattle.domain_obj.specs.Phases.{HasRunPhase, IsAwayAt, IsEnded, IsLost, IsLostAt, IsPhaseLost, IsResting, LeadsTo, marks_of_all, told_of_all, without_operation}
 use Rattle.domain_obj.specs.Phasing.{HasEnded, IsDueFor, IsOverFor, IsPhaseDone, PhaseDone, led, marks_of, phase_let_in, phase_mark}
 use Rattle.domain_obj.specs.declared.operating.phases.OnePhase.{OnePhase}
 use Rattle.domain_obj.specs.declared.operating.phases.OnePhase.TheVariants as one
 use Rattle.domain_obj.proofs.Listing.{leads_with, marks_with, told_with}
-use Rattle.domain_cell.specs.OfTurns.{led_to}
-use Rattle.domain_cell.specs.OfTurns.{IsDue}
-use Rattle.domain_cell.specs.OfShares.{told}
+use Rattle.domain_core.specs.OfTurns.{led_to}
+use Rattle.domain_core.specs.OfTurns.{IsDue}
+use Rattle.domain_core.specs.OfShares.{told}
 
 -- the same share, with this operation or none
 abbrev pub having : Option OpenOperation → CellShare → CellShare

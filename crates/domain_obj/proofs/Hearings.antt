@@ -3,7 +3,7 @@ use Rattle.std.proofs.Common.{◌≡◌, ◌≢◌, inl, inr, ℕ, ◌+◌, ◌*
 use Rattle.virt_types.specs.declared.ask.GuestEvent.{GuestEvent}
 use Rattle.domain_spec.specs.Types.{EndReason}
 use Rattle.domain_spec.specs.Cell.{LentEars}
-use Rattle.domain_cell.specs.Celled.{CellShare}
+use Rattle.domain_core.specs.Celled.{CellShare}
 use Rattle.domain_obj.specs.InTurn.{DomainPass}
 use Rattle.domain_obj.specs.Running.{Goes, IsAtRest, IsReady, IsSeen, IsSpent}
 use Rattle.domain_obj.specs.declared.place.Seen.{Seen}

@@ -15,11 +15,11 @@ use Rattle.domain_spec.specs.Open.{IsKnownBoot}
 use Rattle.domain_spec.specs.Reading.{boots_of, live_boot}
 use Rattle.domain_spec.proofs.EndsOnce.{mark_counted}
 use Rattle.domain_obj.specs.Running.{DomainHistory, standing_after}
-use Rattle.domain_cell.specs.Celled.{Celled, cell_in}
-use Rattle.domain_cell.specs.Keeping.{no_mark_lowers}
-use Rattle.domain_cell.specs.Meaning.{history_of}
+use Rattle.domain_core.specs.Celled.{Celled, cell_in}
+use Rattle.domain_core.specs.Keeping.{no_mark_lowers}
+use Rattle.domain_core.specs.Meaning.{history_of}
 use Rattle.domain_obj.specs.Looking.{KnowsFirst, WasLiveAt}
-use Rattle.domain_cell.specs.OfTurns.{IsKnownFirst}
+use Rattle.domain_core.specs.OfTurns.{IsKnownFirst}
 
 -- it was live after some of these marks
 live_along : (s : Standing) (marks more : List (Mark ℕ)) (boot : Option ℕ) → live_boot (standing s marks).state ≡ boot → WasLive s (marks ++ more) boot

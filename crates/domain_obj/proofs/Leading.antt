@@ -14,19 +14,19 @@ use Rattle.domain_spec.specs.Cell.{Cell, standing_of}
 use Rattle.domain_spec.specs.Fold.{after, after_phase, standing}
 use Rattle.domain_spec.specs.Lawful.{IsPhased}
 use Rattle.domain_spec.specs.Turns.{GoOn, MayLeave}
-use Rattle.domain_cell.specs.OfTurns.{step_to}
-use Rattle.domain_cell.specs.OfTurns.{IsToldAtEnd}
-use Rattle.domain_cell.specs.OfTurns.{Step}
-use Rattle.domain_cell.specs.OfTurns.step_variants as step
-use Rattle.domain_cell.specs.OfTurns.{HasLedTo}
+use Rattle.domain_core.specs.OfTurns.{step_to}
+use Rattle.domain_core.specs.OfTurns.{IsToldAtEnd}
+use Rattle.domain_core.specs.OfTurns.{Step}
+use Rattle.domain_core.specs.OfTurns.step_variants as step
+use Rattle.domain_core.specs.OfTurns.{HasLedTo}
 use Rattle.domain_obj.specs.Leading.{IsTold, Leads, step_of}
 use Rattle.domain_obj.specs.declared.next.Next.{Next}
 use Rattle.domain_obj.specs.declared.next.Next.TheVariants as next
-use Rattle.domain_cell.specs.OfTurns.{rested_in, rested_of}
-use Rattle.domain_cell.proofs.OfShares.{IsFree, free_on}
-use Rattle.domain_cell.proofs.OfShares.{own_here}
-use Rattle.domain_cell.proofs.OfShares.{on_base}
-use Rattle.domain_cell.specs.OfShares.{whose}
+use Rattle.domain_core.specs.OfTurns.{rested_in, rested_of}
+use Rattle.domain_core.proofs.OfShares.{IsFree, free_on}
+use Rattle.domain_core.proofs.OfShares.{own_here}
+use Rattle.domain_core.proofs.OfShares.{on_base}
+use Rattle.domain_core.specs.OfShares.{whose}
 
 -- the operation after the marks of a turn
 

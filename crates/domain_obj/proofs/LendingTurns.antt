@@ -1,18 +1,18 @@
 -- The turn in which ears are lent.
 use Rattle.std.proofs.Common.{◌≡◌, ℕ, ◌==◌, [], Bool, true, false, Option, None, Some, if◌then◌else◌, refl, sym, ap, ◌∙◌}
 use Rattle.domain_spec.specs.Cell.{LentEars, ears_of}
-use Rattle.domain_cell.specs.Celled.{CellShare, Celled, boot_to_lend, cell_in, cell_share}
-use Rattle.domain_cell.specs.Meaning.{history_of, meaning}
-use Rattle.domain_cell.proofs.Changing.{still_turns_change}
-use Rattle.domain_cell.specs.Core.{with_ears}
+use Rattle.domain_core.specs.Celled.{CellShare, Celled, boot_to_lend, cell_in, cell_share}
+use Rattle.domain_core.specs.Meaning.{history_of, meaning}
+use Rattle.domain_core.proofs.Changing.{still_turns_change}
+use Rattle.domain_core.specs.Core.{with_ears}
 use Rattle.domain_obj.specs.InTurn.{DomainPass, DomainTurn}
 use Rattle.domain_obj.specs.Running.{IsLegalHistory}
 use Rattle.domain_obj.specs.Lending.{HasLent, IsSilentTurn, IsStill, LendsBy, LendsIn, out_for, with_out}
 use Rattle.domain_obj.specs.declared.lending.Lent.{Lent}
 use Rattle.domain_obj.specs.declared.lending.Lent.TheVariants as lent
 use Rattle.domain_obj.proofs.SilentTurns.{ears_share, history_at, silent_may_leave, silent_turn}
-use Rattle.domain_cell.proofs.Linking.{same_true}
-use Rattle.domain_cell.specs.OfTurns.{ears_lent}
+use Rattle.domain_core.proofs.Linking.{same_true}
+use Rattle.domain_core.specs.OfTurns.{ears_lent}
 use Rattle.turn_cell.specs.Passes.{Enters, left_by}
 use Rattle.turn_cell.specs.Turning.{Changes}
 

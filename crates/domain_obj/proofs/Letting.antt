@@ -13,12 +13,12 @@ use Rattle.domain_spec.specs.Cell.{Cell, share_of, standing_of}
 use Rattle.domain_spec.specs.Fold.{standing}
 use Rattle.domain_spec.specs.Reading.{live_boot}
 use Rattle.domain_spec.specs.Turns.{IsTurn, Leads}
-use Rattle.domain_cell.specs.OfTurns.{boot_first}
-use Rattle.domain_cell.specs.OfTurns.{AsksLast, HasDone}
-use Rattle.domain_cell.specs.OfShares.{IsDoneAtOnce, IsLetIn}
-use Rattle.domain_cell.proofs.OfShares.{IsEntered, IsEnteredDone, done_at_once, entered, entered_done, opened}
-use Rattle.domain_cell.proofs.OfShares.{admit_is, starved_after}
-use Rattle.domain_cell.proofs.OfShares.{on_base}
+use Rattle.domain_core.specs.OfTurns.{boot_first}
+use Rattle.domain_core.specs.OfTurns.{AsksLast, HasDone}
+use Rattle.domain_core.specs.OfShares.{IsDoneAtOnce, IsLetIn}
+use Rattle.domain_core.proofs.OfShares.{IsEntered, IsEnteredDone, done_at_once, entered, entered_done, opened}
+use Rattle.domain_core.proofs.OfShares.{admit_is, starved_after}
+use Rattle.domain_core.proofs.OfShares.{on_base}
 
 -- the boot that is carried
 pub boot_at : (c : Cell) (f : First) (boot : Option ℕ) → IsBootAt f c.base c.marks boot → boot ≡ boot_first f (live_boot (standing_of c).state)

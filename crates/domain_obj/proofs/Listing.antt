@@ -6,7 +6,7 @@ use Rattle.domain_spec.specs.declared.step.Outcome.{Outcome}
 use Rattle.domain_spec.specs.declared.step.Outcome.TheVariants as outcome
 use Rattle.domain_obj.specs.Phases.{LeadsTo, marks_of_all, told_of_all}
 use Rattle.domain_obj.specs.Phasing.{PhaseDone, marks_of}
-use Rattle.domain_cell.specs.OfShares.{told}
+use Rattle.domain_core.specs.OfShares.{told}
 
 marks_add : (n : ℕ) (who : Who) (d : Call) (ps qs : List PhaseDone) → marks_of_all n who d (ps ++ qs) ≡ marks_of_all n who d ps ++ marks_of_all n who d qs
 marks_add n who d [] qs = refl

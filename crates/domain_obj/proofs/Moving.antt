@@ -13,22 +13,22 @@ use Rattle.domain_spec.specs.Kept.{looks_of}
 use Rattle.domain_obj.specs.InTurn.{DomainTurn, IsRenewed, LooksIn}
 use Rattle.domain_obj.specs.Running.{DomainHistory}
 use Rattle.domain_obj.proofs.Composing.{renewed_begins, renewed_share, still_then}
-use Rattle.domain_cell.specs.Celled.{CellShare, Celled, KeepsOtherShares, cell_in, standing_in}
-use Rattle.domain_cell.specs.Meaning.{history_of, meaning}
-use Rattle.domain_cell.proofs.Changing.{turns_change}
-use Rattle.domain_cell.specs.Shares.{IsFree, KeepsFirst}
-use Rattle.domain_cell.proofs.Shares.{free_look}
+use Rattle.domain_core.specs.Celled.{CellShare, Celled, KeepsOtherShares, cell_in, standing_in}
+use Rattle.domain_core.specs.Meaning.{history_of, meaning}
+use Rattle.domain_core.proofs.Changing.{turns_change}
+use Rattle.domain_core.specs.Shares.{IsFree, KeepsFirst}
+use Rattle.domain_core.proofs.Shares.{free_look}
 use Rattle.domain_obj.specs.Looking.{MayLook}
 use Rattle.domain_obj.proofs.Known.{knows_on}
 use Rattle.domain_obj.proofs.Waiters.{has_looked}
-use Rattle.domain_cell.specs.OfTurns.{HasTurned}
-use Rattle.domain_cell.specs.OfTurns.looked_variants as looked
-use Rattle.domain_cell.specs.declared.ticket.Look.TheVariants as look
+use Rattle.domain_core.specs.OfTurns.{HasTurned}
+use Rattle.domain_core.specs.OfTurns.looked_variants as looked
+use Rattle.domain_core.specs.declared.ticket.Look.TheVariants as look
 use Rattle.job_rules.specs.declared.record.JobRecord.{JobRecord}
-use Rattle.domain_cell.proofs.OfShares.{queues_tell}
+use Rattle.domain_core.proofs.OfShares.{queues_tell}
 use Rattle.turn_cell.specs.Turning.{Changes}
-use Rattle.domain_cell.specs.OfShares.{whose}
-use Rattle.domain_cell.proofs.OfShares.{marks_are_own}
+use Rattle.domain_core.specs.OfShares.{whose}
+use Rattle.domain_core.proofs.OfShares.{marks_are_own}
 
 -- a call that may look before a chapter ends may look after it
 pub may_renewed : (n : ℕ) (who : Who) (d : Call) (f : First) (a b : Celled) → IsRenewed n who a b → MayLook n who d f a → MayLook n who d f b

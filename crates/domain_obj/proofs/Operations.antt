@@ -1,6 +1,6 @@
 -- A call that begins an operation or takes one up: what holds between two of its looks, and what becomes of it.
 use Rattle.std.proofs.Common.{◌≡◌, ℕ, ◌+◌, ◌≤◌, ◌++◌, List, [], ◌∷◌, Option, None, Some, false, refl, sym, ap, ◌∙◌, subst, arith}
-use Rattle.virt_types.specs.declared.caller.Front.{Front}
+use Rattle.virt_types.specs.Below.types_base.declared.caller.Front.{Front}
 use Rattle.history_spec.specs.Chapter.{tagged}
 use Rattle.domain_spec.specs.Types.{Answer, Ask, Call, Reply, Who}
 use Rattle.domain_spec.specs.Types.call
@@ -17,7 +17,7 @@ use Rattle.domain_obj.specs.InTurn.{DomainPass}
 use Rattle.domain_obj.specs.Placing.{IsPlaced}
 use Rattle.domain_obj.specs.Running.{Goes, IsAtRest}
 use Rattle.domain_obj.proofs.Going.{goes_on}
-use Rattle.domain_cell.specs.Celled.{CellShare}
+use Rattle.domain_core.specs.Celled.{CellShare}
 use Rattle.domain_obj.specs.Entered.{IsBegun, IsDoneNow, IsFirst, IsReadyToEnter, IsWaiting, begun_by, operating}
 use Rattle.domain_obj.specs.Operated.{HasOperated, IsOperation, IsRefusedDone, operated_by}
 use Rattle.domain_obj.specs.Phases.{HasRunPhases, marks_of_all, told_of_all, without_operation}
@@ -27,7 +27,7 @@ use Rattle.domain_obj.specs.declared.operating.phases.Over.{Over}
 use Rattle.domain_obj.specs.declared.operating.phases.Over.TheVariants as over
 use Rattle.domain_obj.proofs.Calling.{LooksOn, Rests, free_rests, ready_to_look, rests_on, share_back}
 use Rattle.domain_obj.proofs.GoingOn.{lost_from, named, operation_or}
-use Rattle.domain_cell.specs.OfTurns.{IsDue}
+use Rattle.domain_core.specs.OfTurns.{IsDue}
 
 -- what holds before a look
 abbrev pub Enters : Who → Call → DomainPass → DomainPass → ℕ → Type 0

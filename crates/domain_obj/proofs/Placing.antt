@@ -2,18 +2,18 @@
 use Rattle.std.proofs.Common.{◌≡◌, ◌⊎◌, inl, inr, ◌<◌, ◌≤◌, ℕ, zero, suc, ◌+◌, ◌-◌, List, [], ◌∷◌, ◌++◌, Bool, true, false, ◌||◌, Option, None, Some, slice_get, if◌then◌else◌, refl, sym, ap, ◌∙◌, subst, arith}
 use Rattle.std.proofs.lemmas.Bool.Decides.{nat_tests}
 use Rattle.std.specs.List.{list_any}
-use Rattle.virt_types.specs.declared.caller.Front.{Front}
+use Rattle.virt_types.specs.Below.types_base.declared.caller.Front.{Front}
 use Rattle.history_spec.specs.Begins.{Begins}
 use Rattle.history_spec.specs.Pass.{AreOf, IsOf, bears, own}
-use Rattle.domain_cell.specs.OfTurns.{is_of_pass, last_place}
+use Rattle.domain_core.specs.OfTurns.{is_of_pass, last_place}
 use Rattle.domain_spec.specs.declared.mark.Mark.{Mark}
 use Rattle.domain_spec.specs.declared.mark.Mark.TheVariants as mark
-use Rattle.domain_cell.specs.Celled.{Celled, cell_in}
-use Rattle.domain_cell.specs.Meaning.{history_of, meaning}
+use Rattle.domain_core.specs.Celled.{Celled, cell_in}
+use Rattle.domain_core.specs.Meaning.{history_of, meaning}
 use Rattle.domain_obj.specs.InTurn.{DomainPass}
 use Rattle.domain_obj.specs.Placing.{IsLastPlace, IsPlaced}
 use Rattle.domain_obj.specs.Running.{DomainHistory}
-use Rattle.domain_cell.specs.OfShares.{whose}
+use Rattle.domain_core.specs.OfShares.{whose}
 
 -- the mark is the last one of a pass
 abbrev pub IsLast : List (Mark ℕ) → Mark ℕ → Type 0

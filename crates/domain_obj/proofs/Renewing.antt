@@ -6,11 +6,11 @@ use Rattle.domain_spec.specs.CanTake.{WaitsAsNoOther}
 use Rattle.domain_spec.specs.Cell.{share_of}
 use Rattle.domain_obj.specs.InTurn.{DomainTurn}
 use Rattle.domain_obj.proofs.Composing.{not_renewed_history, not_renewed_share, renewed_share, renewed_then, still_then}
-use Rattle.domain_cell.specs.Celled.{CellShare, Celled, cell_in, cell_share, standing_in}
-use Rattle.domain_cell.specs.Meaning.{meaning}
-use Rattle.domain_cell.proofs.Shares.{share_phase}
+use Rattle.domain_core.specs.Celled.{CellShare, Celled, cell_in, cell_share, standing_in}
+use Rattle.domain_core.specs.Meaning.{meaning}
+use Rattle.domain_core.proofs.Shares.{share_phase}
 use Rattle.domain_obj.specs.Going.{IsRenewedIfCan, MayGoOn}
-use Rattle.domain_cell.specs.OfTurns.{IsDue}
+use Rattle.domain_core.specs.OfTurns.{IsDue}
 use Rattle.turn_cell.specs.Turning.{Changes}
 
 none_waits : (s : CellShare) → s.kept.waits ≡ None → record s { kept = record s.kept { waits = None } } ≡ s

@@ -10,27 +10,27 @@ use Rattle.domain_spec.specs.CanTake.{CanTake}
 use Rattle.domain_spec.specs.Cell.{Share, share_of}
 use Rattle.domain_obj.specs.InTurn.{DomainTurn, IsRenewed}
 use Rattle.domain_obj.proofs.Composing.{renewed_share}
-use Rattle.domain_cell.specs.Celled.{CellShare, Celled, KeepsOtherShares, cell_in}
-use Rattle.domain_cell.proofs.Changing.{turns_change}
-use Rattle.domain_cell.specs.Shares.{IsFree}
+use Rattle.domain_core.specs.Celled.{CellShare, Celled, KeepsOtherShares, cell_in}
+use Rattle.domain_core.proofs.Changing.{turns_change}
+use Rattle.domain_core.specs.Shares.{IsFree}
 use Rattle.domain_obj.specs.Entered.{IsFirst}
 use Rattle.domain_obj.specs.Entering.{LooksFor, LooksForIn, MayEnter, Operates}
 use Rattle.domain_obj.proofs.Moving.{Adds, give_up_then, waiters_give_up}
 use Rattle.domain_obj.proofs.Turned.{none_own}
-use Rattle.domain_cell.specs.OfTurns.{IsFound}
-use Rattle.domain_cell.specs.OfTurns.{HasTurned, Takes}
+use Rattle.domain_core.specs.OfTurns.{IsFound}
+use Rattle.domain_core.specs.OfTurns.{HasTurned, Takes}
 use Rattle.job_rules.specs.declared.record.JobRecord.{JobRecord}
-use Rattle.domain_cell.specs.OfOperations.{Looks}
-use Rattle.domain_cell.specs.OfTurns.{LooksToBegin, LooksToTakeUp}
-use Rattle.domain_cell.specs.OfTurns.{OperationLook}
-use Rattle.domain_cell.specs.OfTurns.operation_look_variants as look
-use Rattle.domain_cell.specs.OfShares.{IsLookedFor}
-use Rattle.domain_cell.specs.OfShares.{waiting_by}
-use Rattle.domain_cell.proofs.OfShares.{beginnings_keep, takings_up_keep}
-use Rattle.domain_cell.proofs.OfShares.{operation_queues_tell}
-use Rattle.domain_cell.specs.OfShares.{HasStarted, HasTakenUp, OperationLeaves, live_in}
-use Rattle.domain_cell.proofs.OfShares.{beginnings_leave, takings_up_leave}
-use Rattle.domain_cell.proofs.OfShares.{marks_are_own}
+use Rattle.domain_core.specs.OfOperations.{Looks}
+use Rattle.domain_core.specs.OfTurns.{LooksToBegin, LooksToTakeUp}
+use Rattle.domain_core.specs.OfTurns.{OperationLook}
+use Rattle.domain_core.specs.OfTurns.operation_look_variants as look
+use Rattle.domain_core.specs.OfShares.{IsLookedFor}
+use Rattle.domain_core.specs.OfShares.{waiting_by}
+use Rattle.domain_core.proofs.OfShares.{beginnings_keep, takings_up_keep}
+use Rattle.domain_core.proofs.OfShares.{operation_queues_tell}
+use Rattle.domain_core.specs.OfShares.{HasStarted, HasTakenUp, OperationLeaves, live_in}
+use Rattle.domain_core.proofs.OfShares.{beginnings_leave, takings_up_leave}
+use Rattle.domain_core.proofs.OfShares.{marks_are_own}
 
 -- a call that may look before a chapter ends may look after it
 

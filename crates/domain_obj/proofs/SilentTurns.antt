@@ -1,10 +1,10 @@
 -- A turn of a pass that leaves no mark of its own.
 use Rattle.std.proofs.Common.{◌≡◌, ℕ, [], length, Option, sym, ap, ◌∙◌, subst}
 use Rattle.domain_spec.specs.Cell.{LentEars, OpenCall, Share, ears_of, share_of}
-use Rattle.domain_cell.specs.Celled.{CellShare, Celled, cell_in, cell_share, chapter_of, monitor_of, standing_in}
-use Rattle.domain_cell.specs.Meaning.{history_of, meaning}
-use Rattle.domain_cell.specs.Core.{is_occupied, with_ears}
-use Rattle.domain_cell.specs.OfTurns.{Turning}
+use Rattle.domain_core.specs.Celled.{CellShare, Celled, cell_in, cell_share, chapter_of, monitor_of, standing_in}
+use Rattle.domain_core.specs.Meaning.{history_of, meaning}
+use Rattle.domain_core.specs.Core.{is_occupied, with_ears}
+use Rattle.domain_core.specs.OfTurns.{Turning}
 use Rattle.domain_obj.specs.InTurn.{DomainPass, DomainTurn}
 use Rattle.domain_obj.specs.Running.{DomainHistory, IsLegalHistory, IsSeen, standing_after}
 use Rattle.domain_obj.specs.declared.place.Seen.{Seen}

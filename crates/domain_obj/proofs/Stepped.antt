@@ -1,6 +1,6 @@
 -- The turns of an operation, from the calls that are made in them.
 use Rattle.std.proofs.Common.{◌≡◌, ℕ, List, Option, None, Some, sym, ap, ◌∙◌, subst}
-use Rattle.virt_types.specs.declared.caller.Front.{Front}
+use Rattle.virt_types.specs.Below.types_base.declared.caller.Front.{Front}
 use Rattle.history_spec.specs.Pass.{own}
 use Rattle.domain_spec.specs.Types.{Reply, Who}
 use Rattle.domain_spec.specs.declared.mark.Mark.{Mark}
@@ -12,9 +12,9 @@ use Rattle.domain_obj.specs.InTurn.{DomainPass, DomainTurn}
 use Rattle.domain_obj.specs.Placing.{IsLastPlace}
 use Rattle.domain_obj.specs.Running.{IsLegalHistory}
 use Rattle.domain_obj.proofs.Entering.{kept_found, kept_turn, may_leave, share_found}
-use Rattle.domain_cell.specs.Celled.{Celled, KeepsOtherShares, cell_in, standing_in}
-use Rattle.domain_cell.specs.Meaning.{history_of, meaning}
-use Rattle.domain_cell.proofs.Shares.{share_end}
+use Rattle.domain_core.specs.Celled.{Celled, KeepsOtherShares, cell_in, standing_in}
+use Rattle.domain_core.specs.Meaning.{history_of, meaning}
+use Rattle.domain_core.proofs.Shares.{share_end}
 use Rattle.domain_obj.specs.Going.{EndsIn, GoesOnIn, IsRenewedIfCan, MayEnd, MayGoOn, RenewsAndGoesOn}
 use Rattle.domain_obj.specs.Phasing.{HasEnded, HasStepped, IsDueFor, IsOverFor}
 use Rattle.domain_obj.specs.declared.operating.phasing.Phasing.{Phasing}
@@ -22,14 +22,14 @@ use Rattle.domain_obj.specs.declared.operating.phasing.Phasing.TheVariants as ph
 use Rattle.domain_obj.proofs.Renewing.{if_can_share, if_can_then}
 use Rattle.domain_obj.proofs.Stepping.{end_adds, ended, phase_adds, stepped}
 use Rattle.domain_obj.proofs.Turned.{IsLeft, pass_goes}
-use Rattle.domain_cell.specs.OfTurns.{CanEnd}
-use Rattle.domain_cell.specs.OfTurns.{IsDue, Phases}
-use Rattle.domain_cell.specs.OfTurns.{PhaseLook}
-use Rattle.domain_cell.specs.OfTurns.phase_look_variants as core_look
+use Rattle.domain_core.specs.OfTurns.{CanEnd}
+use Rattle.domain_core.specs.OfTurns.{IsDue, Phases}
+use Rattle.domain_core.specs.OfTurns.{PhaseLook}
+use Rattle.domain_core.specs.OfTurns.phase_look_variants as core_look
 use Rattle.turn_cell.specs.Passes.{Enters, left_by}
 use Rattle.turn_cell.specs.Turning.{Changes}
-use Rattle.domain_cell.proofs.OfShares.{ends_leave, phases_leave}
-use Rattle.domain_cell.specs.OfShares.{whose}
+use Rattle.domain_core.proofs.OfShares.{ends_leave, phases_leave}
+use Rattle.domain_core.specs.OfShares.{whose}
 
 -- what a pass brings into its turn
 

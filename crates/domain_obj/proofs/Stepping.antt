@@ -1,6 +1,6 @@
 -- What a step of an operation leaves of its pass: a due phase, or its end.
 use Rattle.std.proofs.Common.{◌≡◌, ℕ, List, [], ◌∷◌, is_some, Option, None, Some, refl, sym, ap, ◌∙◌, subst}
-use Rattle.virt_types.specs.declared.caller.Front.{Front}
+use Rattle.virt_types.specs.Below.types_base.declared.caller.Front.{Front}
 use Rattle.history_spec.specs.Chapter.{tagged}
 use Rattle.history_spec.specs.Pass.{own}
 use Rattle.domain_spec.specs.Types.{Ask, Reply, Who}
@@ -22,10 +22,10 @@ use Rattle.domain_obj.proofs.Entering.{awaits_now}
 use Rattle.domain_obj.proofs.Going.{after_chapter, after_monitor}
 use Rattle.domain_obj.proofs.Leading.{led_stands, led_told, own_led}
 use Rattle.domain_obj.proofs.Placing.{placed_last}
-use Rattle.domain_cell.specs.Celled.{CellShare, Celled, KeepsOtherShares, cell_in, cell_share, chapter_of, monitor_of, standing_in}
-use Rattle.domain_cell.specs.Meaning.{history_of}
-use Rattle.domain_cell.proofs.Changing.{turns_change}
-use Rattle.domain_cell.specs.OfTurns.{Step}
+use Rattle.domain_core.specs.Celled.{CellShare, Celled, KeepsOtherShares, cell_in, cell_share, chapter_of, monitor_of, standing_in}
+use Rattle.domain_core.specs.Meaning.{history_of}
+use Rattle.domain_core.proofs.Changing.{turns_change}
+use Rattle.domain_core.specs.OfTurns.{Step}
 use Rattle.domain_obj.specs.Going.{EndsIn, GoesOnIn, IsRenewedIfCan, PhasesIn}
 use Rattle.domain_obj.specs.Phasing.{HasEnded, HasStepped, IsDueFor, IsOverFor, IsPhaseAway, IsPhaseDone, IsUnchanged, PhaseDone, led, marks_of, phase_let_in, phase_mark}
 use Rattle.domain_obj.specs.declared.operating.phasing.Phasing.{Phasing}
@@ -33,19 +33,19 @@ use Rattle.domain_obj.specs.declared.operating.phasing.Phasing.TheVariants as ph
 use Rattle.domain_obj.proofs.Moving.{Adds, still_history, still_standing}
 use Rattle.domain_obj.proofs.Renewing.{if_can_then}
 use Rattle.domain_obj.proofs.Turned.{IsLeft, PassGoes, goes_by, pass_goes}
-use Rattle.domain_cell.specs.OfTurns.{HasLedTo, led_to}
-use Rattle.domain_cell.specs.OfTurns.{HasTurned}
-use Rattle.domain_cell.specs.declared.ticket.PhaseLook.TheVariants as look
-use Rattle.domain_cell.specs.declared.ticket.Ticket.{Ticket}
-use Rattle.domain_cell.specs.OfTurns.{IsHeld, Phases}
-use Rattle.domain_cell.specs.OfTurns.phase_look_variants as core_look
-use Rattle.domain_cell.specs.OfShares.{AsideStays}
-use Rattle.domain_cell.proofs.OfShares.{ends_keep, phases_keep}
-use Rattle.domain_cell.specs.OfShares.{IsEndedNow, IsPhasedAtOnce, PhaseLeaves, live_in}
-use Rattle.domain_cell.specs.OfShares.{told}
-use Rattle.domain_cell.proofs.OfShares.{phases_leave}
-use Rattle.domain_cell.specs.OfShares.{whose}
-use Rattle.domain_cell.proofs.OfShares.{marks_are_own}
+use Rattle.domain_core.specs.OfTurns.{HasLedTo, led_to}
+use Rattle.domain_core.specs.OfTurns.{HasTurned}
+use Rattle.domain_core.specs.declared.ticket.PhaseLook.TheVariants as look
+use Rattle.domain_core.specs.declared.ticket.Ticket.{Ticket}
+use Rattle.domain_core.specs.OfTurns.{IsHeld, Phases}
+use Rattle.domain_core.specs.OfTurns.phase_look_variants as core_look
+use Rattle.domain_core.specs.OfShares.{AsideStays}
+use Rattle.domain_core.proofs.OfShares.{ends_keep, phases_keep}
+use Rattle.domain_core.specs.OfShares.{IsEndedNow, IsPhasedAtOnce, PhaseLeaves, live_in}
+use Rattle.domain_core.specs.OfShares.{told}
+use Rattle.domain_core.proofs.OfShares.{phases_leave}
+use Rattle.domain_core.specs.OfShares.{whose}
+use Rattle.domain_core.proofs.OfShares.{marks_are_own}
 
 -- what it adds to the chapter
 

@@ -3,17 +3,17 @@ use Rattle.std.proofs.Common.{◌≡◌, ℕ, List, [], ◌∷◌, length, sym, 
 use Rattle.history_spec.specs.Chapter.{added, tagged}
 use Rattle.history_spec.specs.Pass.{held_if, own}
 use Rattle.domain_spec.specs.declared.mark.Mark.{Mark}
-use Rattle.domain_cell.specs.Celled.{Celled, cell_in, cell_share, standing_in}
-use Rattle.domain_cell.specs.Keeping.{new_base_keeps, no_mark_lowers}
-use Rattle.domain_cell.specs.Meaning.{history_of, meaning}
-use Rattle.domain_cell.specs.Core.{is_occupied}
+use Rattle.domain_core.specs.Celled.{Celled, cell_in, cell_share, standing_in}
+use Rattle.domain_core.specs.Keeping.{new_base_keeps, no_mark_lowers}
+use Rattle.domain_core.specs.Meaning.{history_of, meaning}
+use Rattle.domain_core.specs.Core.{is_occupied}
 use Rattle.domain_obj.specs.InTurn.{DomainPass, DomainTurn}
 use Rattle.domain_obj.specs.Running.{DomainHistory, Goes, IsLegalHistory, Reads, standing_after}
 use Rattle.domain_obj.specs.declared.place.Seen.{Seen}
 use Rattle.turn_cell.specs.Passes.{Enters, left_by}
 use Rattle.turn_cell.specs.Turning.{Changes, HasTurned}
 use Rattle.turn_cell.proofs.Turning.{has_turned, nothing_changes, turn_tells}
-use Rattle.domain_cell.specs.OfShares.{whose}
+use Rattle.domain_core.specs.OfShares.{whose}
 
 legal_if : (ms : List (Mark ℕ)) (left held : DomainHistory) → IsLegalHistory left → IsLegalHistory held → IsLegalHistory (held_if ms left held)
 legal_if [] left held h g = g

@@ -5,11 +5,11 @@ use Rattle.domain_spec.specs.declared.core_step.CoreStep.TheVariants as step
 use Rattle.domain_spec.specs.declared.mark.Mark.{Mark}
 use Rattle.domain_spec.specs.Cell.{LentEars, OpenCall, Share, ears_of, share_of}
 use Rattle.domain_spec.specs.Kept.{told_of as told_ears}
-use Rattle.domain_cell.specs.Celled.{CellShare, Celled, cell_in, cell_share, chapter_of, monitor_of, standing_in}
-use Rattle.domain_cell.specs.Meaning.{history_of, meaning}
-use Rattle.domain_cell.proofs.Changing.{still_turns_change, turns_change}
-use Rattle.domain_cell.specs.Core.{HasOut}
-use Rattle.domain_cell.specs.OfTurns.{Turning}
+use Rattle.domain_core.specs.Celled.{CellShare, Celled, cell_in, cell_share, chapter_of, monitor_of, standing_in}
+use Rattle.domain_core.specs.Meaning.{history_of, meaning}
+use Rattle.domain_core.proofs.Changing.{still_turns_change, turns_change}
+use Rattle.domain_core.specs.Core.{HasOut}
+use Rattle.domain_core.specs.OfTurns.{Turning}
 use Rattle.domain_obj.specs.InTurn.{DomainPass, DomainTurn}
 use Rattle.domain_obj.specs.Running.{IsLegalHistory}
 use Rattle.domain_obj.proofs.Composing.{then_still}
@@ -19,18 +19,18 @@ use Rattle.domain_obj.specs.Telling.{IsTold, IsToldCounted, IsToldIn, TellsIn, m
 use Rattle.domain_obj.specs.declared.said.Told.{Told}
 use Rattle.domain_obj.specs.declared.said.Told.TheVariants as told
 use Rattle.domain_obj.proofs.SilentTurns.{ears_share, history_at, share_parts, silent_may_leave, silent_turn}
-use Rattle.domain_cell.specs.OfTurns.{AreUntold}
+use Rattle.domain_core.specs.OfTurns.{AreUntold}
 use Rattle.monitor_link.specs.Causes.{IsHeardCaused}
 use Rattle.monitor_link.specs.declared.link.Heard.{Heard}
 use Rattle.monitor_link.specs.declared.link.Heard.TheVariants as heard
 use Rattle.outside_spec.specs.Faults.{Rose}
-use Rattle.domain_cell.specs.OfShares.{EarsTold}
-use Rattle.domain_cell.proofs.OfShares.{hearings_keep}
+use Rattle.domain_core.specs.OfShares.{EarsTold}
+use Rattle.domain_core.proofs.OfShares.{hearings_keep}
 use Rattle.turn_cell.specs.Passes.{Enters, left_by}
 use Rattle.turn_cell.specs.Turning.{Changes}
-use Rattle.domain_cell.specs.OfShares.{IsSteady}
-use Rattle.domain_cell.proofs.OfShares.{others_ask_on}
-use Rattle.domain_cell.proofs.OfShares.{some_leave_none}
+use Rattle.domain_core.specs.OfShares.{IsSteady}
+use Rattle.domain_core.proofs.OfShares.{others_ask_on}
+use Rattle.domain_core.proofs.OfShares.{some_leave_none}
 
 -- the ears that are out
 

@@ -1,6 +1,6 @@
 -- What one turn leaves of the pass of a call that is not let in yet.
 use Rattle.std.proofs.Common.{◌≡◌, inl, inr, ◌<◌, ◌≤◌, ◌^◌, ℕ, suc, ◌++◌, List, [], ◌∷◌, length, is_some, false, Option, None, Some, slice_get, refl, sym, ap, ◌∙◌, subst, arith}
-use Rattle.virt_types.specs.declared.caller.Front.{Front}
+use Rattle.virt_types.specs.Below.types_base.declared.caller.Front.{Front}
 use Rattle.history_spec.specs.Begins.{Begins}
 use Rattle.history_spec.specs.Chapter.{tagged}
 use Rattle.history_spec.specs.Pass.{own}
@@ -29,11 +29,11 @@ use Rattle.domain_obj.proofs.Entering.{awaits_now, kept_found, kept_turn, may_le
 use Rattle.domain_obj.proofs.Going.{after_chapter, after_monitor, closed_share}
 use Rattle.domain_obj.proofs.Placing.{placed_last}
 use Rattle.domain_obj.proofs.Taking.{one_turn}
-use Rattle.domain_cell.specs.Celled.{CellShare, Celled, KeepsOtherShares, cell_in, cell_share, chapter_of, monitor_of, standing_in}
-use Rattle.domain_cell.specs.Keeping.{no_mark_lowers}
-use Rattle.domain_cell.specs.Meaning.{history_of, meaning}
+use Rattle.domain_core.specs.Celled.{CellShare, Celled, KeepsOtherShares, cell_in, cell_share, chapter_of, monitor_of, standing_in}
+use Rattle.domain_core.specs.Keeping.{no_mark_lowers}
+use Rattle.domain_core.specs.Meaning.{history_of, meaning}
 use Rattle.domain_obj.specs.Attempting.{Attempts, Tries}
-use Rattle.domain_cell.specs.Shares.{IsFree, KeepsFirst}
+use Rattle.domain_core.specs.Shares.{IsFree, KeepsFirst}
 use Rattle.domain_obj.specs.Looking.{MayLook}
 use Rattle.domain_obj.specs.Turned.{HasTried, IsAwayNow, IsDoneAtOnce, IsLeftNow, IsReadyToLook, IsRefusedNow, WaitsNow, WasLetIn, job_let_in, waiting_as}
 use Rattle.domain_obj.specs.declared.attempting.Attempt.{Attempt}
@@ -41,21 +41,21 @@ use Rattle.domain_obj.specs.declared.attempting.Attempt.TheVariants as attempt
 use Rattle.domain_obj.proofs.Known.{counted_at, knows_on}
 use Rattle.domain_obj.proofs.Letting.{LeavesAway, LeavesDone, admit_of, boot_then, leaves_away, leaves_done}
 use Rattle.domain_obj.proofs.Moving.{Adds, gave_up_adds, look_adds, still_history, still_standing}
-use Rattle.domain_cell.specs.OfTurns.looked_variants as looked
-use Rattle.domain_cell.specs.declared.ticket.Look.TheVariants as look
-use Rattle.domain_cell.specs.declared.ticket.Ticket.{Ticket}
+use Rattle.domain_core.specs.OfTurns.looked_variants as looked
+use Rattle.domain_core.specs.declared.ticket.Look.TheVariants as look
+use Rattle.domain_core.specs.declared.ticket.Ticket.{Ticket}
 use Rattle.job_rules.specs.declared.record.JobRecord.{JobRecord}
-use Rattle.domain_cell.specs.OfShares.{RestStays}
-use Rattle.domain_cell.proofs.OfShares.{refusals_keep}
-use Rattle.domain_cell.proofs.OfShares.{looks_keep}
-use Rattle.domain_cell.proofs.OfShares.{queues_tell}
+use Rattle.domain_core.specs.OfShares.{RestStays}
+use Rattle.domain_core.proofs.OfShares.{refusals_keep}
+use Rattle.domain_core.proofs.OfShares.{looks_keep}
+use Rattle.domain_core.proofs.OfShares.{queues_tell}
 use Rattle.turn_cell.specs.Passes.{Enters, left_by}
 use Rattle.turn_cell.specs.Turning.{Changes}
 use Rattle.turn_cell.proofs.Turning.{has_turned}
-use Rattle.domain_cell.specs.OfShares.{jobs_in}
-use Rattle.domain_cell.proofs.OfShares.{looks_leave}
-use Rattle.domain_cell.proofs.OfShares.{refusals_are_own}
-use Rattle.domain_cell.specs.OfShares.{whose}
+use Rattle.domain_core.specs.OfShares.{jobs_in}
+use Rattle.domain_core.proofs.OfShares.{looks_leave}
+use Rattle.domain_core.proofs.OfShares.{refusals_are_own}
+use Rattle.domain_core.specs.OfShares.{whose}
 
 -- a pass takes a turn and leaves it
 pub record IsLeft (before after : DomainPass) (turn now : DomainTurn) : Type 0 where

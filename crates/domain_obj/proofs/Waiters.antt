@@ -6,7 +6,7 @@ use Rattle.domain_spec.specs.CanTake.{HasLooked}
 use Rattle.domain_spec.specs.Cell.{Waiter}
 use Rattle.domain_spec.specs.Kept.{looks_of}
 use Rattle.domain_spec.specs.Open.{is_same_who}
-use Rattle.domain_cell.proofs.OfShares.{same_by}
+use Rattle.domain_core.proofs.OfShares.{same_by}
 
 and_parts : (a b : Bool) → (a && b) ≡ true → (a ≡ true) × (b ≡ true)
 and_parts true b e = (refl, e)

@@ -4,7 +4,7 @@ use Rattle.domain_spec.specs.Types.{Answer, Ask}
 use Rattle.domain_spec.specs.Asks.{is_ok_answer}
 use Rattle.domain_spec.specs.Cell.{OpenCall}
 use Rattle.domain_obj.specs.InTurn.{DomainPass}
-use Rattle.domain_cell.specs.Tickets.{IsAnsweredAs, comes}
+use Rattle.domain_core.specs.Tickets.{IsAnsweredAs, comes}
 
 -- the open call asked this last, and waits for its answer
 abbrev pub AsksLast : Option OpenCall → Ask → Type 0

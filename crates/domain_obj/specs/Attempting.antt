@@ -3,10 +3,10 @@ use Rattle.std.specs.Prelude.{◌⊎◌, ◌≤◌, ℕ, Option}
 use Rattle.domain_spec.specs.Types.{Call, Who}
 use Rattle.domain_spec.specs.declared.core_step.First.{First}
 use Rattle.domain_obj.specs.InTurn.{GivesUp, IsNotRenewed, IsRenewed, LooksIn}
-use Rattle.domain_cell.specs.Celled.{Celled}
+use Rattle.domain_core.specs.Celled.{Celled}
 use Rattle.domain_obj.specs.declared.attempting.Attempt.{Attempt}
 use Rattle.domain_obj.specs.declared.attempting.Attempt.TheVariants as attempt
-use Rattle.domain_cell.specs.declared.ticket.Look.TheVariants as look
+use Rattle.domain_core.specs.declared.ticket.Look.TheVariants as look
 use Rattle.job_rules.specs.declared.record.JobRecord.{JobRecord}
 
 module _ {M : Type 0} where

@@ -1,8 +1,8 @@
 -- Libraries below this one that are passed on: crates above name them here.
-pub use Rattle.domain_cell.specs as domain_cell
-pub use Rattle.domain_cell.specs.Below.domain_driver as domain_driver
-pub use Rattle.domain_cell.specs.Below.domain_history as domain_history
-pub use Rattle.domain_cell.specs.Below.domain_ledger as domain_ledger
-pub use Rattle.domain_cell.specs.Below.domain_record as domain_record
-pub use Rattle.domain_cell.specs.Below.domain_turns as domain_turns
-pub use Rattle.refusal_replies.specs as refusal_replies
+pub use Rattle.domain_core.specs as domain_core
+pub use Rattle.domain_core.specs.Below.core_dispatch as core_dispatch
+pub use Rattle.domain_core.specs.Below.core_chapter as core_chapter
+pub use Rattle.domain_core.specs.Below.core_flight as core_flight
+pub use Rattle.domain_core.specs.Below.core_log as core_log
+pub use Rattle.domain_core.specs.Below.core_steps as core_steps
+pub use Rattle.refusals.specs as refusals

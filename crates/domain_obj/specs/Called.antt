@@ -2,7 +2,7 @@
 use Rattle.std.specs.Prelude.{◌≡◌, ◌≤◌, ℕ, List, [], ◌∷◌, ◌++◌, length, slice_get, Option, Some}
 use Rattle.history_spec.specs.Begins.{Begins}
 use Rattle.history_spec.specs.Chapter.{tagged}
-use Rattle.virt_types.specs.declared.caller.Front.{Front}
+use Rattle.virt_types.specs.Below.types_base.declared.caller.Front.{Front}
 use Rattle.domain_spec.specs.Types.{Answer, Ask, Call, Reply, Transition, Who}
 use Rattle.domain_spec.specs.Types.call
 use Rattle.domain_spec.specs.Types.code
@@ -20,7 +20,7 @@ use Rattle.domain_obj.specs.Running.{DomainHistory, Goes, IsSpent, standing_afte
 use Rattle.domain_obj.specs.Turned.{job_let_in}
 use Rattle.domain_obj.specs.declared.ending.Called.{Called}
 use Rattle.domain_obj.specs.declared.ending.Called.TheVariants as called
-use Rattle.domain_cell.specs.OfShares.{told}
+use Rattle.domain_core.specs.OfShares.{told}
 
 -- the boot that an Admit carries was live at the end of `found`, which goes on from what the pass had seen at first, and
 -- right after which the Admit comes; only that of a Destroy may be a beginning of that

@@ -7,7 +7,7 @@ use Rattle.domain_obj.specs.InTurn.{DomainPass}
 use Rattle.domain_obj.specs.Running.{IsSpent}
 use Rattle.domain_obj.specs.declared.ending.Called.{Called}
 use Rattle.domain_obj.specs.declared.ending.Called.TheVariants as called
-use Rattle.domain_cell.specs.OfShares.{told}
+use Rattle.domain_core.specs.OfShares.{told}
 
 -- it is done, or no ticket was left; the desk was asked just what is said here, but for what found no memory
 abbrev pub HasEnded : DomainPass → DomainPass → List (Ask × Answer) → List (Ask × Answer) → Called → Type 0

@@ -1,7 +1,7 @@
 -- One turn of a call that begins an operation or takes one up, until it is let in: what it leaves of the pass.
 use Rattle.std.specs.Prelude.{◌≡◌, ◌⊎◌, ◌≤◌, ℕ, List, [], ◌∷◌, is_some, true, false, Option, None, Some}
 use Rattle.history_spec.specs.Chapter.{tagged}
-use Rattle.virt_types.specs.declared.caller.Front.{Front}
+use Rattle.virt_types.specs.Below.types_base.declared.caller.Front.{Front}
 use Rattle.domain_spec.specs.Types.{Answer, Ask, Call, Reply, Transition, Who}
 use Rattle.domain_spec.specs.Types.code
 use Rattle.domain_spec.specs.declared.mark.HeldJobs.{HeldJobs}
@@ -13,13 +13,13 @@ use Rattle.domain_obj.specs.Finishing.{IsClosed}
 use Rattle.domain_obj.specs.InTurn.{DomainPass}
 use Rattle.domain_obj.specs.Placing.{IsPlaced}
 use Rattle.domain_obj.specs.Running.{Goes}
-use Rattle.domain_cell.specs.Celled.{CellShare}
-use Rattle.domain_cell.specs.Shares.{IsFree}
+use Rattle.domain_core.specs.Celled.{CellShare}
+use Rattle.domain_core.specs.Shares.{IsFree}
 use Rattle.domain_obj.specs.Turned.{IsLeftNow, IsRefusedNow, waiting_as}
 use Rattle.domain_obj.specs.declared.operating.entering.Entry.{Entry}
 use Rattle.domain_obj.specs.declared.operating.entering.Entry.TheVariants as entry
-use Rattle.domain_cell.specs.OfTurns.{IsDue}
-use Rattle.domain_cell.specs.OfShares.{told}
+use Rattle.domain_core.specs.OfTurns.{IsDue}
+use Rattle.domain_core.specs.OfShares.{told}
 
 -- a pass that has a ticket left may look
 abbrev pub IsReadyToEnter : Who → DomainPass → Type 0

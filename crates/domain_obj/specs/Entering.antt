@@ -4,17 +4,17 @@ use Rattle.domain_spec.specs.Types.{Call, Who}
 use Rattle.domain_spec.specs.Call.{begins, takes_up}
 use Rattle.domain_spec.specs.Cell.{share_of}
 use Rattle.domain_obj.specs.InTurn.{GivesUp, IsNotRenewed, IsRenewed}
-use Rattle.domain_cell.specs.Celled.{Celled, KeepsOtherShares, cell_in}
-use Rattle.domain_cell.specs.Core.{excluded_so}
-use Rattle.domain_cell.specs.Shares.{IsFree}
+use Rattle.domain_core.specs.Celled.{Celled, KeepsOtherShares, cell_in}
+use Rattle.domain_core.specs.Core.{excluded_so}
+use Rattle.domain_core.specs.Shares.{IsFree}
 use Rattle.domain_obj.specs.declared.operating.entering.Entry.{Entry}
 use Rattle.domain_obj.specs.declared.operating.entering.Entry.TheVariants as entry
-use Rattle.domain_cell.specs.OfTurns.{Turning}
+use Rattle.domain_core.specs.OfTurns.{Turning}
 use Rattle.job_rules.specs.declared.record.JobRecord.{JobRecord}
-use Rattle.domain_cell.specs.OfTurns.{LooksToBegin, LooksToTakeUp}
-use Rattle.domain_cell.specs.OfTurns.{OperationLook}
-use Rattle.domain_cell.specs.OfTurns.operation_look_variants as look
-use Rattle.domain_cell.specs.OfShares.{queue_by}
+use Rattle.domain_core.specs.OfTurns.{LooksToBegin, LooksToTakeUp}
+use Rattle.domain_core.specs.OfTurns.{OperationLook}
+use Rattle.domain_core.specs.OfTurns.operation_look_variants as look
+use Rattle.domain_core.specs.OfShares.{queue_by}
 
 -- it begins an operation, or takes one up
 abbrev pub Operates : Call → Type 0

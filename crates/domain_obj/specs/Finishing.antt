@@ -1,6 +1,6 @@
 -- A call, or a phase of an operation, that asks until it is done.
 use Rattle.std.specs.Prelude.{◌≡◌, ℕ, List, [], ◌∷◌, ◌++◌, is_some, Bool, None, Some}
-use Rattle.virt_types.specs.declared.caller.Front.{Front}
+use Rattle.virt_types.specs.Below.types_base.declared.caller.Front.{Front}
 use Rattle.history_spec.specs.Chapter.{tagged}
 use Rattle.domain_spec.specs.Types.{Answer, Ask, Phase, Reply, Transition}
 use Rattle.domain_spec.specs.Types.job
@@ -10,7 +10,7 @@ use Rattle.domain_spec.specs.declared.open.OpenOperation.{OpenOperation}
 use Rattle.domain_spec.specs.declared.step.Outcome.{Outcome}
 use Rattle.domain_spec.specs.declared.step.Outcome.TheVariants as outcome
 use Rattle.domain_spec.specs.Cell.{OpenCall}
-use Rattle.domain_cell.specs.OfTurns.{led_to}
+use Rattle.domain_core.specs.OfTurns.{led_to}
 use Rattle.domain_obj.specs.Asking.{AwaitsAnswer, IsAsked}
 use Rattle.domain_obj.specs.InTurn.{DomainPass}
 use Rattle.domain_obj.specs.Leading.{IsTold}
@@ -19,8 +19,8 @@ use Rattle.domain_obj.specs.Running.{Goes, IsSpent}
 use Rattle.domain_obj.specs.declared.finishing.Finished.{Finished}
 use Rattle.domain_obj.specs.declared.finishing.Finished.TheVariants as finished
 use Rattle.domain_obj.specs.declared.next.Next.{Next}
-use Rattle.domain_cell.specs.OfShares.{AsideStays}
-use Rattle.domain_cell.specs.OfShares.{told}
+use Rattle.domain_core.specs.OfShares.{AsideStays}
+use Rattle.domain_core.specs.OfShares.{told}
 
 -- a call or a phase of the pass is away: it asked this last, with a monitor or not
 pub record IsAway (pass : DomainPass) (asked : Ask) (sent : Bool) : Type 0 where

@@ -4,17 +4,17 @@ use Rattle.domain_spec.specs.Types.{Reply, Who}
 use Rattle.domain_spec.specs.Cell.{share_of}
 use Rattle.domain_obj.specs.InTurn.{IsNotRenewed, IsRenewed}
 use Rattle.domain_obj.specs.Leading.{Leads}
-use Rattle.domain_cell.specs.Celled.{Celled, KeepsOtherShares, cell_in, standing_in}
-use Rattle.domain_cell.specs.OfTurns.{Step}
+use Rattle.domain_core.specs.Celled.{Celled, KeepsOtherShares, cell_in, standing_in}
+use Rattle.domain_core.specs.OfTurns.{Step}
 use Rattle.domain_obj.specs.declared.operating.phasing.Phasing.{Phasing}
 use Rattle.domain_obj.specs.declared.operating.phasing.Phasing.TheVariants as phasing
-use Rattle.domain_cell.specs.Held.{out_by}
-use Rattle.domain_cell.specs.Tickets.{HasMonitor, phase_ticket, phased_of}
-use Rattle.domain_cell.specs.declared.ticket.PhaseLook.{PhaseLook}
-use Rattle.domain_cell.specs.declared.ticket.PhaseLook.TheVariants as look
-use Rattle.domain_cell.specs.OfShares.{made_boot}
-use Rattle.domain_cell.specs.OfTurns.{CanEnd, Ends}
-use Rattle.domain_cell.specs.OfTurns.{IsDue, Phases}
+use Rattle.domain_core.specs.Held.{out_by}
+use Rattle.domain_core.specs.Tickets.{HasMonitor, phase_ticket, phased_of}
+use Rattle.domain_core.specs.declared.ticket.PhaseLook.{PhaseLook}
+use Rattle.domain_core.specs.declared.ticket.PhaseLook.TheVariants as look
+use Rattle.domain_core.specs.OfShares.{made_boot}
+use Rattle.domain_core.specs.OfTurns.{CanEnd, Ends}
+use Rattle.domain_core.specs.OfTurns.{IsDue, Phases}
 
 -- a phase is due of the operation that is kept for the number, by which nobody waits
 pub record MayGoOn (n : ℕ) (who : Who) (c : Celled) : Type 0 where

@@ -7,20 +7,20 @@ use Rattle.domain_spec.specs.declared.core_step.First.{First}
 use Rattle.domain_spec.specs.declared.mark.Mark.{Mark}
 use Rattle.domain_spec.specs.declared.standing.Base.{Base}
 use Rattle.domain_spec.specs.Kept.{left_queue}
-use Rattle.domain_cell.specs.Celled.{CellShare, Celled, KeepsOtherShares, cell_in, standing_in}
-use Rattle.domain_cell.specs.Clients.{with_queue}
-use Rattle.domain_cell.specs.Core.{excluded_by}
-use Rattle.domain_cell.specs.OfTurns.{GoesBack}
-use Rattle.domain_cell.specs.OfTurns.{Looks}
-use Rattle.domain_cell.specs.OfTurns.{HasRefused}
-use Rattle.domain_cell.specs.OfTurns.{Takes}
-use Rattle.domain_cell.specs.Held.{out_by}
-use Rattle.domain_cell.specs.Tickets.{HasMonitor, back_of, back_ticket, look_ticket, looked_of}
-use Rattle.domain_cell.specs.declared.ticket.Back.{Back}
-use Rattle.domain_cell.specs.declared.ticket.Look.{Look}
-use Rattle.domain_cell.specs.OfShares.{made_boot}
-use Rattle.domain_cell.specs.OfTurns.{IsHeld}
-use Rattle.domain_cell.specs.OfShares.{queue_of}
+use Rattle.domain_core.specs.Celled.{CellShare, Celled, KeepsOtherShares, cell_in, standing_in}
+use Rattle.domain_core.specs.Clients.{with_queue}
+use Rattle.domain_core.specs.Core.{excluded_by}
+use Rattle.domain_core.specs.OfTurns.{GoesBack}
+use Rattle.domain_core.specs.OfTurns.{Looks}
+use Rattle.domain_core.specs.OfTurns.{HasRefused}
+use Rattle.domain_core.specs.OfTurns.{Takes}
+use Rattle.domain_core.specs.Held.{out_by}
+use Rattle.domain_core.specs.Tickets.{HasMonitor, back_of, back_ticket, look_ticket, looked_of}
+use Rattle.domain_core.specs.declared.ticket.Back.{Back}
+use Rattle.domain_core.specs.declared.ticket.Look.{Look}
+use Rattle.domain_core.specs.OfShares.{made_boot}
+use Rattle.domain_core.specs.OfTurns.{IsHeld}
+use Rattle.domain_core.specs.OfShares.{queue_of}
 use Rattle.turn_cell.specs.Passes.{Passed, Turned}
 
 -- a pass of a domain, and its turn

@@ -5,10 +5,10 @@ use Rattle.domain_spec.specs.declared.step.Outcome.{Outcome}
 use Rattle.domain_spec.specs.declared.step.Outcome.TheVariants as outcome
 use Rattle.domain_obj.specs.declared.next.Next.{Next}
 use Rattle.domain_obj.specs.declared.next.Next.TheVariants as next
-use Rattle.domain_cell.specs.OfTurns.{IsToldAtEnd}
-use Rattle.domain_cell.specs.OfTurns.{Step}
-use Rattle.domain_cell.specs.OfTurns.step_variants as step
-use Rattle.domain_cell.specs.OfTurns.{rested_in}
+use Rattle.domain_core.specs.OfTurns.{IsToldAtEnd}
+use Rattle.domain_core.specs.OfTurns.{Step}
+use Rattle.domain_core.specs.OfTurns.step_variants as step
+use Rattle.domain_core.specs.OfTurns.{rested_in}
 
 -- an outcome is told so: where the operation rests, its reply, or that there was no memory for one more copy
 abbrev pub IsTold : Outcome → Next → Type 0

@@ -1,9 +1,9 @@
 -- The ears of the guest that is there, lent to a pass.
 use Rattle.std.specs.Prelude.{◌≡◌, ℕ, [], false, Option, None, Some}
 use Rattle.domain_spec.specs.Cell.{LentEars}
-use Rattle.domain_cell.specs.Celled.{CellShare, Celled, KeepsOtherShares, boot_to_lend, cell_share}
-use Rattle.domain_cell.specs.Meaning.{history_of}
-use Rattle.domain_cell.specs.Core.{with_ears}
+use Rattle.domain_core.specs.Celled.{CellShare, Celled, KeepsOtherShares, boot_to_lend, cell_share}
+use Rattle.domain_core.specs.Meaning.{history_of}
+use Rattle.domain_core.specs.Core.{with_ears}
 use Rattle.domain_obj.specs.InTurn.{DomainPass}
 use Rattle.domain_obj.specs.Running.{Goes}
 use Rattle.domain_obj.specs.declared.lending.Lent.{Lent}

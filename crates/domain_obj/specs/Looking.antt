@@ -10,9 +10,9 @@ use Rattle.domain_spec.specs.Chapter.{rising_number}
 use Rattle.domain_spec.specs.Open.{IsKnownBoot}
 use Rattle.domain_spec.specs.Reading.{boots_of, live_boot}
 use Rattle.domain_obj.specs.Running.{DomainHistory, standing_after}
-use Rattle.domain_cell.specs.Celled.{Celled, cell_in}
-use Rattle.domain_cell.specs.Meaning.{history_of}
-use Rattle.domain_cell.specs.Shares.{IsFree, KeepsFirst}
+use Rattle.domain_core.specs.Celled.{Celled, cell_in}
+use Rattle.domain_core.specs.Meaning.{history_of}
+use Rattle.domain_core.specs.Shares.{IsFree, KeepsFirst}
 
 -- what a call that was excluded keeps for its next look: a Destroy the boot that was live at its first one
 abbrev pub first_after : First → Call → Option ℕ → First

@@ -1,6 +1,6 @@
--- Words of domain_cell that are passed on: crates above name them here.
-pub use Rattle.domain_cell.specs.Celled.{CellShare}
-pub use Rattle.domain_cell.specs.Keeping.{no_mark_lowers}
-pub use Rattle.domain_cell.specs.OfShares.{told}
-pub use Rattle.domain_cell.specs.OfTurns.{IsToldAtEnd}
-pub use Rattle.domain_cell.specs.Tickets.{IsAnsweredAs, IsCounted, comes}
+-- Words of domain_core that are passed on: crates above name them here.
+pub use Rattle.domain_core.specs.Celled.{CellShare}
+pub use Rattle.domain_core.specs.Keeping.{no_mark_lowers}
+pub use Rattle.domain_core.specs.OfShares.{told}
+pub use Rattle.domain_core.specs.OfTurns.{IsToldAtEnd}
+pub use Rattle.domain_core.specs.Tickets.{IsAnsweredAs, IsCounted, comes}

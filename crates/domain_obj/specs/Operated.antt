@@ -1,7 +1,7 @@
 -- What becomes of a call that begins an operation or takes one up, from its first look to its end.
 use Rattle.std.specs.Prelude.{◌≡◌, ℕ, List, [], ◌∷◌, ◌++◌, Option, Some}
 use Rattle.history_spec.specs.Chapter.{tagged}
-use Rattle.virt_types.specs.declared.caller.Front.{Front}
+use Rattle.virt_types.specs.Below.types_base.declared.caller.Front.{Front}
 use Rattle.domain_spec.specs.Types.{Answer, Ask, Call, Reply, Transition, Who}
 use Rattle.domain_spec.specs.Types.code
 use Rattle.domain_spec.specs.declared.mark.Mark.{Mark}
@@ -15,7 +15,7 @@ use Rattle.domain_obj.specs.InTurn.{DomainPass}
 use Rattle.domain_obj.specs.Placing.{IsPlaced}
 use Rattle.domain_obj.specs.Refusing.{IsLeftUndone, IsRefusedSo, IsSpentWaiting}
 use Rattle.domain_obj.specs.Running.{Goes, IsSpent}
-use Rattle.domain_cell.specs.OfTurns.{IsToldAtEnd}
+use Rattle.domain_core.specs.OfTurns.{IsToldAtEnd}
 use Rattle.domain_obj.specs.Called.{IsTimedOut}
 use Rattle.domain_obj.specs.Entered.{IsFirst, begun_by}
 use Rattle.domain_obj.specs.Phases.{IsLostAt, LeadsTo, marks_of_all, told_of_all}
@@ -24,8 +24,8 @@ use Rattle.domain_obj.specs.declared.operating.operation.Operated.{Operated}
 use Rattle.domain_obj.specs.declared.operating.operation.Operated.TheVariants as operated
 use Rattle.domain_obj.specs.declared.operating.phases.Over.{Over}
 use Rattle.domain_obj.specs.declared.operating.phases.Over.TheVariants as over
-use Rattle.domain_cell.specs.OfTurns.{IsDue}
-use Rattle.domain_cell.specs.OfShares.{told}
+use Rattle.domain_core.specs.OfTurns.{IsDue}
+use Rattle.domain_core.specs.OfShares.{told}
 
 -- the operation of the call, as it began or was taken up
 pub record IsOperation (who : Who) (d : Call) (n : ℕ) (boot : Option ℕ) (first : Mark ℕ) (o : OpenOperation) : Type 0 where

@@ -1,7 +1,7 @@
 -- An operation that goes on by its phases until it ends, or rests.
 use Rattle.std.specs.Prelude.{◌≡◌, ◌⊎◌, ℕ, List, [], ◌∷◌, ◌++◌, Option, None, Some}
 use Rattle.history_spec.specs.Chapter.{tagged}
-use Rattle.virt_types.specs.declared.caller.Front.{Front}
+use Rattle.virt_types.specs.Below.types_base.declared.caller.Front.{Front}
 use Rattle.domain_spec.specs.Types.{Answer, Ask, Call, Reply, Who}
 use Rattle.domain_spec.specs.Types.job
 use Rattle.domain_spec.specs.declared.mark.Mark.{Mark}
@@ -17,14 +17,14 @@ use Rattle.domain_obj.specs.InTurn.{DomainPass}
 use Rattle.domain_obj.specs.Placing.{IsPlaced}
 use Rattle.domain_obj.specs.Running.{Goes, IsSpent}
 use Rattle.domain_obj.specs.declared.next.Next.{Next}
-use Rattle.domain_cell.specs.Celled.{CellShare}
-use Rattle.domain_cell.specs.OfTurns.{IsToldAtEnd}
+use Rattle.domain_core.specs.Celled.{CellShare}
+use Rattle.domain_core.specs.OfTurns.{IsToldAtEnd}
 use Rattle.domain_obj.specs.Phasing.{IsPhaseDone, PhaseDone, marks_of, phase_let_in, phase_mark}
 use Rattle.domain_obj.specs.declared.operating.phases.OnePhase.{OnePhase}
 use Rattle.domain_obj.specs.declared.operating.phases.OnePhase.TheVariants as one
 use Rattle.domain_obj.specs.declared.operating.phases.Over.{Over}
 use Rattle.domain_obj.specs.declared.operating.phases.Over.TheVariants as over
-use Rattle.domain_cell.specs.OfShares.{told}
+use Rattle.domain_core.specs.OfShares.{told}
 
 -- the marks of phases, and what the desk was asked for them
 abbrev pub marks_of_all : ℕ → Who → Call → List PhaseDone → List (ℕ × Mark ℕ)

@@ -1,7 +1,7 @@
 -- A phase of an operation, as its pass leaves it.
 use Rattle.std.specs.Prelude.{◌≡◌, ℕ, List, [], ◌∷◌, is_some, Bool, Option, None, Some}
 use Rattle.history_spec.specs.Chapter.{tagged}
-use Rattle.virt_types.specs.declared.caller.Front.{Front}
+use Rattle.virt_types.specs.Below.types_base.declared.caller.Front.{Front}
 use Rattle.domain_spec.specs.Types.{Answer, Ask, Call, Phase, Reply, Transition, Who}
 use Rattle.domain_spec.specs.Types.job
 use Rattle.domain_spec.specs.declared.mark.Mark.{Mark}
@@ -17,15 +17,15 @@ use Rattle.domain_obj.specs.Leading.{IsTold}
 use Rattle.domain_obj.specs.declared.next.Next.{Next}
 use Rattle.domain_obj.specs.Placing.{IsPlaced}
 use Rattle.domain_obj.specs.Running.{Goes, standing_after}
-use Rattle.domain_cell.specs.Celled.{CellShare}
-use Rattle.domain_cell.specs.OfTurns.{IsToldAtEnd}
+use Rattle.domain_core.specs.Celled.{CellShare}
+use Rattle.domain_core.specs.OfTurns.{IsToldAtEnd}
 use Rattle.domain_obj.specs.declared.operating.phasing.Phasing.{Phasing}
 use Rattle.domain_obj.specs.declared.operating.phasing.Phasing.TheVariants as phasing
-use Rattle.domain_cell.specs.OfTurns.{led_to}
-use Rattle.domain_cell.specs.OfTurns.{CanEnd}
-use Rattle.domain_cell.specs.OfTurns.{IsDue, IsHeld}
-use Rattle.domain_cell.specs.OfShares.{AsideStays}
-use Rattle.domain_cell.specs.OfShares.{told}
+use Rattle.domain_core.specs.OfTurns.{led_to}
+use Rattle.domain_core.specs.OfTurns.{CanEnd}
+use Rattle.domain_core.specs.OfTurns.{IsDue, IsHeld}
+use Rattle.domain_core.specs.OfShares.{AsideStays}
+use Rattle.domain_core.specs.OfShares.{told}
 
 -- a phase that was done: its chapter, the boot of its Admit, and what its Phase says
 pub record PhaseDone : Type 0 where

@@ -1,6 +1,6 @@
 -- Where a call left its last mark, and what its pass has seen.
 use Rattle.std.specs.Prelude.{◌≡◌, false, Option, None, Some}
-use Rattle.virt_types.specs.declared.caller.Front.{Front}
+use Rattle.virt_types.specs.Below.types_base.declared.caller.Front.{Front}
 use Rattle.domain_obj.specs.InTurn.{DomainPass}
 use Rattle.domain_obj.specs.Running.{IsSeen}
 use Rattle.domain_obj.specs.declared.ends.Hushed.{Hushed}

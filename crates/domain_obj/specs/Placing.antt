@@ -1,9 +1,9 @@
 -- Where the marks of a pass are in the history of its domain.
 use Rattle.std.specs.Prelude.{◌≡◌, ◌<◌, ◌≤◌, ◌-◌, ℕ, Some, slice_get}
-use Rattle.virt_types.specs.declared.caller.Front.{Front}
-use Rattle.domain_cell.specs.OfTurns.{last_place}
+use Rattle.virt_types.specs.Below.types_base.declared.caller.Front.{Front}
+use Rattle.domain_core.specs.OfTurns.{last_place}
 use Rattle.domain_spec.specs.declared.mark.Mark.{Mark}
-use Rattle.domain_cell.specs.Celled.{Celled, cell_in}
+use Rattle.domain_core.specs.Celled.{Celled, cell_in}
 use Rattle.domain_obj.specs.InTurn.{DomainPass}
 
 -- the place after the chapter's last mark of some pass

@@ -1,6 +1,6 @@
 -- A call that is refused since its job is excluded.
 use Rattle.std.specs.Prelude.{◌≡◌, ℕ, List, [], ◌∷◌}
-use Rattle.virt_types.specs.declared.caller.Front.{Front}
+use Rattle.virt_types.specs.Below.types_base.declared.caller.Front.{Front}
 use Rattle.history_spec.specs.Chapter.{tagged}
 use Rattle.domain_spec.specs.Types.{Answer, Ask, Call, RefusalCode, Reply, Who}
 use Rattle.domain_spec.specs.Excluded.{excluded_reply}

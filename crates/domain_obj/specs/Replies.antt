@@ -1,12 +1,12 @@
 -- What the caller of a call over a domain is told.
 use Rattle.std.specs.Prelude.{◌≡◌, ◌⊎◌, Option, None, Some}
-use Rattle.virt_types.specs.declared.caller.Front.{Front}
+use Rattle.virt_types.specs.Below.types_base.declared.caller.Front.{Front}
 use Rattle.domain_spec.specs.Types.{Reply}
 use Rattle.domain_obj.specs.declared.ending.Called.{Called}
 use Rattle.domain_obj.specs.declared.ending.Called.TheVariants as called
 use Rattle.domain_obj.specs.declared.operating.operation.Operated.{Operated}
 use Rattle.domain_obj.specs.declared.operating.operation.Operated.TheVariants as operated
-use Rattle.refusal_replies.specs.Replies.{no_memory_reply, spent_reply}
+use Rattle.refusals.specs.Replies.{no_memory_reply, spent_reply}
 
 -- no ticket was left, which the reply says unless there is no memory for it
 abbrev pub TellsSpent : Reply → Type 0

@@ -8,8 +8,8 @@ use Rattle.domain_spec.specs.declared.standing.Standing.{Standing}
 use Rattle.domain_spec.specs.Fold.{at_base, standing}
 use Rattle.domain_spec.specs.Legal.{IsLegal}
 use Rattle.domain_spec.specs.Read.{read}
-use Rattle.domain_cell.specs.Meaning.{meaning}
-use Rattle.domain_cell.specs.Core.{is_occupied}
+use Rattle.domain_core.specs.Meaning.{meaning}
+use Rattle.domain_core.specs.Core.{is_occupied}
 use Rattle.domain_obj.specs.InTurn.{DomainPass}
 use Rattle.domain_obj.specs.declared.place.Seen.{Seen}
 use Rattle.domain_obj.specs.declared.queries.Queried.{Queried}

@@ -5,12 +5,12 @@ use Rattle.domain_spec.specs.declared.core_step.CoreStep.{CoreStep}
 use Rattle.domain_spec.specs.declared.core_step.CoreStep.TheVariants as step
 use Rattle.domain_spec.specs.declared.mark.Mark.{Mark}
 use Rattle.domain_spec.specs.Reading.{is_live}
-use Rattle.domain_cell.specs.Celled.{Celled, KeepsOtherShares, standing_in}
-use Rattle.domain_cell.specs.Core.{with_ears}
-use Rattle.domain_cell.specs.OfTurns.{HasTurned, Turning}
+use Rattle.domain_core.specs.Celled.{Celled, KeepsOtherShares, standing_in}
+use Rattle.domain_core.specs.Core.{with_ears}
+use Rattle.domain_core.specs.OfTurns.{HasTurned, Turning}
 use Rattle.domain_obj.specs.InTurn.{DomainPass}
-use Rattle.domain_cell.specs.Tickets.{IsHeardCounted}
-use Rattle.domain_cell.specs.OfTurns.{applies_now, event_marks, exit_marks}
+use Rattle.domain_core.specs.Tickets.{IsHeardCounted}
+use Rattle.domain_core.specs.OfTurns.{applies_now, event_marks, exit_marks}
 use Rattle.monitor_link.specs.declared.link.Heard.{Heard}
 use Rattle.monitor_link.specs.declared.link.Heard.TheVariants as heard
 use Rattle.domain_obj.specs.Lending.{IsSilentTurn, with_out}

@@ -2,7 +2,7 @@
 use Rattle.std.specs.Prelude.{◌≡◌, ◌≤◌, ℕ, List, [], ◌∷◌, is_some, length, slice_get, Bool, false, Option, None, Some}
 use Rattle.history_spec.specs.Begins.{Begins}
 use Rattle.history_spec.specs.Chapter.{tagged}
-use Rattle.virt_types.specs.declared.caller.Front.{Front}
+use Rattle.virt_types.specs.Below.types_base.declared.caller.Front.{Front}
 use Rattle.domain_spec.specs.Types.{Answer, Ask, Call, RefusalCode, Reply, Transition, Who}
 use Rattle.domain_spec.specs.Types.code
 use Rattle.domain_spec.specs.declared.core_step.First.{First}
@@ -19,14 +19,14 @@ use Rattle.domain_obj.specs.Finishing.{IsAway, IsClosed}
 use Rattle.domain_obj.specs.InTurn.{DomainPass}
 use Rattle.domain_obj.specs.Placing.{IsPlaced}
 use Rattle.domain_obj.specs.Running.{DomainHistory, Goes, standing_after}
-use Rattle.domain_cell.specs.Celled.{CellShare}
-use Rattle.domain_cell.specs.Shares.{IsFree, KeepsFirst}
+use Rattle.domain_core.specs.Celled.{CellShare}
+use Rattle.domain_core.specs.Shares.{IsFree, KeepsFirst}
 use Rattle.domain_obj.specs.Looking.{KnowsFirst}
 use Rattle.domain_obj.specs.declared.attempting.Attempt.{Attempt}
 use Rattle.domain_obj.specs.declared.attempting.Attempt.TheVariants as attempt
-use Rattle.domain_cell.specs.OfTurns.{boot_first}
-use Rattle.domain_cell.specs.OfShares.{RestStays}
-use Rattle.domain_cell.specs.OfShares.{told}
+use Rattle.domain_core.specs.OfTurns.{boot_first}
+use Rattle.domain_core.specs.OfShares.{RestStays}
+use Rattle.domain_core.specs.OfShares.{told}
 
 -- a pass that has a ticket left may look
 pub record IsReadyToLook (who : Who) (d : Call) (f : First) (pass : DomainPass) : Type 0 where

@@ -2,17 +2,17 @@
 use Rattle.std.specs.Prelude.{◌≡◌, ◌++◌, ℕ, List, is_some, Option, None, Some}
 use Rattle.history_spec.specs.Chapter.{tagged}
 use Rattle.history_spec.specs.Pass.{AreOf, own}
-use Rattle.virt_types.specs.declared.caller.Front.{Front}
+use Rattle.virt_types.specs.Below.types_base.declared.caller.Front.{Front}
 use Rattle.domain_spec.specs.Types.{Answer, Ask}
 use Rattle.domain_spec.specs.Types.job
 use Rattle.domain_spec.specs.declared.mark.Mark.{Mark}
 use Rattle.domain_spec.specs.declared.open.OpenOperation.{OpenOperation}
 use Rattle.domain_spec.specs.declared.step.Outcome.{Outcome}
 use Rattle.domain_spec.specs.Cell.{OpenCall}
-use Rattle.domain_cell.specs.Celled.{Celled, cell_in, cell_share}
-use Rattle.domain_cell.specs.Meaning.{history_of}
-use Rattle.domain_cell.specs.OfTurns.{Back as CoreBack}
-use Rattle.domain_cell.specs.OfTurns.back_variants as core_back
+use Rattle.domain_core.specs.Celled.{Celled, cell_in, cell_share}
+use Rattle.domain_core.specs.Meaning.{history_of}
+use Rattle.domain_core.specs.OfTurns.{Back as CoreBack}
+use Rattle.domain_core.specs.OfTurns.back_variants as core_back
 use Rattle.domain_obj.specs.Asking.{AwaitsAnswer}
 use Rattle.domain_obj.specs.InTurn.{DomainPass}
 use Rattle.domain_obj.specs.Leading.{IsTold, Leads, step_of}
@@ -20,14 +20,14 @@ use Rattle.domain_obj.specs.Placing.{IsLastPlace}
 use Rattle.domain_obj.specs.Running.{Goes}
 use Rattle.domain_obj.specs.declared.calls.Answered.{Answered}
 use Rattle.domain_obj.specs.declared.calls.Answered.TheVariants as answered
-use Rattle.domain_cell.specs.OfTurns.{HasLedTo}
-use Rattle.domain_cell.specs.Tickets.{HasMonitor}
-use Rattle.domain_cell.specs.declared.ticket.Back.{Back}
-use Rattle.domain_cell.specs.declared.ticket.Back.TheVariants as back
-use Rattle.domain_cell.specs.declared.ticket.Ticket.{Ticket}
-use Rattle.domain_cell.specs.OfShares.{IsAnsweredTo}
-use Rattle.domain_cell.specs.OfShares.{BackLeaves}
-use Rattle.domain_cell.specs.OfShares.{whose}
+use Rattle.domain_core.specs.OfTurns.{HasLedTo}
+use Rattle.domain_core.specs.Tickets.{HasMonitor}
+use Rattle.domain_core.specs.declared.ticket.Back.{Back}
+use Rattle.domain_core.specs.declared.ticket.Back.TheVariants as back
+use Rattle.domain_core.specs.declared.ticket.Ticket.{Ticket}
+use Rattle.domain_core.specs.OfShares.{IsAnsweredTo}
+use Rattle.domain_core.specs.OfShares.{BackLeaves}
+use Rattle.domain_core.specs.OfShares.{whose}
 
 -- where the call is away still, it waits for its answer
 abbrev pub BackWaits : CoreBack → Option OpenCall → Type 0

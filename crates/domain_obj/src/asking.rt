@@ -2,11 +2,11 @@
 ghost use Rattle.std.specs.Prelude.{◌≡◌, ◌∷◌, ◌++◌, [], List, is_some};
 ghost use Rattle.domain_obj.specs.Asking.{FitsAsk, IsAsked, IsBetween};
 ghost use Rattle.domain_spec.specs.Types.{Answer as TheAnswer, Ask as TheAsk};
-ghost use Rattle.domain_cell.specs.Tickets.{IsCounted};
-ghost use Rattle.domain_cell.specs.OfShares.{told};
+ghost use Rattle.domain_core.specs.Tickets.{IsCounted};
+ghost use Rattle.domain_core.specs.OfShares.{told};
 
 use crate::turns::DomainPass;
-use domain_cell::Ticket;
+use domain_core::Ticket;
 use monitor_link::{Ears, Killer, Link, Monitor};
 use virt_types::{Answer, Ask};
 

@@ -5,7 +5,7 @@ ghost use Rattle.domain_obj.specs.Looking.{MayLook, first_after};
 ghost use Rattle.domain_spec.specs.Call.{begins, takes_up};
 
 use crate::{DomainTurn, end_long_chapter, give_up_in, look_in};
-use domain_cell::{Look, Ticket};
+use domain_core::{Look, Ticket};
 use domain_spec::First;
 use job_rules::JobRecord;
 use monitor_link::{Ears, Killer, Monitor};

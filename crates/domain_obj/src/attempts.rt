@@ -6,7 +6,7 @@ ghost use Rattle.domain_spec.specs.Call.{begins, takes_up};
 
 use crate::attempting::{Attempt, attempt_in};
 use crate::{DomainPass, last_in, told_legal};
-use domain_cell::DomainCell;
+use domain_core::DomainCell;
 use domain_spec::First;
 use monitor_link::{Ears, Killer, Monitor};
 use std::alloc::Global;

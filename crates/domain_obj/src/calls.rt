@@ -3,12 +3,12 @@ ghost use Rattle.std.specs.Prelude.{◌≡◌, IfErr, IfOk, is_some};
 ghost use Rattle.domain_obj.specs.Asking.{MayBeAnswered};
 ghost use Rattle.domain_obj.specs.Running.{IsSpent};
 ghost use Rattle.domain_obj.specs.Turns.{HasAnswered, TellsBack};
-ghost use Rattle.domain_cell.specs.Celled.{standing_in};
-ghost use Rattle.domain_cell.specs.Tickets.{IsCounted};
+ghost use Rattle.domain_core.specs.Celled.{standing_in};
+ghost use Rattle.domain_core.specs.Tickets.{IsCounted};
 
 use crate::next::{Next, next_in};
 use crate::turns::{DomainPass, DomainTurn, back_in, last_in, told_legal};
-use domain_cell::{Back, DomainCell, Ticket};
+use domain_core::{Back, DomainCell, Ticket};
 use monitor_link::{Ears, Killer, Link, Monitor};
 use std::alloc::Global;
 use std::sync::Wait;

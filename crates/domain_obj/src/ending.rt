@@ -4,7 +4,7 @@ ghost use Rattle.domain_obj.specs.Finishing.{IsAway};
 ghost use Rattle.domain_obj.specs.Ending.{HasEnded};
 
 use crate::{Desk, DomainPass, Finished, finish};
-use domain_cell::{DomainCell, Ticket};
+use domain_core::{DomainCell, Ticket};
 use monitor_link::{Ears, Killer, Monitor};
 use std::alloc::Global;
 use std::sync::Wait;

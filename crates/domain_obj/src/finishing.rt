@@ -6,7 +6,7 @@ use crate::asking::Desk;
 use crate::calls::{Answered, answer_once};
 use crate::next::Next;
 use crate::turns::DomainPass;
-use domain_cell::{DomainCell, Ticket};
+use domain_core::{DomainCell, Ticket};
 use monitor_link::{Ears, Killer, Monitor};
 use std::alloc::Global;
 use std::sync::Wait;

@@ -6,7 +6,7 @@ ghost use Rattle.domain_obj.specs.Hearing.{HasHushed, HasLeft};
 use crate::DomainPass;
 use crate::ends::Hushed;
 use crate::once::{Once, hear_once};
-use domain_cell::DomainCell;
+use domain_core::DomainCell;
 use monitor_link::{Ears, Killer, Monitor};
 use std::alloc::Global;
 use std::sync::Wait;

@@ -4,7 +4,7 @@ ghost use Rattle.domain_obj.specs.Running.{IsSeen, IsSpent};
 ghost use Rattle.domain_obj.specs.Lending.{HasLent, LendsIn};
 
 use crate::{DomainPass, DomainTurn, Seen, seen_in, told_legal};
-use domain_cell::DomainCell;
+use domain_core::DomainCell;
 use history_spec::Stamp;
 use monitor_link::{Ears, Killer, Monitor};
 use std::alloc::Global;

@@ -26,7 +26,7 @@ mod turns;
 
 pub use asking::Desk;
 pub use calls::{Answered, answer_once};
-pub use domain_cell::{Chronicle, DomainCell, Ticket, takes_up};
+pub use domain_core::{Chronicle, DomainCell, Ticket, takes_up};
 pub use ending::Called;
 pub use ends::Hushed;
 pub use finishing::{Finished, finish};
@@ -37,7 +37,7 @@ pub use operating::operation::{Operated, run_operation};
 pub use place::Seen;
 pub use places::At;
 pub use queries::{Queried, query};
-pub use refusal_replies::{ReplyRoom, no_memory};
+pub use refusals::{ReplyRoom, no_memory};
 pub use running::run_call;
 pub use said::Told;
 pub use turns::{

@@ -1,10 +1,10 @@
 // What a phase led its operation to.
 ghost use Rattle.std.specs.Prelude.{◌≡◌};
 ghost use Rattle.domain_obj.specs.Leading.{Leads};
-ghost use Rattle.domain_cell.specs.Celled.{standing_in};
+ghost use Rattle.domain_core.specs.Celled.{standing_in};
 
 use crate::turns::DomainTurn;
-use domain_cell::Step;
+use domain_core::Step;
 use monitor_link::{Ears, Killer, Monitor};
 use std::alloc::Global;
 use virt_types::Reply;

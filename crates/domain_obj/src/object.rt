@@ -1,7 +1,7 @@
 // A domain that passes take turns at.
 ghost use Rattle.std.specs.Prelude.{◌≡◌, ◌≤◌, ◌<◌, ◌^◌, ◌+◌, ◌-◌, IfErr, IfOk, None, false, true};
-ghost use Rattle.domain_cell.specs.Celled.{new_cell};
-ghost use Rattle.domain_cell.specs.Meaning.{meaning};
+ghost use Rattle.domain_core.specs.Celled.{new_cell};
+ghost use Rattle.domain_core.specs.Meaning.{meaning};
 ghost use Rattle.domain_obj.specs.Running.{HasQueried};
 ghost use Rattle.domain_obj.specs.Running.{IsReady};
 ghost use Rattle.domain_obj.specs.Hearing.{HasHushed, HasLeft};
@@ -15,7 +15,7 @@ ghost use Rattle.turn_cell.specs.Passes.{Closes, Enters, IsCutOff, IsFirst, Same
 use crate::places::{At, place_at, seen_by};
 use crate::replies::{told_of_call, told_of_operation};
 use crate::{Desk, DomainPass, DomainTurn, Hushed, Queried, hear, query, run_call, run_operation};
-use domain_cell::DomainCell;
+use domain_core::DomainCell;
 use monitor_link::{Ears, Killer, Monitor};
 use std::alloc::Global;
 use std::marker::Model;

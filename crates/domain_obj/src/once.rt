@@ -8,7 +8,7 @@ use crate::lending::{Lent, lend_once};
 use crate::said::told_of;
 use crate::telling::tell_once;
 use crate::{DomainPass, Seen};
-use domain_cell::DomainCell;
+use domain_core::DomainCell;
 use monitor_link::{Ears, Heard, Killer, Monitor};
 use std::alloc::Global;
 use std::sync::Wait;

@@ -4,7 +4,7 @@ ghost use Rattle.domain_obj.specs.Running.{HasQueried};
 
 use crate::place::Seen;
 use crate::turns::{DomainPass, read_in, seen_in, told_legal};
-use domain_cell::DomainCell;
+use domain_core::DomainCell;
 use monitor_link::{Ears, Killer, Monitor};
 use std::alloc::Global;
 use std::sync::Wait;

@@ -3,7 +3,7 @@ ghost use Rattle.std.specs.Prelude.{◌≡◌};
 ghost use Rattle.domain_obj.specs.Replies.{TellsCalled, TellsOperated, TellsSpent, called_at, operated_at};
 
 use crate::{Called, Operated};
-use refusal_replies::{ReplyRoom, no_memory};
+use refusals::{ReplyRoom, no_memory};
 use std::alloc::Global;
 use virt_types::{Front, NoMemory, Reply};
 

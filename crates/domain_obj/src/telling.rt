@@ -1,13 +1,13 @@
 // The turn in which what was heard is told, and the ears are given back.
 ghost use Rattle.std.specs.Prelude.{◌≡◌, ℕ, IfErr, IfOk, Some};
 ghost use Rattle.domain_obj.specs.Running.{IsSeen, IsSpent};
-ghost use Rattle.domain_cell.specs.Celled.{cell_in};
+ghost use Rattle.domain_core.specs.Celled.{cell_in};
 ghost use Rattle.domain_obj.specs.Lending.{IsListening, out_for};
 ghost use Rattle.domain_obj.specs.Telling.{IsTold, IsToldCounted, IsToldIn, TellsIn};
 
 use crate::said::Told;
 use crate::{DomainPass, DomainTurn, Seen, seen_in, told_legal};
-use domain_cell::DomainCell;
+use domain_core::DomainCell;
 use history_spec::Stamp;
 use monitor_link::{Ears, Killer, Monitor};
 use std::sync::Wait;

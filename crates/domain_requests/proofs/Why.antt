@@ -3,10 +3,10 @@ use Rattle.std.proofs.Common.{◌≡◌, ℕ, ℤ, ◌++◌, List, Some, codes, 
 use Rattle.std.specs.Fmt.{signed_decimal}
 use Rattle.session_spec.specs.Refused.{refusal}
 use Rattle.virt_types.specs.Name.{bad_place}
-use Rattle.virt_types.specs.declared.memory.OrNoMemory.{OrNoMemory}
-use Rattle.virt_types.specs.declared.memory.OrNoMemory.TheVariants.{Fault, NoMemory}
-use Rattle.virt_types.specs.declared.refusal.Refusal.{Refusal}
-use Rattle.virt_types.specs.declared.refusal.RefusalCode.TheVariants as code
+use Rattle.virt_types.specs.Below.types_base.declared.memory.OrNoMemory.{OrNoMemory}
+use Rattle.virt_types.specs.Below.types_base.declared.memory.OrNoMemory.TheVariants.{Fault, NoMemory}
+use Rattle.virt_types.specs.Below.types_base.declared.refusal.Refusal.{Refusal}
+use Rattle.virt_types.specs.Below.types_base.declared.refusal.RefusalCode.TheVariants as code
 use Rattle.domain_requests.specs.Requests.{Fails, IsOutside, IsUnnamed, passed_one}
 
 pub unnamed : (text : List ℕ) (at : ℕ) (e : OrNoMemory Refusal) → bad_place text ≡ Some at → Fails e (refusal code.InvalidArgument text) → IsUnnamed text e

@@ -7,7 +7,7 @@ use Rattle.text_spec.specs.Text.{read_of}
 use Rattle.text_spec.specs.Tree.{Tree}
 use Rattle.text_spec.specs.declared.definition.DefFault.{DefFault}
 use Rattle.text_spec.specs.declared.fault.TextFault.{TextFault}
-use Rattle.virt_types.specs.declared.device_def.DeviceDef.{DeviceDef}
+use Rattle.virt_types.specs.Below.types_base.declared.device_def.DeviceDef.{DeviceDef}
 use Rattle.virt_types.specs.declared.domain.SnapInfo.{SnapInfo}
 
 -- what is read of a tree, or the path of the element at which it is none

@@ -2,7 +2,7 @@
 ghost use Rattle.std.specs.Prelude.{◌≡◌, ◌++◌, IfErr, IfOk, None, Some, codes, decimal, int_lt, pos};
 ghost use Rattle.std.specs.Fmt.{signed_decimal};
 ghost use Rattle.session_spec.specs.Refused.{refusal};
-ghost use Rattle.virt_types.specs.declared.refusal.RefusalCode.TheVariants as code;
+ghost use Rattle.virt_types.specs.Below.types_base.declared.refusal.RefusalCode.TheVariants as code;
 ghost use Rattle.domain_requests.specs.Requests.{Fails, passed_one};
 
 use crate::refusing::refuse;

@@ -6,7 +6,7 @@ ghost use Rattle.virt_types.specs.Memory.{UnlessNoMemory};
 ghost use Rattle.virt_types.specs.Name.{bad_place};
 ghost use Rattle.virt_types.specs.declared.call.Call.TheVariants as call;
 ghost use Rattle.virt_types.specs.declared.call.Query.TheVariants as query;
-ghost use Rattle.virt_types.specs.declared.refusal.RefusalCode.TheVariants as code;
+ghost use Rattle.virt_types.specs.Below.types_base.declared.refusal.RefusalCode.TheVariants as code;
 ghost use Rattle.domain_requests.specs.Requests.{Fails, IsTaskOf, IsUnnamed, attaches, detaches, IsOutside, named, parsed_as, parsed_plainly, parsed_reads, passed_one, reads, runs, takes, yes_or_no};
 ghost use Rattle.domain_requests.specs.declared.task.Parsed.TheVariants as parsed;
 ghost use Rattle.domain_requests.specs.Texts.{device_in, snapshot_in};

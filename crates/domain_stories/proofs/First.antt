@@ -1,8 +1,8 @@
 -- The first pass of a domain has nothing open, and all parts.
 use Rattle.std.proofs.Common.{◌≡◌, ℕ, Bool, Option, inr, ap, ◌^◌}
 use Rattle.domain_spec.specs.Types.{DomainDef}
-use Rattle.domain_obj.specs.Below.domain_cell.Celled.{new_cell}
-use Rattle.domain_obj.specs.Below.domain_cell.Meaning.{meaning}
+use Rattle.domain_obj.specs.Below.domain_core.Celled.{new_cell}
+use Rattle.domain_obj.specs.Below.domain_core.Meaning.{meaning}
 use Rattle.domain_obj.specs.InTurn.{DomainPass}
 use Rattle.turn_cell.specs.Passes.{IsFirst}
 use Rattle.domain_stories.specs.Free.{IsFree}

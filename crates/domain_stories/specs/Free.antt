@@ -2,7 +2,7 @@
 use Rattle.std.specs.Prelude.{◌≡◌, ◌⊎◌, true}
 use Rattle.atomic_table.specs.Seated.{TableId}
 pub use Rattle.domain_obj.specs.InTurn.{DomainPass}
-use Rattle.domain_obj.specs.Below.domain_cell.Meaning.{nothing_kept}
+use Rattle.domain_obj.specs.Below.domain_core.Meaning.{nothing_kept}
 
 -- nothing is kept for it, or it is spent
 abbrev pub IsFree : DomainPass → Type 0

@@ -1,6 +1,6 @@
 -- The reply of a call is that of its mark, or the domain came to no answer.
 use Rattle.std.proofs.Common.{◌≡◌, ◌⊎◌, inl, inr, ℕ, ◌++◌, List, [], ◌∷◌, true, Option, Some, refl, sym, ap, ◌∙◌, subst, append_assoc}
-use Rattle.virt_types.specs.declared.caller.Front.{Front}
+use Rattle.virt_types.specs.Below.types_base.declared.caller.Front.{Front}
 use Rattle.domain_spec.specs.Excluded.{excluded_reply}
 use Rattle.domain_spec.specs.Types.{Answer, Ask, Call, RefusalCode, Reply, Who}
 use Rattle.domain_spec.specs.Types.code

@@ -1,6 +1,6 @@
 -- Marks that a pass left, and where the last one is.
 use Rattle.std.proofs.Common.{◌≡◌, ℕ, ◌<◌, ◌≤◌, ◌+◌, ◌-◌, ◌++◌, List, [], ◌∷◌, length, Some, slice_get, refl, sym, ap, ◌∙◌, subst, append_assoc, length-append, arith}
-use Rattle.virt_types.specs.declared.caller.Front.{Front}
+use Rattle.virt_types.specs.Below.types_base.declared.caller.Front.{Front}
 use Rattle.outcome_spec.specs.Marks.{HasLeft, StandsAt}
 use Rattle.outcome_spec.specs.Rows.{Known}
 

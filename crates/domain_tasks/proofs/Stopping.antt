@@ -6,14 +6,14 @@ use Rattle.std.proofs.lemmas.Str.{IsUtf8-from_ascii, utf8_valid_len-IsUtf8}
 use Rattle.std.proofs.lemmas.Str.Ascii.{IsAscii-nil}
 use Rattle.std.specs.Str.{IsAscii}
 use Rattle.virt_types.specs.Refusal.{kept_cut}
-use Rattle.virt_types.specs.declared.refusal.Refusal.{Refusal}
-use Rattle.virt_types.specs.declared.refusal.RefusalCode.TheVariants as code
+use Rattle.virt_types.specs.Below.types_base.declared.refusal.Refusal.{Refusal}
+use Rattle.virt_types.specs.Below.types_base.declared.refusal.RefusalCode.TheVariants as code
 use Rattle.virt_types.specs.declared.value.Reply.{Reply}
 use Rattle.virt_types.specs.declared.value.Reply.TheVariants as reply
 use Rattle.domain_obj.specs.Replies.{TellsSpent}
 use Rattle.outcome_spec.specs.Rows.{DomainPass as KnownPass}
 use Rattle.outcome_spec.specs.Spent.{no_memory}
-use Rattle.domain_obj.specs.Below.refusal_replies.Replies.{no_memory_reply, spent_reply}
+use Rattle.domain_obj.specs.Below.refusals.Replies.{no_memory_reply, spent_reply}
 use Rattle.outcome_spec.specs.Below.reply_texts.Printed.{told}
 use Rattle.outcome_spec.specs.Below.session_spec.Refused.{refusal}
 use Rattle.domain_tasks.specs.Tasked.{IsStoppedAt}

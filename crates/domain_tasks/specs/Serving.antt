@@ -13,7 +13,7 @@ use Rattle.domain_spec.specs.Call.{begins, takes_up}
 use Rattle.domain_spec.specs.Types.{Answer, Ask, Call, Reply, Who}
 use Rattle.virt_types.specs.declared.ask.GuestEvent.{GuestEvent}
 use Rattle.virt_types.specs.declared.call.Query.{Query}
-use Rattle.virt_types.specs.declared.caller.Front.{Front}
+use Rattle.virt_types.specs.Below.types_base.declared.caller.Front.{Front}
 use Rattle.domain_tasks.specs.Telling.{TellsQueried, front_by, not_built_reply, seen_by, unseen}
 
 -- a query took a turn and read there, or no ticket was left

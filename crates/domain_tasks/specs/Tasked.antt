@@ -14,9 +14,9 @@ use Rattle.outcome_spec.specs.Spent.{no_memory}
 use Rattle.outcome_spec.specs.Below.session_spec.Refused.{refusal}
 use Rattle.turn_cell.specs.Turning.{SamePass}
 use Rattle.virt_types.specs.declared.ask.GuestEvent.{GuestEvent}
-use Rattle.virt_types.specs.declared.caller.Front.{Front}
-use Rattle.virt_types.specs.declared.refusal.Refusal.{Refusal}
-use Rattle.virt_types.specs.declared.refusal.RefusalCode.TheVariants as code
+use Rattle.virt_types.specs.Below.types_base.declared.caller.Front.{Front}
+use Rattle.virt_types.specs.Below.types_base.declared.refusal.Refusal.{Refusal}
+use Rattle.virt_types.specs.Below.types_base.declared.refusal.RefusalCode.TheVariants as code
 use Rattle.virt_types.specs.declared.value.Reply.TheVariants as reply
 use Rattle.domain_tasks.specs.Passes.{known}
 use Rattle.domain_tasks.specs.Serving.{HasServed}

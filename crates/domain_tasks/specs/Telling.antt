@@ -5,10 +5,10 @@ use Rattle.domain_obj.specs.declared.queries.Queried.{Queried}
 use Rattle.domain_obj.specs.declared.queries.Queried.TheVariants as queried
 use Rattle.domain_obj.specs.Replies.{TellsSpent}
 use Rattle.domain_spec.specs.Refusals.{bare}
-use Rattle.domain_obj.specs.Below.refusal_replies.Replies.{no_memory_reply}
+use Rattle.domain_obj.specs.Below.refusals.Replies.{no_memory_reply}
 use Rattle.outcome_spec.specs.Below.reply_texts.Printed.{told}
-use Rattle.virt_types.specs.declared.caller.Front.{Front}
-use Rattle.virt_types.specs.declared.refusal.RefusalCode.TheVariants as code
+use Rattle.virt_types.specs.Below.types_base.declared.caller.Front.{Front}
+use Rattle.virt_types.specs.Below.types_base.declared.refusal.RefusalCode.TheVariants as code
 use Rattle.virt_types.specs.declared.value.Reply.{Reply}
 use Rattle.virt_types.specs.declared.value.Reply.TheVariants as reply
 use Rattle.virt_types.specs.declared.value.Value.{Value}

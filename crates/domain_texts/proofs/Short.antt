@@ -7,7 +7,7 @@ use Rattle.text_spec.specs.Tree.{Tree}
 use Rattle.text_spec.specs.declared.fault.TextFault.{TextFault}
 use Rattle.text_spec.specs.declared.fault.TextKind.TheVariants as kind
 use Rattle.session_spec.specs.DefinitionText.{definition_in, of_text}
-use Rattle.virt_types.specs.declared.domain_def.DomainDef.{DomainDef}
+use Rattle.types_base.specs.declared.domain_def.DomainDef.{DomainDef}
 
 no_reading : (r : Result Tree TextFault) (f : TextFault) (d : DomainDef) → r ≡ Err f → of_text r ≡ Ok d → ⊥
 no_reading (Ok t) f d is e = cc

@@ -5,7 +5,7 @@ use Rattle.store_spec.specs.declared.entry.Entry.{Entry}
 use Rattle.store_spec.specs.declared.version.Version.{Version}
 use Rattle.store_spec.specs.declared.version.Version.TheVariants as version
 use Rattle.session_spec.specs.DefinitionText.{definition_in, text_of}
-use Rattle.virt_types.specs.declared.domain_def.DomainDef.{DomainDef}
+use Rattle.types_base.specs.declared.domain_def.DomainDef.{DomainDef}
 use Rattle.domain_texts.specs.Title.{title_of}
 
 -- the entry of a definition: its name, the flag, its title and its text

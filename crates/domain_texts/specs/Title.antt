@@ -2,7 +2,7 @@
 use Rattle.std.specs.Prelude.{ℕ, List, [], ◌==◌, unwrap_or}
 use Rattle.std.specs.List.{before_first}
 use Rattle.store_spec.specs.DefinitionFile.{line_feed}
-use Rattle.virt_types.specs.declared.domain_def.DomainDef.{DomainDef}
+use Rattle.types_base.specs.declared.domain_def.DomainDef.{DomainDef}
 
 -- a text up to its first line feed
 unfoldable pub first_line : List ℕ → List ℕ

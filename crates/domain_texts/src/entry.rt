@@ -8,7 +8,7 @@ ghost use Rattle.domain_texts.specs.Title.{title_of};
 use crate::title::{title_of, titles_are_lines};
 use std::alloc::Global;
 use store_spec::Entry;
-use virt_types::{DomainDef, Name, NoMemory, Text, TryCopy, both};
+use types_base::{DomainDef, Name, NoMemory, Text, TryCopy, both};
 
 /// The text of a definition.
 pub fn print_domain(alloc: Global, def: &DomainDef) -> Result<Text, NoMemory>

@@ -2,11 +2,11 @@
 ghost use Rattle.std.specs.Prelude.{◌≡◌, IfOk};
 ghost use Rattle.session_spec.specs.DefinitionText.{definition_in};
 ghost use Rattle.session_spec.specs.Refused.{at_place};
-ghost use Rattle.virt_types.specs.Memory.{UnlessNoMemory};
+ghost use Rattle.types_base.specs.Memory.{UnlessNoMemory};
 
 use domain_xml::{read, read_tree};
 use std::alloc::Global;
-use virt_types::{DomainDef, NoMemory, OrNoMemory, Text};
+use types_base::{DomainDef, NoMemory, OrNoMemory, Text};
 
 fn at_text(alloc: Global, at: u64) -> Result<Text, NoMemory>
     ensures { IfOk result (λ kept. kept ≡ at_place at) }

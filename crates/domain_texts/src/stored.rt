@@ -1,14 +1,14 @@
 // Which domain a definition in a store is of.
 ghost use Rattle.std.specs.Prelude.{◌≡◌, ◌≤◌, IfOk, IfSome, is_none, length};
 ghost use Rattle.std.specs.List.{list_any};
-ghost use Rattle.virt_types.specs.Limits.{most_text_bytes};
+ghost use Rattle.types_base.specs.Limits.{most_text_bytes};
 ghost use Rattle.domain_texts.specs.Kept.{has_addresses, is_own, names_uuid, own, stored, tells_title};
 
 use crate::reading::read_domain;
 use crate::title::title_of;
 use std::alloc::Global;
 use store_spec::{Entry, Version};
-use virt_types::{DomainDef, Interface, NoMemory, OrNoMemory, Text, Uuid};
+use types_base::{DomainDef, Interface, NoMemory, OrNoMemory, Text, Uuid};
 
 fn names_uuid(uuid: Uuid, own: Option<Uuid>) -> bool
     ensures { result ≡ names_uuid uuid own }

@@ -3,7 +3,7 @@ ghost use Rattle.std.specs.Prelude.{◌≡◌, false};
 ghost use Rattle.store_spec.specs.DefinitionFile.{has_feed};
 ghost use Rattle.domain_texts.specs.Title.{first_line, title_of};
 
-use virt_types::DomainDef;
+use types_base::DomainDef;
 
 // A text up to its first line feed.
 fn first_line(text: &str) -> &str

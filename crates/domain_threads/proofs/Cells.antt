@@ -3,25 +3,25 @@ use denote.Builtin.{u64}
 use denote.Param.Send.{IsSend, plain_send, recorded_send, struct_send, view_send}
 use denote.RattleType.{RattleType}
 use denote.Struct.Declared as struct
-use Rattle.domain_obj.proofs.Below.domain_cell.link.Here.TheSendSync as here
-use Rattle.domain_obj.specs.Below.domain_cell.contracts.cell.DomainCell
-use Rattle.domain_obj.specs.Below.domain_cell.contracts.cell.DomainCell.TheInside as cell
-use Rattle.domain_obj.specs.Below.domain_cell.contracts.link.Here
-use Rattle.domain_obj.specs.Below.domain_cell.contracts.turns.DomainTurns
-use Rattle.domain_obj.specs.Below.domain_cell.contracts.turns.DomainTurns.TheInside as turns
-use Rattle.domain_listeners.proofs.listeners.Listeners.TheSendSync as listeners
-use Rattle.domain_queue.proofs.queue.Queue.TheSendSync as queue
-use Rattle.domain_obj.specs.Below.domain_record.contracts.record.Record
-use Rattle.domain_obj.specs.Below.domain_record.contracts.record.Record.TheInside as kept
+use Rattle.domain_obj.proofs.Below.domain_core.link.Here.TheSendSync as here
+use Rattle.domain_obj.specs.Below.domain_core.contracts.cell.DomainCell
+use Rattle.domain_obj.specs.Below.domain_core.contracts.cell.DomainCell.TheInside as cell
+use Rattle.domain_obj.specs.Below.domain_core.contracts.link.Here
+use Rattle.domain_obj.specs.Below.domain_core.contracts.turns.DomainTurns
+use Rattle.domain_obj.specs.Below.domain_core.contracts.turns.DomainTurns.TheInside as turns
+use Rattle.event_queue.proofs.listeners.Listeners.TheSendSync as listeners
+use Rattle.job_rules.proofs.queue.Queue.TheSendSync as queue
+use Rattle.domain_obj.specs.Below.core_log.contracts.record.Record
+use Rattle.domain_obj.specs.Below.core_log.contracts.record.Record.TheInside as kept
 use Rattle.domain_threads.proofs.Ledgers.{ledger_send}
-use Rattle.domain_obj.proofs.Below.domain_turns.ears.LentEars.TheSendSync as lent
-use Rattle.domain_obj.proofs.Below.domain_turns.held.HeldEvent.TheSendSync as held
-use Rattle.domain_obj.proofs.Below.domain_turns.held.OneRoom.TheSendSync as room
-use Rattle.domain_obj.proofs.Below.domain_turns.refusing.Refusable.TheSendSync as refusable
-use Rattle.domain_obj.specs.Below.domain_turns.contracts.ears.LentEars
-use Rattle.domain_obj.specs.Below.domain_turns.contracts.held.HeldEvent
-use Rattle.domain_obj.specs.Below.domain_turns.contracts.held.OneRoom
-use Rattle.domain_obj.specs.Below.domain_turns.contracts.refusing.Refusable
+use Rattle.domain_obj.proofs.Below.core_steps.ears.LentEars.TheSendSync as lent
+use Rattle.domain_obj.proofs.Below.core_steps.held.HeldEvent.TheSendSync as held
+use Rattle.domain_obj.proofs.Below.core_steps.held.OneRoom.TheSendSync as room
+use Rattle.domain_obj.proofs.Below.core_steps.refusing.Refusable.TheSendSync as refusable
+use Rattle.domain_obj.specs.Below.core_steps.contracts.ears.LentEars
+use Rattle.domain_obj.specs.Below.core_steps.contracts.held.HeldEvent
+use Rattle.domain_obj.specs.Below.core_steps.contracts.held.OneRoom
+use Rattle.domain_obj.specs.Below.core_steps.contracts.refusing.Refusable
 use Rattle.std.proofs.Crossing.{Vec-send}
 use Rattle.std.proofs.option.Option.TheSendSync as option
 

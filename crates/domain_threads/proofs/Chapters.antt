@@ -2,16 +2,16 @@
 use denote.Builtin.{u64}
 use denote.Param.Send.{IsSend, plain_send, recorded_send, struct_send, view_send}
 use denote.Struct.Declared as struct
-use Rattle.domain_obj.proofs.Below.domain_history.base.KeptRegistration.TheSendSync as registration
-use Rattle.domain_obj.proofs.Below.domain_history.open.Underway.TheSendSync as underway
-use Rattle.domain_obj.specs.Below.domain_history.contracts.base.ChapterBase
-use Rattle.domain_obj.specs.Below.domain_history.contracts.base.ChapterBase.TheInside as base
-use Rattle.domain_obj.specs.Below.domain_history.contracts.base.KeptRegistration
-use Rattle.domain_obj.specs.Below.domain_history.contracts.chapter.Chapter
-use Rattle.domain_obj.specs.Below.domain_history.contracts.chapter.Chapter.TheInside as chapter
-use Rattle.domain_obj.specs.Below.domain_history.contracts.open.LetIn
-use Rattle.domain_obj.specs.Below.domain_history.contracts.open.LetIn.TheInside as let_in
-use Rattle.domain_obj.specs.Below.domain_history.contracts.open.Underway
+use Rattle.domain_obj.proofs.Below.core_chapter.base.KeptRegistration.TheSendSync as registration
+use Rattle.domain_obj.proofs.Below.core_chapter.open.Underway.TheSendSync as underway
+use Rattle.domain_obj.specs.Below.core_chapter.contracts.base.ChapterBase
+use Rattle.domain_obj.specs.Below.core_chapter.contracts.base.ChapterBase.TheInside as base
+use Rattle.domain_obj.specs.Below.core_chapter.contracts.base.KeptRegistration
+use Rattle.domain_obj.specs.Below.core_chapter.contracts.chapter.Chapter
+use Rattle.domain_obj.specs.Below.core_chapter.contracts.chapter.Chapter.TheInside as chapter
+use Rattle.domain_obj.specs.Below.core_chapter.contracts.open.LetIn
+use Rattle.domain_obj.specs.Below.core_chapter.contracts.open.LetIn.TheInside as let_in
+use Rattle.domain_obj.specs.Below.core_chapter.contracts.open.Underway
 use Rattle.domain_spec.proofs.mark.Mark.TheSendSync as mark
 use Rattle.domain_spec.specs.contracts.mark.Mark
 use Rattle.domain_threads.proofs.States.{state_field_send}
@@ -22,9 +22,9 @@ use Rattle.std.proofs.option.Option.TheSendSync as option
 use Rattle.std.specs.contracts.snapshot.Snapshot
 use Rattle.virt_types.proofs.answer.Job.TheSendSync as job
 use Rattle.virt_types.proofs.call.Call.TheSendSync as call
-use Rattle.virt_types.proofs.caller.Who.TheSendSync as who
-use Rattle.virt_types.proofs.list.ListOf.TheSendSync as list
-use Rattle.virt_types.proofs.room.RoomyList.TheSendSync as roomy
+use Rattle.virt_types.proofs.Below.types_base.caller.Who.TheSendSync as who
+use Rattle.virt_types.proofs.Below.types_base.list.ListOf.TheSendSync as list
+use Rattle.virt_types.proofs.Below.types_base.room.RoomyList.TheSendSync as roomy
 use Rattle.virt_types.specs.contracts.domain.State
 
 base_send : IsSend ChapterBase.the_row

@@ -6,13 +6,13 @@ use Rattle.core_rules.proofs.ends.CallEnd.TheSendSync as end
 use Rattle.core_rules.proofs.ends.PhaseTexts.TheSendSync as texts
 use Rattle.core_rules.proofs.state_room.StateRoom.TheSendSync as room
 use Rattle.core_rules.specs.contracts.state_room.StateRoom
-use Rattle.domain_obj.proofs.Below.domain_asks.course.Course.TheSendSync as course
-use Rattle.domain_obj.specs.Below.domain_driver.contracts.phases.PhaseParts
-use Rattle.domain_obj.proofs.Below.domain_ledger.away.Away.TheSendSync as away
-use Rattle.domain_obj.specs.Below.domain_ledger.contracts.ledger.Ledger
-use Rattle.domain_obj.specs.Below.domain_ledger.contracts.ledger.Ledger.TheInside as ledger
-use Rattle.domain_obj.specs.Below.domain_ledger.contracts.out.Out
-use Rattle.domain_obj.specs.Below.domain_ledger.contracts.phase_out.PhaseOut
+use Rattle.domain_obj.proofs.Below.core_plan.course.Course.TheSendSync as course
+use Rattle.domain_obj.specs.Below.core_dispatch.contracts.phases.PhaseParts
+use Rattle.domain_obj.proofs.Below.core_flight.away.Away.TheSendSync as away
+use Rattle.domain_obj.specs.Below.core_flight.contracts.ledger.Ledger
+use Rattle.domain_obj.specs.Below.core_flight.contracts.ledger.Ledger.TheInside as ledger
+use Rattle.domain_obj.specs.Below.core_flight.contracts.out.Out
+use Rattle.domain_obj.specs.Below.core_flight.contracts.phase_out.PhaseOut
 use Rattle.domain_threads.proofs.Chapters.{chapter_send}
 use Rattle.domain_threads.proofs.States.{new_send}
 use Rattle.lifecycle_core.proofs.memory.PhaseParts.TheSendSync as lifecycle
@@ -21,13 +21,13 @@ use Rattle.save_core.specs.contracts.phase_memory.PhaseParts as saved
 use Rattle.snapshot_core.specs.contracts.made.PhaseParts as made
 use Rattle.snapshot_core.specs.contracts.taking.Taking
 use Rattle.std.proofs.option.Option.TheSendSync as option
-use Rattle.virt_types.proofs.boxed.Boxed.TheSendSync as boxed
-use Rattle.virt_types.proofs.name.Name.TheSendSync as name
-use Rattle.virt_types.proofs.room.RoomyList.TheSendSync as roomy
-use Rattle.virt_types.proofs.transition.Transition.TheSendSync as transition
-use Rattle.virt_types.specs.contracts.name.Name
-use Rattle.virt_types.specs.contracts.room.RoomyList
-use Rattle.virt_types.specs.contracts.transition.Transition
+use Rattle.virt_types.proofs.Below.types_base.boxed.Boxed.TheSendSync as boxed
+use Rattle.virt_types.proofs.Below.types_base.name.Name.TheSendSync as name
+use Rattle.virt_types.proofs.Below.types_base.room.RoomyList.TheSendSync as roomy
+use Rattle.virt_types.proofs.Below.types_base.transition.Transition.TheSendSync as transition
+use Rattle.virt_types.specs.Below.types_base.contracts.name.Name
+use Rattle.virt_types.specs.Below.types_base.contracts.room.RoomyList
+use Rattle.virt_types.specs.Below.types_base.contracts.transition.Transition
 
 taking_send : IsSend Taking.the_row
 taking_send = recorded_send (Taking.the_field).row _ _ (Taking.the_type).to_one (struct_send (struct.shape Taking.the_type)

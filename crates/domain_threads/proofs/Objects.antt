@@ -4,9 +4,9 @@ use denote.Builtin.{u64}
 use denote.Param.Send.{IsSend, IsSync, recorded_sync, struct_sync, view_sync}
 use denote.RattleType.{RattleType}
 use denote.Struct.Declared as struct
-use Rattle.domain_obj.specs.Below.domain_cell.contracts.cell.DomainCell
-use Rattle.domain_obj.specs.Below.domain_cell.contracts.kept.DomainCellKept.TheImpl.{ghosts, no_dict}
-use Rattle.domain_obj.specs.Below.domain_cell.contracts.kept.Share
+use Rattle.domain_obj.specs.Below.domain_core.contracts.cell.DomainCell
+use Rattle.domain_obj.specs.Below.domain_core.contracts.kept.DomainCellKept.TheImpl.{ghosts, no_dict}
+use Rattle.domain_obj.specs.Below.domain_core.contracts.kept.Share
 use Rattle.domain_obj.specs.contracts.object.DomainObj
 use Rattle.domain_obj.specs.contracts.object.DomainObj.TheInside as object
 use Rattle.domain_spec.specs.contracts.mark.Mark

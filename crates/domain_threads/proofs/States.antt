@@ -10,21 +10,21 @@ use mathlib.Core.List.{List, [], ◌∷◌}
 use Rattle.std.proofs.Crossing.{Box-send}
 use Rattle.std.proofs.option.Option.TheSendSync as option
 use Rattle.uuid.proofs.Uuid.TheSendSync as uuid
-use Rattle.virt_types.proofs.boxed.Boxed.TheSendSync as boxed
+use Rattle.virt_types.proofs.Below.types_base.boxed.Boxed.TheSendSync as boxed
 use Rattle.virt_types.proofs.domain.Live.TheSendSync as live
 use Rattle.virt_types.proofs.domain.Snap.TheSendSync as snap
-use Rattle.virt_types.proofs.domain_def.DomainDef.TheSendSync as definition
-use Rattle.virt_types.proofs.name.Name.TheSendSync as name
+use Rattle.virt_types.proofs.Below.types_base.domain_def.DomainDef.TheSendSync as definition
+use Rattle.virt_types.proofs.Below.types_base.name.Name.TheSendSync as name
 use Rattle.virt_types.proofs.operation.Op.TheSendSync as op
 use Rattle.virt_types.proofs.run_state.EndReason.TheSendSync as reason
 use Rattle.virt_types.proofs.snap_tree.SnapTree.TheLaws.TheKnot as knot
-use Rattle.virt_types.specs.contracts.boxed.Boxed
+use Rattle.virt_types.specs.Below.types_base.contracts.boxed.Boxed
 use Rattle.virt_types.specs.contracts.domain.Domain
 use Rattle.virt_types.specs.contracts.domain.Live
 use Rattle.virt_types.specs.contracts.domain.Snap
 use Rattle.virt_types.specs.contracts.domain.State
-use Rattle.virt_types.specs.contracts.domain_def.DomainDef
-use Rattle.virt_types.specs.contracts.name.Name
+use Rattle.virt_types.specs.Below.types_base.contracts.domain_def.DomainDef
+use Rattle.virt_types.specs.Below.types_base.contracts.name.Name
 use Rattle.virt_types.specs.contracts.operation.Op
 use Rattle.virt_types.specs.contracts.run_state.EndReason
 use Rattle.virt_types.specs.contracts.snap_list.SnapList

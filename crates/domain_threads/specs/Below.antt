@@ -1,4 +1,4 @@
 -- Libraries below this one that are passed on: crates above name them here.
-pub use Rattle.domain_obj.specs.Below.domain_cell as domain_cell
-pub use Rattle.domain_obj.specs.Below.domain_history as domain_history
+pub use Rattle.domain_obj.specs.Below.domain_core as domain_core
+pub use Rattle.domain_obj.specs.Below.core_chapter as core_chapter
 pub use Rattle.domain_obj.specs as domain_obj

@@ -1,7 +1,7 @@
 -- What is read of a tree fits a text.
 use Rattle.std.proofs.Common.{◌≡◌, Bool, true, false, refl, cond, sym, ◌∙◌, ap}
 use Rattle.std.specs.Prelude.{Result, Ok, Err}
-use Rattle.virt_types.specs.declared.domain_def.DomainDef.{DomainDef}
+use Rattle.types_base.specs.declared.domain_def.DomainDef.{DomainDef}
 use Rattle.text_spec.specs.declared.definition.DefFault.{DefFault}
 use Rattle.text_spec.specs.Definition.{domain_read, not_too_long}
 use Rattle.text_spec.specs.DomainPrinted.{domain_fits}

@@ -1,2 +1,2 @@
 -- Libraries below this one that are passed on: crates above name them here.
-pub use Rattle.live_print.specs as live_print
+pub use Rattle.device_xml.specs.Below.xml_print as xml_print

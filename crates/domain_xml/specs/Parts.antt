@@ -2,9 +2,9 @@
 use Rattle.std.specs.Prelude.{ℕ, ◌+◌, List, [], ◌∷◌, length, map, nat_lt, Option, Some, None, unwrap_or, option_map, option_and_then, if◌then◌else◌}
 use Rattle.std.specs.Option.{option_or}
 use Rattle.uuid.specs.Text.{parsed}
-use Rattle.virt_types.specs.declared.domain_def.DomainDef.{DomainDef}
-use Rattle.virt_types.specs.declared.domain_def.LifecycleAction.TheVariants as action
-use Rattle.virt_types.specs.declared.domain_def.Os.{Os}
+use Rattle.types_base.specs.declared.domain_def.DomainDef.{DomainDef}
+use Rattle.types_base.specs.declared.domain_def.LifecycleAction.TheVariants as action
+use Rattle.types_base.specs.declared.domain_def.Os.{Os}
 use Rattle.text_spec.specs.declared.definition.DefFault.{DefFault}
 use Rattle.text_spec.specs.declared.definition.DefKind.TheVariants as kind
 use Rattle.text_spec.specs.declared.device_kind.DeviceKind.{DeviceKind}

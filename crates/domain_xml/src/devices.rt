@@ -9,12 +9,12 @@ ghost use Rattle.domain_xml.specs.Parts as parts;
 use crate::lists::{
     characters_among, disks_among, graphics_among, interfaces_among, memballoon_of,
 };
-use element_table::{copied_value, first_of};
 use std::alloc::Global;
 use text_spec::{ElementName, Place, Source, Tree};
-use virt_types::{
+use types_base::{
     CharacterDeviceList, DiskList, GraphicsList, InterfaceList, Memballoon, NoMemory, Text, both,
 };
+use xml_tables::{copied_value, first_of};
 
 /// The devices of a domain.
 #[derive(Drop)]

@@ -5,11 +5,11 @@ ghost use Rattle.text_spec.specs.Tree.{seen};
 ghost use Rattle.uuid.specs.Text.{parsed};
 ghost use Rattle.domain_xml.specs.Parts as parts;
 
-use element_table::{attribute_of, copied_value, domain_type_of, entries_of, value_at};
 use std::alloc::Global;
 use text_spec::{AttributeName, ElementName, Place, Source, Tree};
+use types_base::{DomainType, Name, NoMemory, Script, ScriptEntryList, Text, TryCopy, both};
 use uuid::Uuid;
-use virt_types::{DomainType, Name, NoMemory, Script, ScriptEntryList, Text, TryCopy, both};
+use xml_tables::{attribute_of, copied_value, domain_type_of, entries_of, value_at};
 
 /// What a domain is called, and what is written about it.
 #[derive(Drop)]

@@ -9,7 +9,6 @@ mod reading;
 mod resources;
 mod table;
 
-pub use device_xml::{fill_domain, print_domain};
-pub use live_print::{print_live, read_tree};
+pub use device_xml::{fill_domain, print_domain, print_live, read_tree};
 pub use reading::{read, what_is_read_fits};
 pub use text_spec::{DefFault, DefKind};

@@ -6,10 +6,10 @@ ghost use Rattle.text_spec.specs.Look.{is_element as is_named};
 ghost use Rattle.text_spec.specs.Tree.{seen};
 
 use device_xml::{disk_of, interface_of};
-use element_table::{copied_attribute, is_element};
 use std::alloc::Global;
 use text_spec::{AttributeName, ElementName, Tree};
-use virt_types::{CharacterDevice, Disk, Graphics, Interface, Memballoon, NoMemory, both};
+use types_base::{CharacterDevice, Disk, Graphics, Interface, Memballoon, NoMemory, both};
+use xml_tables::{copied_attribute, is_element};
 
 fn character_device_of(tree: &Tree) -> Result<CharacterDevice, NoMemory>
     ensures { IfOk result (λ d. d ≡ spec.character_device_of (seen tree.now)) }

@@ -5,10 +5,10 @@ ghost use Rattle.text_spec.specs.DomainValue as spec;
 ghost use Rattle.text_spec.specs.Look.{is_element as is_named, elements_at, all_of};
 ghost use Rattle.text_spec.specs.Tree.{seen};
 
-use element_table::{attribute_of, boot_device_of, copied_value, first_of, is_element, value_at};
 use std::alloc::Global;
 use text_spec::{AttributeName, ElementName, Place, Source, Tree};
-use virt_types::{BootDevice, BootDeviceList, NoMemory, Os, Text, TryCopy, both};
+use types_base::{BootDevice, BootDeviceList, NoMemory, Os, Text, TryCopy, both};
+use xml_tables::{attribute_of, boot_device_of, copied_value, first_of, is_element, value_at};
 
 const TYPE: Place = Place::Inside(ElementName::Os, ElementName::Type);
 

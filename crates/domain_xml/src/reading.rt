@@ -8,8 +8,8 @@ ghost use Rattle.text_spec.specs.Look.{all_of, is_element as is_named};
 ghost use Rattle.text_spec.specs.Tests.{Tests};
 ghost use Rattle.text_spec.specs.Tree as spec_tree;
 ghost use Rattle.text_spec.specs.Tree.{seen};
-ghost use Rattle.virt_types.specs.Memory.{UnlessNoMemory};
-ghost use Rattle.virt_types.specs.declared.domain_def.DomainDef.{DomainDef};
+ghost use Rattle.types_base.specs.Memory.{UnlessNoMemory};
+ghost use Rattle.types_base.specs.declared.domain_def.DomainDef.{DomainDef};
 ghost use Rattle.domain_xml.specs.Parts as parts;
 
 use crate::devices::{Devices, devices_in};
@@ -20,10 +20,10 @@ use crate::resources::{
 };
 use crate::table::rows;
 use device_xml::{devices_test, domain_fits};
-use element_table::{fault_at, fault_of_root, first_of, is_element, rows_test};
 use std::alloc::Global;
 use text_spec::{DefFault, DefKind, DeviceKind, ElementName, MOST_DEVICES, Place, Tree};
-use virt_types::{DomainDef, LifecycleAction, NoMemory, OrNoMemory, Os, both};
+use types_base::{DomainDef, LifecycleAction, NoMemory, OrNoMemory, Os, both};
+use xml_tables::{fault_at, fault_of_root, first_of, is_element, rows_test};
 
 /// Tests the devices of a kind in the element `devices`, if there is one.
 #[tactic(auto, unfolding(text_spec::specs::DeviceList::devices_fault))]

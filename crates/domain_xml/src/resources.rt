@@ -5,11 +5,11 @@ ghost use Rattle.text_spec.specs.GuestScript.{number_within};
 ghost use Rattle.text_spec.specs.Tree.{seen};
 
 use crate::head::own_text;
-use element_table::{
+use text_spec::{AttributeName, ElementName, MOST_VCPUS, Place, Source, Tree};
+use types_base::{CrashAction, LifecycleAction, Text};
+use xml_tables::{
     crash_action_of, first_of, lifecycle_action_of, memory_size, read_number, value_at,
 };
-use text_spec::{AttributeName, ElementName, MOST_VCPUS, Place, Source, Tree};
-use virt_types::{CrashAction, LifecycleAction, Text};
 
 #[tactic(auto, using(text_spec::proofs::Seen::text_seen))]
 fn memory_in(element: &Tree) -> Option<u64>

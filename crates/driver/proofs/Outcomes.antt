@@ -16,9 +16,9 @@ use Rattle.slot_holds.specs.Holds.{call_of}
 use Rattle.slot_holds.specs.declared.Hold.{Hold}
 use Rattle.held_tasks.specs.OfDesks.{StorePass}
 use Rattle.virt_types.specs.declared.ask.GuestEvent.{GuestEvent}
-use Rattle.virt_types.specs.declared.caller.CellName.{CellName}
-use Rattle.virt_types.specs.declared.caller.CellName.TheVariants as cell
-use Rattle.virt_types.specs.declared.caller.Front.{Front}
+use Rattle.virt_types.specs.Below.types_base.declared.caller.CellName.{CellName}
+use Rattle.virt_types.specs.Below.types_base.declared.caller.CellName.TheVariants as cell
+use Rattle.virt_types.specs.Below.types_base.declared.caller.Front.{Front}
 use Rattle.virt_types.specs.declared.request.Request.{Request}
 use Rattle.virt_types.specs.declared.value.Reply.TheVariants as reply
 use Rattle.driver.specs.Called.{CameTo, of_nobody, of_store}

@@ -10,8 +10,8 @@ use Rattle.request_asks.specs.declared.asked.Listing.{Listing}
 use Rattle.request_asks.specs.declared.asked.Listing.TheVariants as listing
 use Rattle.request_asks.specs.Below.session_spec.Bounds.{passed}
 use Rattle.held_tasks.specs.OfDesks.{StorePass}
-use Rattle.virt_types.specs.declared.caller.Front.{Front}
-use Rattle.virt_types.specs.declared.refusal.Refusal.{Refusal}
+use Rattle.virt_types.specs.Below.types_base.declared.caller.Front.{Front}
+use Rattle.virt_types.specs.Below.types_base.declared.refusal.Refusal.{Refusal}
 use Rattle.virt_types.specs.declared.request.Request.{Request}
 use Rattle.virt_types.specs.declared.request.Request.TheVariants as request
 use Rattle.virt_types.specs.declared.value.Reply.TheVariants as reply

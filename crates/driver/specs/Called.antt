@@ -6,7 +6,7 @@ use Rattle.held_tasks.specs.OfRows.{DriverRow, known_row, no_front}
 use Rattle.files_disk.specs.Telling.{Told}
 use Rattle.held_tasks.specs.Course.{HasServedHeld}
 use Rattle.held_tasks.specs.OfOutcomes.{HasOutcome, Outcome, ReadsNow}
-use Rattle.refusal_replies.specs.Replies.{no_memory_reply}
+use Rattle.refusals.specs.Replies.{no_memory_reply}
 use Rattle.request_asks.specs.Found.{IsFound, Leaves, restored_from}
 use Rattle.request_asks.specs.declared.asked.Asked.{Asked}
 use Rattle.request_asks.specs.declared.asked.Asked.TheVariants as asked
@@ -14,8 +14,8 @@ use Rattle.request_asks.specs.declared.asked.Listing.{Listing}
 use Rattle.request_asks.specs.declared.asked.Listing.TheVariants as listing
 use Rattle.slot_holds.specs.Holds.{call_of}
 use Rattle.virt_types.specs.declared.ask.GuestEvent.{GuestEvent}
-use Rattle.virt_types.specs.declared.caller.CellName.TheVariants as cell
-use Rattle.virt_types.specs.declared.caller.Front.{Front}
+use Rattle.virt_types.specs.Below.types_base.declared.caller.CellName.TheVariants as cell
+use Rattle.virt_types.specs.Below.types_base.declared.caller.Front.{Front}
 use Rattle.virt_types.specs.declared.request.Request.{Request}
 use Rattle.virt_types.specs.declared.request.Request.TheVariants as request
 use Rattle.virt_types.specs.declared.value.Reply.TheVariants as reply

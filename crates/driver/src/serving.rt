@@ -11,7 +11,7 @@ use driver_lists::{list_all, list_defined, tell_titles};
 use files_disk::Files;
 use held_tasks::{Cells, Maker, Outcome, Row, run_out, serve_held, state_of};
 use pass_rows::{RestingPass, RowOf};
-use refusal_replies::no_memory;
+use refusals::no_memory;
 use request_asks::{Asked, Listing, Opening, read_request};
 use std::alloc::Global;
 use std::sync::Wait;

@@ -2,7 +2,7 @@
 use Rattle.std.proofs.Common.{◌≡◌, ◌⊎◌, ℕ, zero, suc, Bool, true, false, List, [], ◌∷◌, map, slice_get, Some, inl, inr, ⊎_elim, refl, arith}
 use Rattle.std.specs.List.{All}
 use Rattle.std.proofs.lemmas.List.Elements.{All-cons, All-nil}
-use Rattle.domain_tasks.specs.Below.domain_cell.Meaning.{meaning}
+use Rattle.domain_tasks.specs.Below.domain_core.Meaning.{meaning}
 use Rattle.domain_tasks.specs.OfObjects.{DomainPass}
 use Rattle.object_list.specs.Keeping.{meaning as list_meaning}
 use Rattle.domain_tasks.specs.Below.def_keeper.Turns.{meaning as store_meaning}

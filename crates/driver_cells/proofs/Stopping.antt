@@ -1,14 +1,14 @@
 -- Replies where the request came to no answer of a cell.
 use Rattle.std.proofs.Common.{◌≡◌, ◌⊎◌, ◌^◌, [], true, false, decimal, inl, inr, refl}
-use Rattle.domain_tasks.specs.Below.domain_cell.Meaning.{meaning}
+use Rattle.domain_tasks.specs.Below.domain_core.Meaning.{meaning}
 use Rattle.domain_tasks.specs.OfObjects.{TellsSpent}
 use Rattle.domain_tasks.specs.Tasked.{IsStoppedAt}
 use Rattle.domain_tasks.proofs.Stopping.{spent_printed, stops_none}
 use Rattle.domain_tasks.specs.OfOutcomes.{DomainPass as KnownPass, HasSpent, IsStopped, KnownRow, no_memory}
-use Rattle.domain_tasks.specs.Below.refusal_replies.Replies.{no_memory_reply, spent_reply}
+use Rattle.domain_tasks.specs.Below.refusals.Replies.{no_memory_reply, spent_reply}
 use Rattle.domain_tasks.specs.Below.session_spec.Refused.{refusal}
-use Rattle.virt_types.specs.declared.refusal.Refusal.{Refusal}
-use Rattle.virt_types.specs.declared.refusal.RefusalCode.TheVariants as code
+use Rattle.virt_types.specs.Below.types_base.declared.refusal.Refusal.{Refusal}
+use Rattle.virt_types.specs.Below.types_base.declared.refusal.RefusalCode.TheVariants as code
 use Rattle.virt_types.specs.declared.value.Reply.{Reply}
 use Rattle.virt_types.specs.declared.value.Reply.TheVariants as reply
 

@@ -4,7 +4,7 @@ use Rattle.book_spec.specs.Slots.{Slots}
 use Rattle.book_spec.specs.declared.list.ListMark.{ListMark}
 use Rattle.domain_tasks.specs.Below.def_keeper.declared.mark.StoreBase.{StoreBase}
 use Rattle.domain_tasks.specs.Below.def_keeper.declared.mark.StoreMark.{StoreMark}
-use Rattle.domain_tasks.specs.Below.domain_cell.Celled.{CellShare}
+use Rattle.domain_tasks.specs.Below.domain_core.Celled.{CellShare}
 use Rattle.domain_spec.specs.declared.mark.Mark.{Mark}
 use Rattle.domain_spec.specs.declared.standing.Base.{Base}
 use Rattle.domain_tasks.specs.OfOutcomes.{Known, KnownRow}

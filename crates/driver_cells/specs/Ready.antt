@@ -2,7 +2,7 @@
 use Rattle.std.specs.Prelude.{◌≡◌, ◌⊎◌, true, length}
 use Rattle.std.specs.List.{All}
 use Rattle.book_spec.specs.Slots.{no_holds}
-use Rattle.domain_tasks.specs.Below.domain_cell.Meaning.{nothing_kept}
+use Rattle.domain_tasks.specs.Below.domain_core.Meaning.{nothing_kept}
 use Rattle.domain_tasks.specs.OfObjects.{DomainPass}
 use Rattle.object_list.specs.Turns.{ListPassed}
 use Rattle.virt_types.specs.Limits.{most_domains}

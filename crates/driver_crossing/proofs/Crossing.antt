@@ -12,9 +12,9 @@ use Rattle.def_keeper.specs.contracts.kept.KeeperKept.TheImpl as storing
 use Rattle.def_keeper.specs.contracts.mark.StoreBase
 use Rattle.def_keeper.specs.contracts.mark.StoreMark
 use Rattle.def_keeper.specs.declared.opening.Opening as opening
-use Rattle.domain_threads.specs.Below.domain_cell.contracts.cell.DomainCell
-use Rattle.domain_threads.specs.Below.domain_cell.contracts.kept.DomainCellKept.TheImpl as domain
-use Rattle.domain_threads.specs.Below.domain_cell.contracts.kept.Share
+use Rattle.domain_threads.specs.Below.domain_core.contracts.cell.DomainCell
+use Rattle.domain_threads.specs.Below.domain_core.contracts.kept.DomainCellKept.TheImpl as domain
+use Rattle.domain_threads.specs.Below.domain_core.contracts.kept.Share
 use Rattle.domain_threads.specs.Below.domain_obj.contracts.object.DomainObj
 use Rattle.domain_spec.specs.contracts.mark.Mark
 use Rattle.domain_spec.specs.contracts.standing.Base
@@ -49,7 +49,7 @@ use Rattle.std.specs.contracts.impls.GlobalAllocator.TheImpl as heap
 use Rattle.std.specs.contracts.option.Option
 use Rattle.turn_cell.proofs.cell.TurnCell.TheSendSync as cell
 use Rattle.turn_cell.specs.declared.kept.Kept as kept
-use Rattle.virt_types.proofs.list.ListOf.TheSendSync as list_of
+use Rattle.virt_types.proofs.Below.types_base.list.ListOf.TheSendSync as list_of
 use Rattle.virt_types.proofs.request.Request.TheSendSync as request
 use Rattle.virt_types.proofs.status.Status.TheSendSync as status
 use Rattle.virt_types.specs.contracts.request.Request

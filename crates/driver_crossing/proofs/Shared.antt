@@ -7,14 +7,14 @@ use denote.RattleType.{RattleType}
 use denote.Struct.Declared as struct
 use denote.Struct.Tuple as tuple
 use mathlib.Core.List.{List, [], ◌∷◌}
-use Rattle.domain_threads.proofs.Below.domain_history.base.KeptRegistration.TheSendSync as registration
-use Rattle.domain_threads.proofs.Below.domain_history.open.Underway.TheSendSync as underway
-use Rattle.domain_threads.specs.Below.domain_history.contracts.base.ChapterBase
-use Rattle.domain_threads.specs.Below.domain_history.contracts.base.ChapterBase.TheInside as base
-use Rattle.domain_threads.specs.Below.domain_history.contracts.base.KeptRegistration
-use Rattle.domain_threads.specs.Below.domain_history.contracts.chronicle.Chronicle
-use Rattle.domain_threads.specs.Below.domain_history.contracts.chronicle.Chronicle.TheInside as chronicle
-use Rattle.domain_threads.specs.Below.domain_history.contracts.open.Underway
+use Rattle.domain_threads.proofs.Below.core_chapter.base.KeptRegistration.TheSendSync as registration
+use Rattle.domain_threads.proofs.Below.core_chapter.open.Underway.TheSendSync as underway
+use Rattle.domain_threads.specs.Below.core_chapter.contracts.base.ChapterBase
+use Rattle.domain_threads.specs.Below.core_chapter.contracts.base.ChapterBase.TheInside as base
+use Rattle.domain_threads.specs.Below.core_chapter.contracts.base.KeptRegistration
+use Rattle.domain_threads.specs.Below.core_chapter.contracts.chronicle.Chronicle
+use Rattle.domain_threads.specs.Below.core_chapter.contracts.chronicle.Chronicle.TheInside as chronicle
+use Rattle.domain_threads.specs.Below.core_chapter.contracts.open.Underway
 use Rattle.domain_spec.proofs.mark.Mark.TheSendSync as mark
 use Rattle.domain_spec.specs.contracts.mark.Mark
 use Rattle.driver_service.specs.Below.driver_open.contracts.histories.HistoryRoom
@@ -24,22 +24,22 @@ use Rattle.history_spec.specs.contracts.stamp.Stamp
 use Rattle.std.proofs.Crossing.{Box-sync, Vec-sync}
 use Rattle.std.proofs.option.Option.TheSendSync as option
 use Rattle.uuid.proofs.Uuid.TheSendSync as uuid
-use Rattle.virt_types.proofs.boxed.Boxed.TheSendSync as boxed
+use Rattle.virt_types.proofs.Below.types_base.boxed.Boxed.TheSendSync as boxed
 use Rattle.virt_types.proofs.domain.Live.TheSendSync as live
 use Rattle.virt_types.proofs.domain.Snap.TheSendSync as snap
-use Rattle.virt_types.proofs.domain_def.DomainDef.TheSendSync as definition
-use Rattle.virt_types.proofs.list.ListOf.TheSendSync as list_of
-use Rattle.virt_types.proofs.name.Name.TheSendSync as name
+use Rattle.virt_types.proofs.Below.types_base.domain_def.DomainDef.TheSendSync as definition
+use Rattle.virt_types.proofs.Below.types_base.list.ListOf.TheSendSync as list_of
+use Rattle.virt_types.proofs.Below.types_base.name.Name.TheSendSync as name
 use Rattle.virt_types.proofs.operation.Op.TheSendSync as op
 use Rattle.virt_types.proofs.run_state.EndReason.TheSendSync as reason
 use Rattle.virt_types.proofs.snap_tree.SnapTree.TheLaws.TheKnot as knot
-use Rattle.virt_types.specs.contracts.boxed.Boxed
+use Rattle.virt_types.specs.Below.types_base.contracts.boxed.Boxed
 use Rattle.virt_types.specs.contracts.domain.Domain
 use Rattle.virt_types.specs.contracts.domain.Live
 use Rattle.virt_types.specs.contracts.domain.Snap
 use Rattle.virt_types.specs.contracts.domain.State
-use Rattle.virt_types.specs.contracts.domain_def.DomainDef
-use Rattle.virt_types.specs.contracts.name.Name
+use Rattle.virt_types.specs.Below.types_base.contracts.domain_def.DomainDef
+use Rattle.virt_types.specs.Below.types_base.contracts.name.Name
 use Rattle.virt_types.specs.contracts.operation.Op
 use Rattle.virt_types.specs.contracts.run_state.EndReason
 use Rattle.virt_types.specs.contracts.snap_list.SnapList

@@ -3,8 +3,8 @@ use Rattle.std.proofs.Common.{◌≡◌, inl, ℕ, ℤ, List, map, take, nat_abs
 use Rattle.std.specs.List.{filter}
 use Rattle.driver_cells.proofs.Stopping.{no_room, ran_out}
 use Rattle.driver_cells.specs.OfOutcomes.{HasOutcome, IsStopped, KnownRow}
-use Rattle.virt_types.specs.declared.caller.CellName.TheVariants as cell
-use Rattle.virt_types.specs.declared.caller.Front.{Front}
+use Rattle.virt_types.specs.Below.types_base.declared.caller.CellName.TheVariants as cell
+use Rattle.virt_types.specs.Below.types_base.declared.caller.Front.{Front}
 use Rattle.virt_types.specs.declared.request.Request.TheVariants as request
 use Rattle.virt_types.specs.declared.value.DomainRow.{DomainRow}
 use Rattle.virt_types.specs.declared.value.Reply.{Reply}

@@ -8,8 +8,8 @@ use Rattle.object_list.specs.Keeping.{meaning, new_base_keeps, no_mark_lowers}
 use Rattle.object_list.specs.Names.{AreNames}
 use Rattle.object_list.specs.Turns.{ListPassed}
 use Rattle.object_list.specs.declared.slot_name.SlotName.{SlotName}
-use Rattle.virt_types.specs.declared.caller.Front.{Front}
-use Rattle.virt_types.specs.declared.memory.NoMemory.{NoMemory}
+use Rattle.virt_types.specs.Below.types_base.declared.caller.Front.{Front}
+use Rattle.virt_types.specs.Below.types_base.declared.memory.NoMemory.{NoMemory}
 use Rattle.driver_lists.specs.Listing.{HasListed}
 use Rattle.driver_lists.proofs.Silent.{went_silent}
 

@@ -15,8 +15,8 @@ use Rattle.object_list.specs.declared.slot_name.SlotName.{SlotName}
 use Rattle.driver_cells.specs.OfOutcomes.{level}
 use Rattle.pass_rows.specs.Resting.{IsIdle}
 use Rattle.virt_types.specs.Limits.{most_domains}
-use Rattle.virt_types.specs.declared.caller.Front.{Front}
-use Rattle.virt_types.specs.declared.memory.NoMemory.{NoMemory}
+use Rattle.virt_types.specs.Below.types_base.declared.caller.Front.{Front}
+use Rattle.virt_types.specs.Below.types_base.declared.memory.NoMemory.{NoMemory}
 use Rattle.virt_types.specs.declared.value.DomainRow.{DomainRow}
 use Rattle.driver_lists.specs.Listing.{HasListed}
 use Rattle.driver_lists.specs.Reading.{HasReadAll}

@@ -14,9 +14,9 @@ use Rattle.files_disk.specs.Telling.{Told}
 use Rattle.driver_cells.specs.OfOutcomes.{AreLater, HasGone, HasOutcome, HasSpent, IsLater, level}
 use Rattle.pass_rows.specs.Rows.{IsOf}
 use Rattle.turn_cell.specs.Passes.{Passed}
-use Rattle.virt_types.specs.declared.caller.CellName.TheVariants as cell
-use Rattle.virt_types.specs.declared.caller.Front.{Front}
-use Rattle.virt_types.specs.declared.memory.NoMemory.{NoMemory}
+use Rattle.virt_types.specs.Below.types_base.declared.caller.CellName.TheVariants as cell
+use Rattle.virt_types.specs.Below.types_base.declared.caller.Front.{Front}
+use Rattle.virt_types.specs.Below.types_base.declared.memory.NoMemory.{NoMemory}
 use Rattle.virt_types.specs.declared.request.Request.TheVariants as request
 use Rattle.virt_types.specs.declared.value.Reply.TheVariants as reply
 use Rattle.virt_types.specs.declared.value.TitleRow.{TitleRow}

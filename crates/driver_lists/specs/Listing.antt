@@ -7,8 +7,8 @@ use Rattle.object_list.specs.Names.{AreNames}
 use Rattle.object_list.specs.Turns.{ListPassed}
 use Rattle.object_list.specs.declared.slot_name.SlotName.{SlotName}
 use Rattle.turn_cell.specs.Turning.{Went}
-use Rattle.virt_types.specs.declared.caller.Front.{Front}
-use Rattle.virt_types.specs.declared.memory.NoMemory.{NoMemory}
+use Rattle.virt_types.specs.Below.types_base.declared.caller.Front.{Front}
+use Rattle.virt_types.specs.Below.types_base.declared.memory.NoMemory.{NoMemory}
 
 -- a pass that had tickets left took a turn at the list and left no mark; the names are those of the history that it has seen
 -- by then, which comes this far

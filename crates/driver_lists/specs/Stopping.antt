@@ -1,7 +1,7 @@
 -- How a request is told that it came to no answer of a cell.
 use Rattle.std.specs.Prelude.{◌≡◌}
 use Rattle.driver_cells.specs.OfObjects.{TellsSpent}
-use Rattle.refusal_replies.specs.Replies.{no_memory_reply}
+use Rattle.refusals.specs.Replies.{no_memory_reply}
 use Rattle.virt_types.specs.declared.value.Reply.{Reply}
 use Rattle.driver_lists.specs.declared.stopping.Stop.{Stop}
 use Rattle.driver_lists.specs.declared.stopping.Stop.TheVariants as stop

@@ -7,8 +7,8 @@ use Rattle.files_disk.specs.Telling.{Told}
 use Rattle.driver_cells.specs.OfOutcomes.{AreTitles, front_of, map_of}
 use Rattle.turn_cell.specs.Passes.{Passed}
 use Rattle.turn_cell.specs.Turning.{Went}
-use Rattle.virt_types.specs.declared.caller.Front.{Front}
-use Rattle.virt_types.specs.declared.memory.NoMemory.{NoMemory}
+use Rattle.virt_types.specs.Below.types_base.declared.caller.Front.{Front}
+use Rattle.virt_types.specs.Below.types_base.declared.memory.NoMemory.{NoMemory}
 use Rattle.virt_types.specs.declared.value.TitleRow.{TitleRow}
 
 -- a pass that had tickets left took a turn at the store and left no mark; the titles are those of the history that it has seen

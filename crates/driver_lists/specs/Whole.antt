@@ -1,7 +1,7 @@
 -- What is read of the list and of the cells of its domains.
 use Rattle.std.specs.Prelude.{◌≡◌, List, Option, Result, Ok, Err}
 use Rattle.driver_cells.specs.OfOutcomes.{HasSpent, IsList, KnownRow, rows_of}
-use Rattle.virt_types.specs.declared.caller.Front.{Front}
+use Rattle.virt_types.specs.Below.types_base.declared.caller.Front.{Front}
 use Rattle.virt_types.specs.declared.domain.Domain.{Domain}
 use Rattle.virt_types.specs.declared.value.DomainRow.{DomainRow}
 use Rattle.driver_lists.specs.declared.stopping.Stop.{Stop}

@@ -4,7 +4,7 @@ ghost use Rattle.driver_cells.specs.Fronts.{no_front};
 ghost use Rattle.driver_lists.specs.Stopping.{TellsStop};
 
 use driver_cells::{NO_FRONT, Outcome, run_out};
-use refusal_replies::no_memory;
+use refusals::no_memory;
 use std::alloc::Global;
 use virt_types::CellName;
 

@@ -4,7 +4,7 @@ use Rattle.std.specs.Prelude.{Bool}
 use Rattle.std.specs.List.{AllZip}
 use Rattle.std.proofs.lemmas.List.{length-map}
 use Rattle.history_spec.specs.Pass.{AreOf}
-use Rattle.virt_types.specs.declared.domain_def.DomainDef.{DomainDef}
+use Rattle.virt_types.specs.Below.types_base.declared.domain_def.DomainDef.{DomainDef}
 use Rattle.turn_cell.specs.Meaning.{Meaning}
 use Rattle.turn_cell.specs.Passes.{IsFirst, Passed}
 use Rattle.files_disk.specs.Telling.{Told}

@@ -1,7 +1,7 @@
 -- Why a driver isn't opened, and what becomes of the files of its store.
 use Rattle.std.specs.Prelude.{◌≡◌, ◌⊎◌, ℕ, List}
-use Rattle.virt_types.specs.declared.memory.OrNoMemory.{OrNoMemory}
-use Rattle.virt_types.specs.declared.memory.OrNoMemory.TheVariants as or
+use Rattle.virt_types.specs.Below.types_base.declared.memory.OrNoMemory.{OrNoMemory}
+use Rattle.virt_types.specs.Below.types_base.declared.memory.OrNoMemory.TheVariants as or
 use Rattle.files_disk.specs.Telling.{Told}
 use Rattle.def_keeper.specs.declared.outcome.Found.{Found}
 use Rattle.def_keeper.specs.Keeper.{Keeping}

@@ -8,7 +8,7 @@ use Rattle.driver.specs.Below.held_tasks.OfRows.{DriverRow, KeepsParts, known_ro
 use Rattle.service_spec.specs.Activities.{Hand}
 use Rattle.virt_types.specs.Drawn.{IsMadeOfDrawn}
 use Rattle.virt_types.specs.declared.ask.GuestEvent.{GuestEvent}
-use Rattle.virt_types.specs.declared.caller.Who.{Who}
+use Rattle.virt_types.specs.Below.types_base.declared.caller.Who.{Who}
 use Rattle.virt_types.specs.declared.request.Request.{Request}
 use Rattle.virt_types.specs.declared.value.Reply.{Reply}
 

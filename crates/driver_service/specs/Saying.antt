@@ -1,7 +1,7 @@
 -- What is said of a reply of the driver.
 use Rattle.std.specs.Prelude.{◌≡◌, ◌⊎◌}
 use Rattle.procedure_spec.specs.Results.{result_shape}
-use Rattle.refusal_replies.specs.Replies.{no_memory_reply}
+use Rattle.refusals.specs.Replies.{no_memory_reply}
 use Rattle.service_spec.specs.Sayable.{IsSayable}
 use Rattle.virt_types.specs.declared.request.Request.{Request}
 use Rattle.virt_types.specs.declared.value.Reply.{Reply}

@@ -5,7 +5,7 @@ ghost use Rattle.service_spec.specs.Sayable.{IsSayable};
 ghost use Rattle.driver_service.specs.Saying.{IsSaid};
 
 use procedure_spec::result_shape;
-use refusal_replies::no_memory;
+use refusals::no_memory;
 use result_forms::has_shape;
 use std::alloc::Global;
 use virt_types::{MOST_KEPT_BYTES, Reply, Request};

@@ -11,7 +11,7 @@ use Rattle.service_spec.specs.Laws.{Lasts}
 use Rattle.service_spec.specs.Saying.{answers}
 use Rattle.session_spec.specs.declared.end.End.{End}
 use Rattle.virt_types.specs.declared.ask.GuestEvent.{GuestEvent}
-use Rattle.virt_types.specs.declared.caller.Who.{Who}
+use Rattle.virt_types.specs.Below.types_base.declared.caller.Who.{Who}
 use Rattle.virt_types.specs.declared.request.Request.{Request}
 use Rattle.virt_types.specs.declared.value.Reply.{Reply}
 

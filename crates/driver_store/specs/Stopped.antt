@@ -1,8 +1,8 @@
 -- Why the store of a driver isn't opened, and what becomes of its files.
 use Rattle.std.specs.Prelude.{◌≡◌, ◌⊎◌, ℕ, Some}
 use Rattle.outside_spec.specs.Faults.{Rose}
-use Rattle.virt_types.specs.declared.memory.OrNoMemory.{OrNoMemory}
-use Rattle.virt_types.specs.declared.memory.OrNoMemory.TheVariants as or
+use Rattle.virt_types.specs.Below.types_base.declared.memory.OrNoMemory.{OrNoMemory}
+use Rattle.virt_types.specs.Below.types_base.declared.memory.OrNoMemory.TheVariants as or
 use Rattle.files_disk.specs.Telling.{Told}
 use Rattle.store_spec.specs.Changes.{Definitions}
 use Rattle.def_keeper.specs.declared.outcome.Found.{Found}

@@ -1,4 +1,4 @@
-use virt_types::Transition;
+use types_base::Transition;
 
 /// What happens to a registration's ring.
 #[derive(Clone, Copy, Debug, PartialEq, Eq)]

@@ -5,7 +5,7 @@ ghost use Rattle.event_queue.specs.Ring.{after_all, after_clear, after_push, aft
 use std::alloc::Global;
 use std::collections::VecDeque;
 use std::marker::Model;
-use virt_types::{ListOf, NoMemory, Transition};
+use types_base::{ListOf, NoMemory, Transition};
 
 // How many transitions may pend.
 const MOST_PENDING: usize = 256;

@@ -1,7 +1,7 @@
 // A directory of the system.
 ghost use Rattle.std.specs.Prelude.{◌≡◌, ◌≤◌, IsErrOf, None, is_ok};
 ghost use Rattle.outside_spec.specs.Faults.{HasCause, Rose};
-ghost use Rattle.virt_types.specs.declared.memory.Fault.TheVariants as fault;
+ghost use Rattle.virt_types.specs.Below.types_base.declared.memory.Fault.TheVariants as fault;
 
 use crate::files::Files;
 use crate::paths::Paths;

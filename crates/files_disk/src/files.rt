@@ -4,7 +4,7 @@ ghost use Rattle.std.specs.declared.option.Option.{Option};
 ghost use Rattle.outside_spec.specs.Faults.{HasCause, Rose};
 ghost use Rattle.store_spec.specs.declared.operation.Operation.{Operation as TheOperation};
 ghost use Rattle.store_spec.specs.declared.operation.Operation.TheVariants as op;
-ghost use Rattle.virt_types.specs.declared.memory.Fault.TheVariants as fault;
+ghost use Rattle.virt_types.specs.Below.types_base.declared.memory.Fault.TheVariants as fault;
 ghost use Rattle.files_disk.specs.Telling.{Does, IsListed, IsRead, Writes};
 
 use virt_types::{Bytes, Failed, Fault, Text, TextList};

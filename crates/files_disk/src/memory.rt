@@ -2,7 +2,7 @@
 ghost use Rattle.std.specs.Prelude.{◌≡◌, ◌≤◌, IfOk, IsErrOf, None, OnOk, Some, option_map};
 ghost use Rattle.outside_spec.specs.Faults.{HasCause, Rose};
 ghost use Rattle.store_spec.specs.Directory.{directory};
-ghost use Rattle.virt_types.specs.declared.memory.Fault.TheVariants as fault;
+ghost use Rattle.virt_types.specs.Below.types_base.declared.memory.Fault.TheVariants as fault;
 ghost use Rattle.files_disk.specs.Memory.{no_files};
 ghost use Rattle.files_disk.specs.Telling.{Does};
 

@@ -1,7 +1,7 @@
 // Files are put and removed, so that what is done survives a crash.
 ghost use Rattle.std.specs.Prelude.{◌≡◌, ◌≤◌, IsErrOf};
 ghost use Rattle.outside_spec.specs.Faults.{HasCause, Rose};
-ghost use Rattle.virt_types.specs.declared.memory.Fault.TheVariants as fault;
+ghost use Rattle.virt_types.specs.Below.types_base.declared.memory.Fault.TheVariants as fault;
 ghost use Rattle.files_disk.specs.Putting.{PutsFile, RemovesFile};
 
 use crate::files::Files;

@@ -4,8 +4,8 @@ use Rattle.std.specs.Prelude.{filter, nat_le, option_and_then, option_map, if◌
 use Rattle.std.specs.Option.{option_or}
 use Rattle.std.proofs.lemmas.List.{length-append}
 use Rattle.std.proofs.lemmas.Option.{slice_get_cases}
-use Rattle.virt_types.specs.Limits.{most_domains, most_text_bytes}
-use Rattle.virt_types.specs.declared.domain_def.DomainDef.{DomainDef}
+use Rattle.types_base.specs.Limits.{most_domains, most_text_bytes}
+use Rattle.types_base.specs.declared.domain_def.DomainDef.{DomainDef}
 use Rattle.store_spec.specs.declared.entry.Entry.{Entry}
 use Rattle.store_spec.specs.declared.kind.BookKind.{BookKind}
 use Rattle.store_spec.specs.declared.kind.BookKind.TheVariants as kind

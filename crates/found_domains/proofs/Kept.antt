@@ -4,8 +4,8 @@ use Rattle.std.specs.Prelude.{◌&&◌, All, bytes_eq, nat_le, option_and_then, 
 use Rattle.std.proofs.lemmas.Bool.Decides.{nat_tests}
 use Rattle.std.proofs.lemmas.List.Elements.{All-append, All-from_recursion, All-nil}
 use Rattle.std.proofs.lemmas.Slice.Eq.{bytes_eq-Decides}
-use Rattle.virt_types.specs.Limits.{most_text_bytes}
-use Rattle.virt_types.specs.declared.domain_def.DomainDef.{DomainDef}
+use Rattle.types_base.specs.Limits.{most_text_bytes}
+use Rattle.types_base.specs.declared.domain_def.DomainDef.{DomainDef}
 use Rattle.store_spec.specs.declared.change.Change.{Change}
 use Rattle.store_spec.specs.declared.change.Change.TheVariants as change
 use Rattle.store_spec.specs.declared.entry.Entry.{Entry}

@@ -1,7 +1,7 @@
 -- What the files of definitions hold, one by one.
 use Rattle.std.specs.Prelude.{List, [], ◌∷◌, nat_le, length, Option, None, Some, option_and_then, option_map, if◌then◌else◌}
-use Rattle.virt_types.specs.Limits.{most_text_bytes}
-use Rattle.virt_types.specs.declared.domain_def.DomainDef.{DomainDef}
+use Rattle.types_base.specs.Limits.{most_text_bytes}
+use Rattle.types_base.specs.declared.domain_def.DomainDef.{DomainDef}
 use Rattle.store_spec.specs.declared.change.Change.{Change}
 use Rattle.store_spec.specs.declared.change.Change.TheVariants as change
 use Rattle.store_spec.specs.declared.entry.Entry.{Entry}

@@ -13,7 +13,7 @@ use def_map::DefMap;
 use domain_texts::{read_stored, title_of};
 use std::alloc::Global;
 use store_spec::{BookKind, Change, Entry, Version};
-use virt_types::{DomainDef, ListOf, MOST_TEXT_BYTES, NoMemory, Text, TryCopy, both};
+use types_base::{DomainDef, ListOf, MOST_TEXT_BYTES, NoMemory, Text, TryCopy, both};
 
 // The same entry with this title.
 fn titled(alloc: Global, entry: &Entry, title: &str) -> Result<Entry, NoMemory>

@@ -3,7 +3,7 @@ ghost use Rattle.std.specs.Prelude.{◌≡◌};
 
 use store_spec::Change;
 use thiserror::Error;
-use virt_types::{DomainDef, ListOf, Text, Uuid};
+use types_base::{DomainDef, ListOf, Text, Uuid};
 
 /// A domain that the store held when it was opened.
 pub struct FoundDomain {

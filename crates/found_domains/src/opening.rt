@@ -1,6 +1,6 @@
 // What is found when a store is opened.
 ghost use Rattle.std.specs.Prelude.{◌≡◌, ◌≤◌, [], All, IfErr, IfOk, OnOk, None, Ok, Some, length};
-ghost use Rattle.virt_types.specs.Limits.{most_domains};
+ghost use Rattle.types_base.specs.Limits.{most_domains};
 ghost use Rattle.store_spec.specs.FileNames as name;
 ghost use Rattle.def_keeper.specs.Calls.{CanBeMade};
 ghost use Rattle.def_map.specs.Map.{found};
@@ -15,7 +15,7 @@ use def_keeper::FoundDefinition;
 use def_map::DefMap;
 use std::alloc::Global;
 use store_spec::Change;
-use virt_types::{ListOf, NoMemory, OrNoMemory, Text, Uuid};
+use types_base::{ListOf, NoMemory, OrNoMemory, Text, Uuid};
 
 // The name of a definition's file.
 #[tactic(auto, unfolding(store_spec::specs::FileNames::file_name))]

@@ -3,7 +3,7 @@ ghost use Rattle.std.specs.Prelude.{◌≡◌, ◌≤◌, IfOk, length};
 ghost use Rattle.found_domains.specs.Found.{IsByName, has_same_name};
 
 use crate::found::FoundDomain;
-use virt_types::{ListOf, NoMemory};
+use types_base::{ListOf, NoMemory};
 
 fn is_same_name(one: &FoundDomain, other: &FoundDomain) -> bool
     ensures { result ≡ has_same_name one.now other.now }

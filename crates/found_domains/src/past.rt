@@ -5,7 +5,7 @@ ghost use Rattle.found_domains.specs.Found as spec;
 
 use def_keeper::FoundDefinition;
 use store_spec::BookKind;
-use virt_types::MOST_DOMAINS;
+use types_base::MOST_DOMAINS;
 
 // The most networks, and the most pools, that a daemon holds.
 const MOST_OTHERS: usize = 64;

@@ -14,8 +14,8 @@ use Rattle.virt_types.specs.declared.ask.Command.TheVariants as command
 use Rattle.virt_types.specs.declared.ask.GuestEvent.TheVariants as event
 use Rattle.virt_types.specs.declared.run_state.EndReason.{EndReason}
 use Rattle.virt_types.specs.declared.run_state.EndReason.TheVariants as reason
-use Rattle.virt_types.specs.declared.script.ScriptAct.{ScriptAct}
-use Rattle.virt_types.specs.declared.script.ScriptAct.TheVariants as act
+use Rattle.virt_types.specs.Below.types_base.declared.script.ScriptAct.{ScriptAct}
+use Rattle.virt_types.specs.Below.types_base.declared.script.ScriptAct.TheVariants as act
 
 -- an answer, and the guest after it
 pub record Reaction : Type 0 where

@@ -6,7 +6,7 @@ use Rattle.virt_types.specs.declared.answer.Answer.{Answer}
 use Rattle.virt_types.specs.declared.answer.Answer.TheVariants as answer
 use Rattle.virt_types.specs.declared.ask.Command.{Command}
 use Rattle.virt_types.specs.declared.ask.Command.TheVariants as command
-use Rattle.virt_types.specs.declared.domain_def.DomainDef.{DomainDef}
+use Rattle.virt_types.specs.Below.types_base.declared.domain_def.DomainDef.{DomainDef}
 
 -- a guest of this definition that has had no command yet
 abbrev pub made : DomainDef → ℕ → SimGuest

@@ -1,9 +1,9 @@
 -- What a script says of one command. Of two entries for the same the first counts.
 use Rattle.std.specs.Prelude.{ℕ, ◌==◌, ◌&&◌, Bool, true, false, List, find, Option, Some, None}
 use Rattle.std.specs.List.{list_any}
-use Rattle.virt_types.specs.declared.script.ScriptAct.{ScriptAct}
-use Rattle.virt_types.specs.declared.script.ScriptEntry.{ScriptEntry}
-use Rattle.virt_types.specs.declared.script.ScriptEntry.TheVariants as entry
+use Rattle.virt_types.specs.Below.types_base.declared.script.ScriptAct.{ScriptAct}
+use Rattle.virt_types.specs.Below.types_base.declared.script.ScriptEntry.{ScriptEntry}
+use Rattle.virt_types.specs.Below.types_base.declared.script.ScriptEntry.TheVariants as entry
 
 -- the entry is for this command of this boot
 abbrev pub is_for : ℕ → ℕ → ScriptEntry → Bool

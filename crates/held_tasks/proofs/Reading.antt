@@ -12,7 +12,7 @@ use Rattle.turn_cell.specs.Known.{HasMarks}
 use Rattle.turn_cell.specs.Meaning.{NewBaseKeeps}
 use Rattle.turn_cell.specs.Passes.{Enters, Turned, left_by}
 use Rattle.turn_cell.specs.Turning.{Changes, HasTurned, Went}
-use Rattle.virt_types.specs.declared.memory.NoMemory.{NoMemory}
+use Rattle.virt_types.specs.Below.types_base.declared.memory.NoMemory.{NoMemory}
 use Rattle.virt_types.specs.declared.status.Status.{Status}
 use Rattle.held_tasks.specs.Statuses.{OnlyLooks}
 

@@ -7,10 +7,10 @@ use Rattle.list_replies.specs.Below.domain_requests.declared.task.Task.{Task}
 use Rattle.driver_cells.specs.OfTasks.{IsUnbuilt}
 use Rattle.driver_cells.specs.OfOutcomes.{Asks, HasLeft, HasOutcome, IsNotListed, IsNow, IsOfDomain, IsOfList, Known, KnownRow, Outcome, RestsOn, StandsAt, is_read, list_refusal, pass_of}
 use Rattle.driver_cells.proofs.OfOutcomes.{asks_stay}
-use Rattle.virt_types.specs.declared.caller.CellName.{CellName}
-use Rattle.virt_types.specs.declared.caller.CellName.TheVariants as cell
-use Rattle.virt_types.specs.declared.caller.Front.{Front}
-use Rattle.virt_types.specs.declared.refusal.Refusal.{Refusal}
+use Rattle.virt_types.specs.Below.types_base.declared.caller.CellName.{CellName}
+use Rattle.virt_types.specs.Below.types_base.declared.caller.CellName.TheVariants as cell
+use Rattle.virt_types.specs.Below.types_base.declared.caller.Front.{Front}
+use Rattle.virt_types.specs.Below.types_base.declared.refusal.Refusal.{Refusal}
 use Rattle.virt_types.specs.declared.request.Request.{Request}
 use Rattle.virt_types.specs.declared.request.Request.TheVariants as request
 use Rattle.virt_types.specs.declared.value.Reply.{Reply}

@@ -18,8 +18,8 @@ use Rattle.pass_rows.specs.Rows.{IsOf}
 use Rattle.row_desk.specs.Served.{HasServed}
 use Rattle.row_desk.specs.Views.{StorePass}
 use Rattle.virt_types.specs.declared.ask.GuestEvent.{GuestEvent}
-use Rattle.virt_types.specs.declared.caller.Front.{Front}
-use Rattle.virt_types.specs.declared.memory.OrNoMemory.{OrNoMemory}
+use Rattle.virt_types.specs.Below.types_base.declared.caller.Front.{Front}
+use Rattle.virt_types.specs.Below.types_base.declared.memory.OrNoMemory.{OrNoMemory}
 use Rattle.held_tasks.specs.Counting.{DriverRow}
 use Rattle.held_tasks.specs.Course.{HasServedHeld, IsServedIn, ListGoes}
 use Rattle.driver_cells.specs.Known.{known, known_row}

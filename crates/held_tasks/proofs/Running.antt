@@ -9,7 +9,7 @@ use Rattle.files_disk.specs.Telling.{Told}
 use Rattle.row_desk.specs.Served.{HasMade, HasServed}
 use Rattle.row_desk.specs.Views.{StorePass}
 use Rattle.virt_types.specs.declared.ask.GuestEvent.{GuestEvent}
-use Rattle.virt_types.specs.declared.caller.Front.{Front}
+use Rattle.virt_types.specs.Below.types_base.declared.caller.Front.{Front}
 use Rattle.held_tasks.specs.Running.{HasServedTask}
 
 -- a pass for which nothing is kept may call

@@ -13,7 +13,7 @@ use Rattle.pass_rows.specs.Cutting.{cell_of}
 use Rattle.pass_rows.specs.Resting.{IsIdle}
 use Rattle.row_desk.specs.Views.{StorePass}
 use Rattle.virt_types.specs.declared.ask.GuestEvent.{GuestEvent}
-use Rattle.virt_types.specs.declared.caller.Front.{Front}
+use Rattle.virt_types.specs.Below.types_base.declared.caller.Front.{Front}
 use Rattle.list_holds.specs.Released.{LetsGo}
 use Rattle.held_tasks.specs.Counting.{DriverRow}
 use Rattle.held_tasks.specs.declared.counting.CountingMaker.{CountingMaker}

@@ -22,7 +22,7 @@ use Rattle.list_replies.specs.Below.outcome_spec.Done.{IsCallOf, IsDone, call_in
 use Rattle.row_desk.specs.Views.{StorePass}
 use Rattle.turn_cell.specs.Turning.{SamePass}
 use Rattle.virt_types.specs.declared.call.Call.{Call}
-use Rattle.virt_types.specs.declared.caller.Front.{Front}
+use Rattle.virt_types.specs.Below.types_base.declared.caller.Front.{Front}
 use Rattle.virt_types.specs.declared.status.Status.{Status}
 use Rattle.held_tasks.specs.Statuses.{HasLooked, HasReadStatus, HasReported, IsTold}
 use Rattle.held_tasks.specs.declared.status.StatusRead.{StatusRead}

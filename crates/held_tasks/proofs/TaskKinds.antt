@@ -13,11 +13,11 @@ use Rattle.virt_types.specs.Name.{bad_place}
 use Rattle.virt_types.specs.declared.call.Call.{Call}
 use Rattle.virt_types.specs.declared.call.Call.TheVariants as call
 use Rattle.virt_types.specs.declared.call.Query.TheVariants as query
-use Rattle.virt_types.specs.declared.device_def.DeviceDef.{DeviceDef}
+use Rattle.virt_types.specs.Below.types_base.declared.device_def.DeviceDef.{DeviceDef}
 use Rattle.virt_types.specs.declared.domain.SnapInfo.{SnapInfo}
 use Rattle.virt_types.specs.declared.object_request.DomainRequest.{DomainRequest}
 use Rattle.virt_types.specs.declared.object_request.DomainRequest.TheVariants as on_domain
-use Rattle.virt_types.specs.declared.refusal.Refusal.{Refusal}
+use Rattle.virt_types.specs.Below.types_base.declared.refusal.Refusal.{Refusal}
 use Rattle.virt_types.specs.declared.request.Request.{Request}
 use Rattle.virt_types.specs.declared.request.Request.TheVariants as request
 use Rattle.virt_types.specs.declared.value.Reply.{Reply}

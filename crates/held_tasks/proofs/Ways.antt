@@ -22,9 +22,9 @@ use Rattle.pass_rows.specs.Rows.{IsIdleRow, IsOf}
 use Rattle.pass_rows.specs.declared.resting.PassState.TheVariants as state
 use Rattle.virt_types.specs.Limits.{most_domains}
 use Rattle.virt_types.specs.declared.ask.GuestEvent.{GuestEvent}
-use Rattle.virt_types.specs.declared.caller.CellName.TheVariants as cell
-use Rattle.virt_types.specs.declared.caller.Front.{Front}
-use Rattle.virt_types.specs.declared.memory.OrNoMemory.{OrNoMemory}
+use Rattle.virt_types.specs.Below.types_base.declared.caller.CellName.TheVariants as cell
+use Rattle.virt_types.specs.Below.types_base.declared.caller.Front.{Front}
+use Rattle.virt_types.specs.Below.types_base.declared.memory.OrNoMemory.{OrNoMemory}
 use Rattle.held_tasks.specs.Course.{HasServedHeld, IsServedIn}
 use Rattle.held_tasks.specs.Counting.{DriverRow}
 use Rattle.held_tasks.specs.declared.counting.CountingMaker.{CountingMaker}

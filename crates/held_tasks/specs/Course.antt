@@ -14,9 +14,9 @@ use Rattle.list_replies.specs.Telling.{TellsFault}
 use Rattle.driver_cells.specs.OfOutcomes.{HasSpent, Outcome}
 use Rattle.row_desk.specs.Views.{StorePass}
 use Rattle.virt_types.specs.declared.ask.GuestEvent.{GuestEvent}
-use Rattle.virt_types.specs.declared.caller.CellName.TheVariants as cell
-use Rattle.virt_types.specs.declared.caller.Front.{Front}
-use Rattle.virt_types.specs.declared.memory.OrNoMemory.{OrNoMemory}
+use Rattle.virt_types.specs.Below.types_base.declared.caller.CellName.TheVariants as cell
+use Rattle.virt_types.specs.Below.types_base.declared.caller.Front.{Front}
+use Rattle.virt_types.specs.Below.types_base.declared.memory.OrNoMemory.{OrNoMemory}
 use Rattle.held_tasks.specs.Counting.{DriverRow}
 use Rattle.held_tasks.specs.Running.{HasServedTask}
 use Rattle.held_tasks.specs.Statuses.{HasReported}

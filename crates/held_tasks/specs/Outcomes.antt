@@ -6,9 +6,9 @@ use Rattle.list_replies.specs.Below.domain_requests.declared.task.Task.{Task}
 use Rattle.list_replies.specs.Below.domain_requests.declared.task.Task.TheVariants as task
 use Rattle.driver_cells.specs.OfTasks.{IsUnbuilt}
 use Rattle.driver_cells.specs.OfOutcomes.{DomainPass, HasSlot, IsGiven, IsStopped, KnownRow, Outcome, StandsAt, list_refusal, pass_of}
-use Rattle.virt_types.specs.declared.caller.CellName.{CellName}
-use Rattle.virt_types.specs.declared.caller.CellName.TheVariants as cell
-use Rattle.virt_types.specs.declared.caller.Front.{Front}
+use Rattle.virt_types.specs.Below.types_base.declared.caller.CellName.{CellName}
+use Rattle.virt_types.specs.Below.types_base.declared.caller.CellName.TheVariants as cell
+use Rattle.virt_types.specs.Below.types_base.declared.caller.Front.{Front}
 use Rattle.virt_types.specs.declared.value.Reply.{Reply}
 use Rattle.virt_types.specs.declared.value.Reply.TheVariants as reply
 

@@ -8,7 +8,7 @@ use Rattle.files_disk.specs.Telling.{Told}
 use Rattle.row_desk.specs.Served.{HasMade, HasServed}
 use Rattle.row_desk.specs.Views.{StorePass}
 use Rattle.virt_types.specs.declared.ask.GuestEvent.{GuestEvent}
-use Rattle.virt_types.specs.declared.caller.Front.{Front}
+use Rattle.virt_types.specs.Below.types_base.declared.caller.Front.{Front}
 
 module _ {F E : Type 0} (told : F → Told) (ends faults : E → ℕ) (unheard : E → Option (List GuestEvent)) where
   -- the task came to this reply, and the store and the maker answered all that was asked for it

@@ -5,9 +5,9 @@ ghost use Rattle.hotplug_core.specs.Fitting.{FitsAttaching, FitsDetaching, HasRo
 
 use crate::room::RoomFor;
 use core_rules::Texts;
-use definition_words::mac_text;
 use std::alloc::Global;
 use virt_types::{Boxed, DeviceDef, Disk, DomainDef, Interface, Live, Mac, NoMemory, State, Text};
+use xml_words::mac_text;
 
 /// A device that comes to a guest, with room for the guest's lists and one more.
 #[derive(Drop)]

@@ -5,8 +5,8 @@ use Rattle.std.proofs.Math.Seq.{drop-append_seam, take-append_seam}
 use Rattle.std.proofs.lemmas.Bool.{le-leb}
 use Rattle.virt_types.specs.declared.ask.ImageKind.{ImageKind}
 use Rattle.virt_types.specs.declared.ask.ImageKind.TheVariants as kind
-use Rattle.virt_types.specs.declared.memory.OrNoMemory.{OrNoMemory}
-use Rattle.virt_types.specs.declared.memory.OrNoMemory.TheVariants as or
+use Rattle.virt_types.specs.Below.types_base.declared.memory.OrNoMemory.{OrNoMemory}
+use Rattle.virt_types.specs.Below.types_base.declared.memory.OrNoMemory.TheVariants as or
 use Rattle.virt_types.specs.Limits.{most_text_bytes}
 use Rattle.virt_types.specs.Numbers.{image_number}
 use Rattle.store_spec.specs.declared.image.Image.{Image}

@@ -2,9 +2,9 @@
 use Rattle.std.specs.Prelude.{◌≡◌, List, ℕ, Option, None, Some, Result, Ok, Err}
 use Rattle.outside_spec.specs.Faults.{Rose}
 use Rattle.virt_types.specs.declared.ask.ImageKind.TheVariants as kind
-use Rattle.virt_types.specs.declared.memory.Fault.{Fault}
-use Rattle.virt_types.specs.declared.memory.OrNoMemory.{OrNoMemory}
-use Rattle.virt_types.specs.declared.memory.OrNoMemory.TheVariants as or
+use Rattle.virt_types.specs.Below.types_base.declared.memory.Fault.{Fault}
+use Rattle.virt_types.specs.Below.types_base.declared.memory.OrNoMemory.{OrNoMemory}
+use Rattle.virt_types.specs.Below.types_base.declared.memory.OrNoMemory.TheVariants as or
 use Rattle.files_disk.specs.Putting.{PutsFile}
 use Rattle.files_disk.specs.Telling.{Told}
 use Rattle.store_spec.specs.declared.image.Image.{Image}

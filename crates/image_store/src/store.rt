@@ -1,7 +1,7 @@
 // Images are written to a store and read from it.
 ghost use Rattle.std.specs.Prelude.{◌≡◌, ◌≤◌, IfOk, IsErrOf};
 ghost use Rattle.outside_spec.specs.Faults.{Rose};
-ghost use Rattle.virt_types.specs.declared.memory.Fault.TheVariants as fault;
+ghost use Rattle.virt_types.specs.Below.types_base.declared.memory.Fault.TheVariants as fault;
 ghost use Rattle.store_spec.specs.ImageFile.{image_bytes};
 ghost use Rattle.store_spec.specs.ImageSteps.{image_draft, image_name};
 ghost use Rattle.image_store.specs.Storing.{HasDevice, IsReadOf, ReadsImage, WritesImage};

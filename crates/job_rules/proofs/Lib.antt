@@ -1,2 +1,4 @@
 pub mod Callers
+pub mod Distinct
+pub mod Places
 pub mod Tables

@@ -1,3 +1,4 @@
+pub mod QueueWaiting
 pub mod Resting
 pub mod Table
 pub mod Waiting

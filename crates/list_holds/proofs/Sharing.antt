@@ -4,8 +4,8 @@ use Rattle.book_spec.specs.Slots.{no_holds}
 use Rattle.object_list.specs.Keeping.{meaning}
 use Rattle.object_list.specs.Turns.{HasReleased, ListPassed, one_more}
 use Rattle.pass_rows.specs.Resting.{IsIdle}
-use Rattle.virt_types.specs.declared.caller.Front.{Front}
-use Rattle.virt_types.specs.Limits.{most_domains}
+use Rattle.types_base.specs.declared.caller.Front.{Front}
+use Rattle.types_base.specs.Limits.{most_domains}
 
 more_at : (slot : ℕ) (x y : ℕ) → x + 1 ≡ y + 1 → x ≡ y
 more_at slot x y e = omega (arith, e)

@@ -1,7 +1,7 @@
 -- What a pass of the list knows once it has asked for a slot.
 use Rattle.std.specs.Prelude.{◌≡◌, ℕ, ◌-◌, ◌<◌, List, [], ◌∷◌, length, slice_get, false, Some, Result}
-use Rattle.virt_types.specs.declared.caller.Front.{Front}
-use Rattle.virt_types.specs.declared.memory.OrNoMemory.{OrNoMemory}
+use Rattle.types_base.specs.declared.caller.Front.{Front}
+use Rattle.types_base.specs.declared.memory.OrNoMemory.{OrNoMemory}
 use Rattle.book_spec.specs.declared.list.ListCall.{ListCall}
 use Rattle.book_spec.specs.declared.list.ListFault.{ListFault}
 use Rattle.book_spec.specs.declared.list.ListMark.{ListMark}

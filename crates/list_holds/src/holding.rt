@@ -1,6 +1,6 @@
 // A slot is asked for in one turn.
 ghost use Rattle.std.specs.Prelude.{◌≡◌, ◌<◌, ◌^◌, true, IfErr, IfOk, length};
-ghost use Rattle.virt_types.specs.Memory.{UnlessNoMemory};
+ghost use Rattle.types_base.specs.Memory.{UnlessNoMemory};
 ghost use Rattle.book_spec.specs.ListCalls.{answer};
 ghost use Rattle.book_spec.specs.ListHistory.{LeavesMark, slots_of};
 ghost use Rattle.slot_holds.specs.Holds.{call_of};
@@ -10,7 +10,7 @@ use object_list::{Held, ListPass, ListTurn, ObjectList, claim_in, hold_name_in, 
 use slot_holds::Hold;
 use std::sync::Wait;
 use turn_cell::TurnCell;
-use virt_types::Front;
+use types_base::Front;
 
 // Asks for the slot, in a turn.
 fn hold_in(turn: &mut ListTurn, hold: &Hold) -> Held

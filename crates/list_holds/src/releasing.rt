@@ -8,7 +8,7 @@ use object_list::{ListPass, ObjectList, release};
 use pass_rows::{PassState, RestingPass};
 use std::sync::Wait;
 use turn_cell::TurnCell;
-use virt_types::Front;
+use types_base::Front;
 
 /// Takes a turn, and releases the slot, which is all that the pass holds: the list is told how far the history of the slot's
 /// cell goes that was seen, and whether it was occupied there. Where no ticket is left for that, the pass is spent and keeps

@@ -3,9 +3,9 @@ use Rattle.std.specs.Prelude.{◌≡◌, ◌⊎◌}
 use Rattle.book_spec.specs.declared.list.ListCall.{ListCall}
 use Rattle.book_spec.specs.declared.list.ListFault.{ListFault}
 use Rattle.outcome_spec.specs.Listed.{list_refusal}
-use Rattle.refusal_replies.specs.Replies.{no_memory_reply}
-use Rattle.virt_types.specs.declared.memory.OrNoMemory.{OrNoMemory}
-use Rattle.virt_types.specs.declared.memory.OrNoMemory.TheVariants as or
+use Rattle.refusals.specs.Replies.{no_memory_reply}
+use Rattle.virt_types.specs.Below.types_base.declared.memory.OrNoMemory.{OrNoMemory}
+use Rattle.virt_types.specs.Below.types_base.declared.memory.OrNoMemory.TheVariants as or
 use Rattle.virt_types.specs.declared.value.Reply.{Reply}
 use Rattle.virt_types.specs.declared.value.Reply.TheVariants as reply
 

@@ -4,12 +4,11 @@ ghost use Rattle.uuid.specs.Text.{hyphenated_text, lower};
 ghost use Rattle.outcome_spec.specs.Listed.{asked_for, claimed_name, list_refusal};
 ghost use Rattle.outcome_spec.specs.Below.session_spec.Refused.{refusal};
 ghost use Rattle.slot_holds.specs.Holds.{call_of};
-ghost use Rattle.virt_types.specs.declared.refusal.RefusalCode.TheVariants as code;
+ghost use Rattle.virt_types.specs.Below.types_base.declared.refusal.RefusalCode.TheVariants as code;
 ghost use Rattle.list_replies.specs.Telling.{TellsFault};
 
 use book_spec::ListFault;
-use kept_texts::{refuse_bytes, refuse_number, refuse_uuid};
-use refusal_replies::no_memory;
+use refusals::{no_memory, refuse_bytes, refuse_number, refuse_uuid};
 use slot_holds::Hold;
 use std::alloc::Global;
 use virt_types::{Name, NoMemory, OrNoMemory, Refusal, RefusalCode, Reply, Uuid};

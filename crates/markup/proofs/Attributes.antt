@@ -5,9 +5,9 @@ use Rattle.text_spec.specs.declared.fault.TextKind.TheVariants as kind
 use Rattle.text_spec.specs.declared.pair.Pair.{Pair}
 use Rattle.text_spec.specs.Reading.{Reading, flaw}
 use Rattle.text_spec.specs.Character.{starts_blank, after_blanks}
-use Rattle.virt_types.specs.Memory.{FailsUnlessNoMemory}
-use Rattle.virt_types.specs.declared.memory.OrNoMemory.{OrNoMemory}
-use Rattle.virt_types.specs.declared.memory.OrNoMemory.TheVariants as or
+use Rattle.types_base.specs.Memory.{FailsUnlessNoMemory}
+use Rattle.types_base.specs.declared.memory.OrNoMemory.{OrNoMemory}
+use Rattle.types_base.specs.declared.memory.OrNoMemory.TheVariants as or
 use Rattle.text_spec.specs.Tag.{Attributes, after_attributes, attribute_of, attribute_at, tag_end_at, attributes_at}
 
 after_after : (front more : List Pair) (r : Reading Attributes)

@@ -7,9 +7,9 @@ use Rattle.text_spec.specs.Reading.{ended, ◌>>=◌}
 use Rattle.text_spec.specs.Tag.{opening_tag_at}
 use Rattle.text_spec.specs.Tree.{Tree, Trees, none, first, trees, before}
 use Rattle.text_spec.specs.Element.{Grown, Inside, ElementReading, ahead_of, piece_at, after_inside, with_piece, inside_by, content_at, after_opening, element_at}
-use Rattle.virt_types.specs.Memory.{FailsUnlessNoMemory}
-use Rattle.virt_types.specs.declared.memory.OrNoMemory.{OrNoMemory}
-use Rattle.virt_types.specs.declared.memory.OrNoMemory.TheVariants as or
+use Rattle.types_base.specs.Memory.{FailsUnlessNoMemory}
+use Rattle.types_base.specs.declared.memory.OrNoMemory.{OrNoMemory}
+use Rattle.types_base.specs.declared.memory.OrNoMemory.TheVariants as or
 use Rattle.markup.specs.View.{IsText}
 
 before_before : (ts us : List Tree) (others : Trees) → before ts (before us others) ≡ before (ts ++ us) others

@@ -1,7 +1,7 @@
 -- What a reader of this crate answers, against the reading of a text.
 use Rattle.std.specs.Prelude.{◌≡◌, Result, Ok, Err}
 use Rattle.text_spec.specs.declared.fault.Flaw.{Flaw}
-use Rattle.virt_types.specs.declared.memory.OrNoMemory.{OrNoMemory}
+use Rattle.types_base.specs.declared.memory.OrNoMemory.{OrNoMemory}
 
 -- what a reader answered that takes no memory is what reading gives, its value seen by view
 abbrev pub Tells : {X Y : Type 0} → (X → Y) → Result X Flaw → Result Y Flaw → Type 0

@@ -2,7 +2,7 @@
 ghost use Rattle.std.specs.Prelude.{◌≡◌, ℕ, ◌≤◌, ◌+◌, length, IfOk};
 ghost use Rattle.text_spec.specs.Text as spec;
 ghost use Rattle.text_spec.specs.Tree.{seen};
-ghost use Rattle.virt_types.specs.Memory.{UnlessNoMemory};
+ghost use Rattle.types_base.specs.Memory.{UnlessNoMemory};
 ghost use Rattle.markup.specs.Gives.{Tells, viewed};
 ghost use Rattle.markup.specs.View.{grown_view};
 
@@ -12,7 +12,7 @@ use crate::element::{Grown, ahead_of, element_at};
 use crate::scan::{ended, flaw, skip_blanks};
 use std::alloc::Global;
 use text_spec::{Ahead, Flaw, MOST_ELEMENTS, MOST_LEVELS, TextKind, Tree};
-use virt_types::OrNoMemory;
+use types_base::OrNoMemory;
 
 /// Nothing, where nothing follows; otherwise a `<` is at the end.
 fn at_end(chars: &[char]) -> Result<&[char], Flaw>

@@ -3,7 +3,7 @@ ghost use Rattle.std.specs.Prelude.{◌≡◌, ℕ, ◌≤◌, ◌<◌, ◌+◌,
 ghost use Rattle.text_spec.specs.Element as spec;
 ghost use Rattle.text_spec.specs.Tree.{seen, all_seen, none};
 ghost use Rattle.text_spec.specs.declared.ahead.Ahead.TheVariants as Ahead;
-ghost use Rattle.virt_types.specs.Memory.{UnlessNoMemory};
+ghost use Rattle.types_base.specs.Memory.{UnlessNoMemory};
 ghost use Rattle.markup.specs.Gives.{Tells, viewed};
 ghost use Rattle.markup.specs.View.{IsText, tag_view, piece_text, inside_view, grown_view};
 
@@ -14,7 +14,7 @@ use crate::scan::{ended, flaw, skip_blanks};
 use crate::tag::{Tag, closing_tag_at, opening_tag_at, text_of};
 use std::alloc::Global;
 use text_spec::{Ahead, Flaw, TextKind, Tree, TreeList};
-use virt_types::{NoMemory, OrNoMemory};
+use types_base::{NoMemory, OrNoMemory};
 
 /// What begins here.
 #[tactic(auto, unfolding(text_spec::specs::Element::ahead_of))]

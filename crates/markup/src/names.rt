@@ -4,7 +4,7 @@ ghost use Rattle.std.specs.Str.{bytes_eq};
 ghost use Rattle.markup.specs.Names.{has};
 
 use std::collections::BTreeSet;
-use virt_types::NoMemory;
+use types_base::NoMemory;
 
 /// Adds a name, and says whether it is new.
 pub(crate) fn add_name<'a>(

@@ -4,13 +4,13 @@ ghost use Rattle.text_spec.specs.Text as spec;
 ghost use Rattle.text_spec.specs.Tree as spec_tree;
 ghost use Rattle.text_spec.specs.Tree.{seen};
 ghost use Rattle.text_spec.specs.declared.fault.TextFault.{TextFault};
-ghost use Rattle.virt_types.specs.Memory.{UnlessNoMemory};
+ghost use Rattle.types_base.specs.Memory.{UnlessNoMemory};
 ghost use Rattle.markup.specs.Gives.{viewed};
 
 use crate::document::document;
 use std::alloc::Global;
 use text_spec::{Flaw, TextFault, TextKind, Tree};
-use virt_types::{MOST_TEXT_BYTES, NoMemory, OrNoMemory};
+use types_base::{MOST_TEXT_BYTES, NoMemory, OrNoMemory};
 
 const BYTE_ORDER_MARK: char = '\u{FEFF}';
 

@@ -1,7 +1,7 @@
 // Tags, with their attributes.
 ghost use Rattle.std.specs.Prelude.{◌≡◌, ℕ, ◌≤◌, ◌<◌, ◌+◌, List, [], ◌∷◌, length, IfOk, IfSome, option_map, encode_utf8_all};
 ghost use Rattle.text_spec.specs.Tag as spec;
-ghost use Rattle.virt_types.specs.Memory.{UnlessNoMemory};
+ghost use Rattle.types_base.specs.Memory.{UnlessNoMemory};
 ghost use Rattle.markup.specs.Gives.{Tells, viewed};
 ghost use Rattle.markup.specs.Names.{Holds};
 ghost use Rattle.markup.specs.View.{tag_view, attribute_view};
@@ -14,7 +14,7 @@ use crate::scan::{after, ended, expect, flaw, name_at, skip_blanks, starts_blank
 use std::alloc::Global;
 use std::collections::BTreeSet;
 use text_spec::{Flaw, Pair, PairList, TextKind};
-use virt_types::{NoMemory, OrNoMemory, Text};
+use types_base::{NoMemory, OrNoMemory, Text};
 
 /// An opening tag, or one of an empty element.
 #[derive(Drop)]

@@ -10,7 +10,7 @@ use crate::read::characters;
 use crate::tag::text_of;
 use std::alloc::Global;
 use text_spec::{Pair, Tree, written_reads_back};
-use virt_types::{NoMemory, Text};
+use types_base::{NoMemory, Text};
 
 /// Adds a character of an element's text.
 #[tactic(auto, unfolding(text_spec::specs::Written::in_text))]

@@ -1,21 +1,21 @@
 -- What a call answers and leaves, once the table and the history went on together.
 use Rattle.std.proofs.Common.{◌≡◌, inl, inr, Bool, ℕ, ◌<◌, List, [], length, Option, None, Some, Result, Ok, Err, refl, sym, ap, ◌∙◌, subst, arith}
-use Rattle.virt_types.specs.declared.mac.Mac.{Mac}
-use Rattle.virt_types.specs.declared.network_def.NetDef.{NetDef}
-use Rattle.virt_types.specs.declared.refusal.Refusal.{Refusal}
-use Rattle.virt_types.specs.declared.memory.OrNoMemory.{OrNoMemory}
-use Rattle.virt_types.specs.declared.memory.OrNoMemory.TheVariants.{Fault, NoMemory}
-use Rattle.network_spec.specs.declared.book.Network.{Network}
-use Rattle.network_spec.specs.declared.book.LeaseFault.{LeaseFault}
-use Rattle.network_spec.specs.declared.book.NetAnswer.{NetAnswer}
-use Rattle.network_spec.specs.declared.book.NetAnswer.TheVariants.{Done, Leased, NotLeased, Refused}
-use Rattle.network_spec.specs.declared.book.NetCall.{NetCall}
-use Rattle.network_spec.specs.declared.book.NetCall.TheVariants as call
-use Rattle.network_spec.specs.declared.book.NetMark.{NetMark}
-use Rattle.network_spec.specs.Networks.{Networks, uuid_of, with_changed, without}
-use Rattle.network_spec.specs.NetCalls.{answer, networks_after, with_autostart, with_network}
-use Rattle.network_spec.specs.NetHistory.{NetHistory, networks_of, open_chapter, with_mark, with_call, told, told_lease, HasCalled, MayCall}
-use Rattle.network_spec.specs.NetReads.{IsReadOf}
+use Rattle.virt_types.specs.Below.types_base.declared.mac.Mac.{Mac}
+use Rattle.virt_types.specs.Below.types_base.declared.network_def.NetDef.{NetDef}
+use Rattle.virt_types.specs.Below.types_base.declared.refusal.Refusal.{Refusal}
+use Rattle.virt_types.specs.Below.types_base.declared.memory.OrNoMemory.{OrNoMemory}
+use Rattle.virt_types.specs.Below.types_base.declared.memory.OrNoMemory.TheVariants.{Fault, NoMemory}
+use Rattle.book_spec.specs.declared.book.Network.{Network}
+use Rattle.book_spec.specs.declared.book.LeaseFault.{LeaseFault}
+use Rattle.book_spec.specs.declared.book.NetAnswer.{NetAnswer}
+use Rattle.book_spec.specs.declared.book.NetAnswer.TheVariants.{Done, Leased, NotLeased, Refused}
+use Rattle.book_spec.specs.declared.book.NetCall.{NetCall}
+use Rattle.book_spec.specs.declared.book.NetCall.TheVariants as call
+use Rattle.book_spec.specs.declared.book.NetMark.{NetMark}
+use Rattle.book_spec.specs.Networks.{Networks, uuid_of, with_changed, without}
+use Rattle.book_spec.specs.NetCalls.{answer, networks_after, with_autostart, with_network}
+use Rattle.book_spec.specs.NetHistory.{NetHistory, networks_of, open_chapter, with_mark, with_call, told, told_lease, HasCalled, MayCall}
+use Rattle.book_spec.specs.NetReads.{IsReadOf}
 use Rattle.net_core.specs.Answers.{Tells, TellsLease, tested, plain_of, TakesEffect, LeaseTakesEffect, Leaves, LeavesRefusal, IsFoundOf}
 use Rattle.net_core.specs.Keeping.{IsKept}
 use Rattle.net_core.proofs.Chronicles.{networks_of-open, networks_of-mark, marks-mark, open_short}

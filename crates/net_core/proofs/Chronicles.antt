@@ -2,9 +2,9 @@
 use Rattle.std.proofs.Common.{◌≡◌, ℕ, ◌+◌, ◌<◌, ◌≤◌, ltb, [], ◌∷◌, length, length-append, refl, sym, ap, ◌∙◌, subst, ⊎_elim, arith}
 use Rattle.std.proofs.lemmas.Bool.{cases_lt, cond-true, cond-false, lt-ltb, le-ltb}
 use Rattle.std.proofs.lemmas.List.Sums.{fold-append}
-use Rattle.network_spec.specs.declared.book.NetMark.{NetMark}
-use Rattle.network_spec.specs.NetCalls.{networks_after}
-use Rattle.network_spec.specs.NetHistory.{NetHistory, marked, networks_of, most_marks, open_chapter, with_mark}
+use Rattle.book_spec.specs.declared.book.NetMark.{NetMark}
+use Rattle.book_spec.specs.NetCalls.{networks_after}
+use Rattle.book_spec.specs.NetHistory.{NetHistory, marked, networks_of, most_marks, open_chapter, with_mark}
 use Rattle.net_core.specs.Keeping.{IsCounted}
 
 -- a long chapter ends

@@ -6,12 +6,12 @@ use Rattle.std.proofs.Math.Bool.{or-false, or-true}
 use Rattle.std.proofs.lemmas.Bool.{cases_Bool, cases_lt, false≢true, true≢false, not-false, not-true}
 use Rattle.std.proofs.lemmas.List.Folds.{list_any-append}
 use Rattle.std.proofs.lemmas.Option.{none-some}
-use Rattle.virt_types.specs.declared.mac.Mac.{Mac}
+use Rattle.virt_types.specs.Below.types_base.declared.mac.Mac.{Mac}
 use Rattle.virt_types.specs.declared.value.LeaseRow.{LeaseRow}
-use Rattle.virt_types.specs.declared.network_def.AddressRange.{AddressRange}
-use Rattle.virt_types.specs.declared.network_def.HostLine.{HostLine}
-use Rattle.network_spec.specs.declared.book.Network.{Network}
-use Rattle.network_spec.specs.Leases.{same_mac, leased_to, hosted_for, is_hosted, is_leased, least_free, or_else, address_for, hosts_of, range_of}
+use Rattle.virt_types.specs.Below.types_base.declared.network_def.AddressRange.{AddressRange}
+use Rattle.virt_types.specs.Below.types_base.declared.network_def.HostLine.{HostLine}
+use Rattle.book_spec.specs.declared.book.Network.{Network}
+use Rattle.book_spec.specs.Leases.{same_mac, leased_to, hosted_for, is_hosted, is_leased, least_free, or_else, address_for, hosts_of, range_of}
 use Rattle.net_core.specs.declared.mac_index.MacIndex.{MacIndex}
 use Rattle.net_core.specs.Index.{address_at, Updates}
 use Rattle.net_core.specs.Entries.{IsIndexed, IsFirst, IsAhead, KeepsNext, Begins}

@@ -6,18 +6,18 @@ use Rattle.std.proofs.lemmas.Bool.{cases_Bool, cases_lt, cond-true, lt-ltb, le-l
 use Rattle.std.proofs.lemmas.List.Quantifiers.{position-Some}
 use Rattle.std.proofs.lemmas.Option.{none-some}
 use Rattle.std.proofs.lemmas.List.Sums.{fails_before_first}
-use Rattle.network_spec.specs.declared.book.Network.{Network}
+use Rattle.book_spec.specs.declared.book.Network.{Network}
 use Rattle.uuid.specs.Text.{hyphenated_text, lower}
-use Rattle.virt_types.specs.declared.network_def.NetDef.{NetDef}
-use Rattle.virt_types.specs.declared.refusal.Refusal.{Refusal}
-use Rattle.virt_types.specs.declared.mac.Mac.{Mac}
-use Rattle.network_spec.specs.Leases.{address_for, with_lease}
-use Rattle.network_spec.specs.declared.book.LeaseFault.TheVariants.{Class}
-use Rattle.network_spec.specs.declared.book.NetAnswer.{NetAnswer}
-use Rattle.network_spec.specs.declared.book.NetAnswer.TheVariants.{Done, Leased, NotLeased, Refused}
-use Rattle.network_spec.specs.declared.book.NetCall.TheVariants as call
-use Rattle.network_spec.specs.Networks.{Networks, has, identifier, name_of, network_of, new_network, with_changed, without, uuid_of}
-use Rattle.network_spec.specs.NetCalls.{answer, networks_after, leased, leased_in, book_full, defined, if_inactive, network_exists, newly_defined, redefined, with_def, with_network}
+use Rattle.virt_types.specs.Below.types_base.declared.network_def.NetDef.{NetDef}
+use Rattle.virt_types.specs.Below.types_base.declared.refusal.Refusal.{Refusal}
+use Rattle.virt_types.specs.Below.types_base.declared.mac.Mac.{Mac}
+use Rattle.book_spec.specs.Leases.{address_for, with_lease}
+use Rattle.book_spec.specs.declared.book.LeaseFault.TheVariants.{Class}
+use Rattle.book_spec.specs.declared.book.NetAnswer.{NetAnswer}
+use Rattle.book_spec.specs.declared.book.NetAnswer.TheVariants.{Done, Leased, NotLeased, Refused}
+use Rattle.book_spec.specs.declared.book.NetCall.TheVariants as call
+use Rattle.book_spec.specs.Networks.{Networks, has, identifier, name_of, network_of, new_network, with_changed, without, uuid_of}
+use Rattle.book_spec.specs.NetCalls.{answer, networks_after, leased, leased_in, book_full, defined, if_inactive, network_exists, newly_defined, redefined, with_def, with_network}
 
 module _ {X : Type 0} (p : X → Bool) where
   record IsAt (xs : List X) (i : ℕ) (d : X) : Type 0 where

@@ -6,12 +6,12 @@ use Rattle.history_spec.proofs.Marks.{added-more, added-next}
 use Rattle.turn_cell.specs.Passes.{Turned, Enters, left_by}
 use Rattle.turn_cell.specs.Turning.{Changes, Went}
 use Rattle.turn_cell.proofs.Turning.{changes_by, nothing_changes, turn_tells}
-use Rattle.network_spec.specs.declared.book.NetAnswer.{NetAnswer}
-use Rattle.network_spec.specs.declared.book.NetCall.{NetCall}
-use Rattle.network_spec.specs.declared.book.NetMark.{NetMark}
-use Rattle.network_spec.specs.Networks.{Networks}
-use Rattle.network_spec.specs.NetCalls.{answer}
-use Rattle.network_spec.specs.NetHistory.{NetHistory, networks_of, open_chapter, with_mark, HasCalled, IsCalled, LacksMemory}
+use Rattle.book_spec.specs.declared.book.NetAnswer.{NetAnswer}
+use Rattle.book_spec.specs.declared.book.NetCall.{NetCall}
+use Rattle.book_spec.specs.declared.book.NetMark.{NetMark}
+use Rattle.book_spec.specs.Networks.{Networks}
+use Rattle.book_spec.specs.NetCalls.{answer}
+use Rattle.book_spec.specs.NetHistory.{NetHistory, networks_of, open_chapter, with_mark, HasCalled, IsCalled, LacksMemory}
 use Rattle.net_core.specs.Keeping.{meaning, no_mark_lowers, new_base_keeps}
 use Rattle.net_core.specs.Turns.{NetPassed, HasAsked}
 use Rattle.net_core.proofs.Chronicles.{opens_next, opens_same, networks_of-open}

@@ -1,19 +1,19 @@
 -- What the parts of the book answer, before being out of memory is a refusal too.
 use Rattle.std.specs.Prelude.{◌≡◌, ℕ, List, Option, None, Some, Result, Ok, Err}
-use Rattle.virt_types.specs.declared.mac.Mac.{Mac}
-use Rattle.virt_types.specs.declared.refusal.Refusal.{Refusal}
-use Rattle.virt_types.specs.declared.memory.OrNoMemory.{OrNoMemory}
-use Rattle.virt_types.specs.declared.memory.OrNoMemory.TheVariants.{Fault, NoMemory}
-use Rattle.network_spec.specs.declared.book.Network.{Network}
-use Rattle.network_spec.specs.declared.book.LeaseFault.{LeaseFault}
-use Rattle.network_spec.specs.declared.book.NetAnswer.{NetAnswer}
-use Rattle.network_spec.specs.declared.book.NetAnswer.TheVariants.{Done, Leased, NotLeased, Refused}
-use Rattle.network_spec.specs.declared.book.NetCall.{NetCall}
-use Rattle.network_spec.specs.declared.book.NetCall.TheVariants as call
-use Rattle.network_spec.specs.declared.book.NetMark.{NetMark}
-use Rattle.network_spec.specs.Networks.{Networks}
-use Rattle.network_spec.specs.NetCalls.{no_memory, no_network, networks_after}
-use Rattle.network_spec.specs.NetHistory.{NetHistory, with_mark, open_chapter}
+use Rattle.virt_types.specs.Below.types_base.declared.mac.Mac.{Mac}
+use Rattle.virt_types.specs.Below.types_base.declared.refusal.Refusal.{Refusal}
+use Rattle.virt_types.specs.Below.types_base.declared.memory.OrNoMemory.{OrNoMemory}
+use Rattle.virt_types.specs.Below.types_base.declared.memory.OrNoMemory.TheVariants.{Fault, NoMemory}
+use Rattle.book_spec.specs.declared.book.Network.{Network}
+use Rattle.book_spec.specs.declared.book.LeaseFault.{LeaseFault}
+use Rattle.book_spec.specs.declared.book.NetAnswer.{NetAnswer}
+use Rattle.book_spec.specs.declared.book.NetAnswer.TheVariants.{Done, Leased, NotLeased, Refused}
+use Rattle.book_spec.specs.declared.book.NetCall.{NetCall}
+use Rattle.book_spec.specs.declared.book.NetCall.TheVariants as call
+use Rattle.book_spec.specs.declared.book.NetMark.{NetMark}
+use Rattle.book_spec.specs.Networks.{Networks}
+use Rattle.book_spec.specs.NetCalls.{no_memory, no_network, networks_after}
+use Rattle.book_spec.specs.NetHistory.{NetHistory, with_mark, open_chapter}
 
 -- the answer to a call, where there is memory enough
 abbrev pub Tells : Result Unit (OrNoMemory Refusal) → NetAnswer → Type 0

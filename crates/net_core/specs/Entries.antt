@@ -1,11 +1,11 @@
 -- What an entry of the table keeps beside its network, so that a lease needs no walk over the range.
 use Rattle.std.specs.Prelude.{◌≡◌, ℕ, ◌≤◌, ◌<◌, ◌||◌, true, false, List, Option, None, Some}
-use Rattle.virt_types.specs.declared.mac.Mac.{Mac}
+use Rattle.virt_types.specs.Below.types_base.declared.mac.Mac.{Mac}
 use Rattle.virt_types.specs.declared.value.LeaseRow.{LeaseRow}
-use Rattle.virt_types.specs.declared.network_def.AddressRange.{AddressRange}
-use Rattle.virt_types.specs.declared.network_def.HostLine.{HostLine}
-use Rattle.network_spec.specs.declared.book.Network.{Network}
-use Rattle.network_spec.specs.Leases.{leased_to, is_leased, is_hosted, with_lease}
+use Rattle.virt_types.specs.Below.types_base.declared.network_def.AddressRange.{AddressRange}
+use Rattle.virt_types.specs.Below.types_base.declared.network_def.HostLine.{HostLine}
+use Rattle.book_spec.specs.declared.book.Network.{Network}
+use Rattle.book_spec.specs.Leases.{leased_to, is_leased, is_hosted, with_lease}
 use Rattle.net_core.specs.declared.mac_index.MacIndex.{MacIndex}
 use Rattle.net_core.specs.Index.{IsMac, address_at}
 

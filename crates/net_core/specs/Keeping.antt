@@ -2,9 +2,9 @@
 use Rattle.std.specs.Prelude.{◌≡◌, ℕ, ◌≤◌, [], length, Some}
 use Rattle.std.proofs.Common.{le_refl}
 use Rattle.turn_cell.specs.Meaning.{Meaning, NoMarkLowers, NewBaseKeeps}
-use Rattle.network_spec.specs.declared.book.NetMark.{NetMark}
-use Rattle.network_spec.specs.Networks.{Networks}
-use Rattle.network_spec.specs.NetHistory.{NetHistory, networks_of, most_marks}
+use Rattle.book_spec.specs.declared.book.NetMark.{NetMark}
+use Rattle.book_spec.specs.Networks.{Networks}
+use Rattle.book_spec.specs.NetHistory.{NetHistory, networks_of, most_marks}
 
 -- a pass keeps nothing in the book
 abbrev pub meaning : Meaning NetHistory Networks NetMark (Unit {0})

@@ -3,12 +3,12 @@ use Rattle.std.specs.Prelude.{◌≡◌, ◌⊎◌, [], ◌∷◌}
 use Rattle.history_spec.specs.Chapter.{tagged}
 use Rattle.turn_cell.specs.Passes.{Passed}
 use Rattle.turn_cell.specs.Turning.{Went}
-use Rattle.network_spec.specs.declared.book.NetAnswer.{NetAnswer}
-use Rattle.network_spec.specs.declared.book.NetAnswer.TheVariants.{Refused}
-use Rattle.network_spec.specs.declared.book.NetCall.{NetCall}
-use Rattle.network_spec.specs.declared.book.NetMark.{NetMark}
-use Rattle.network_spec.specs.Networks.{Networks}
-use Rattle.network_spec.specs.NetCalls.{answer, no_memory}
+use Rattle.book_spec.specs.declared.book.NetAnswer.{NetAnswer}
+use Rattle.book_spec.specs.declared.book.NetAnswer.TheVariants.{Refused}
+use Rattle.book_spec.specs.declared.book.NetCall.{NetCall}
+use Rattle.book_spec.specs.declared.book.NetMark.{NetMark}
+use Rattle.book_spec.specs.Networks.{Networks}
+use Rattle.book_spec.specs.NetCalls.{answer, no_memory}
 use Rattle.net_core.specs.Keeping.{meaning}
 
 abbrev pub NetPassed : Type 0

@@ -1,12 +1,12 @@
 ghost use Rattle.std.specs.Prelude.{◌≡◌, ℕ, ◌<◌, ◌^◌, [], map, IfOk, Ok, length};
-ghost use Rattle.network_spec.specs.declared.book.NetCall.{NetCall};
-ghost use Rattle.network_spec.specs.declared.book.NetCall.TheVariants as call;
-ghost use Rattle.network_spec.specs.declared.book.NetMark.{NetMark};
-ghost use Rattle.network_spec.specs.declared.book.NetAnswer.TheVariants.{Refused};
-ghost use Rattle.network_spec.specs.Networks.{Networks, network_of, uuid_of};
-ghost use Rattle.network_spec.specs.NetCalls.{IsStored};
-ghost use Rattle.network_spec.specs.NetHistory.{CanCall, HasCalled, MayCall, networks_of, told, told_lease, with_call, with_mark};
-ghost use Rattle.network_spec.specs.NetReads.{AreLeases, AreRows, IsDescribed, IsReadOf};
+ghost use Rattle.book_spec.specs.declared.book.NetCall.{NetCall};
+ghost use Rattle.book_spec.specs.declared.book.NetCall.TheVariants as call;
+ghost use Rattle.book_spec.specs.declared.book.NetMark.{NetMark};
+ghost use Rattle.book_spec.specs.declared.book.NetAnswer.TheVariants.{Refused};
+ghost use Rattle.book_spec.specs.Networks.{Networks, network_of, uuid_of};
+ghost use Rattle.book_spec.specs.NetCalls.{IsStored};
+ghost use Rattle.book_spec.specs.NetHistory.{CanCall, HasCalled, MayCall, networks_of, told, told_lease, with_call, with_mark};
+ghost use Rattle.book_spec.specs.NetReads.{AreLeases, AreRows, IsDescribed, IsReadOf};
 ghost use Rattle.net_core.specs.Opening.{opened};
 
 use crate::chronicle::Chronicle;
@@ -17,7 +17,7 @@ use crate::marking::{
 };
 use crate::refusals::plain;
 use crate::table::Table;
-use network_spec::{LeaseFault, NetRowList};
+use book_spec::{LeaseFault, NetRowList};
 use std::alloc::Global;
 use std::marker::Model;
 use virt_types::{LeaseRowList, Mac, NetDef, NoMemory, OrNoMemory, Refusal, Text, Uuid};
@@ -31,7 +31,7 @@ pub struct NetBook {
 }
 
 impl Model for NetBook {
-    ghost use Rattle.network_spec.specs.NetHistory.{NetHistory};
+    ghost use Rattle.book_spec.specs.NetHistory.{NetHistory};
     ghost use Rattle.net_core.specs.Keeping.{IsKept};
 
     ghost Value = { NetHistory };

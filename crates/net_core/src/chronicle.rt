@@ -1,8 +1,8 @@
 // The history of the book: at run time the numbers of its chapter and of its marks.
 ghost use Rattle.std.specs.Prelude.{◌≡◌, ◌<◌, ◌^◌, [], length};
-ghost use Rattle.network_spec.specs.Networks.{Networks};
-ghost use Rattle.network_spec.specs.declared.book.NetMark.{NetMark};
-ghost use Rattle.network_spec.specs.NetHistory.{NetHistory, open_chapter, with_mark};
+ghost use Rattle.book_spec.specs.Networks.{Networks};
+ghost use Rattle.book_spec.specs.declared.book.NetMark.{NetMark};
+ghost use Rattle.book_spec.specs.NetHistory.{NetHistory, open_chapter, with_mark};
 
 use crate::story::Story;
 use std::marker::Model;
@@ -19,7 +19,7 @@ pub struct Chronicle {
 }
 
 impl Model for Chronicle {
-    ghost use Rattle.network_spec.specs.NetHistory.{NetHistory};
+    ghost use Rattle.book_spec.specs.NetHistory.{NetHistory};
     ghost use Rattle.net_core.specs.Keeping.{IsCounted};
 
     ghost Value = { NetHistory };

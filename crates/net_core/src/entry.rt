@@ -1,14 +1,14 @@
 // A network of the book.
 ghost use Rattle.std.specs.Prelude.{◌≡◌, option_copied, None, Some, OnOk, OnErr, IfOk};
-ghost use Rattle.network_spec.specs.Networks.{has, identifier, name_of, new_network, uuid_of};
-ghost use Rattle.network_spec.specs.Leases.{address_for, dhcp_of, hosts_of, leased_to, least_free, lines_of, range_of, bounds_of, with_lease};
-ghost use Rattle.network_spec.specs.NetCalls.{started, stopped, with_autostart, with_def};
-ghost use Rattle.network_spec.specs.NetReads.{AreLeases, row_of};
+ghost use Rattle.book_spec.specs.Networks.{has, identifier, name_of, new_network, uuid_of};
+ghost use Rattle.book_spec.specs.Leases.{address_for, dhcp_of, hosts_of, leased_to, least_free, lines_of, range_of, bounds_of, with_lease};
+ghost use Rattle.book_spec.specs.NetCalls.{started, stopped, with_autostart, with_def};
+ghost use Rattle.book_spec.specs.NetReads.{AreLeases, row_of};
 ghost use Rattle.net_core.specs.Entries.{Begins, with_address};
 
 use crate::hosts::{address_of, first_without_line, is_host_address};
 use crate::leases::Leases;
-use network_spec::NetRow;
+use book_spec::NetRow;
 use std::alloc::Global;
 use std::marker::Model;
 use std::mem;
@@ -28,8 +28,8 @@ pub struct Entry {
 }
 
 impl Model for Entry {
-    ghost use Rattle.network_spec.specs.declared.book.Network.{Network};
-    ghost use Rattle.network_spec.specs.Leases.{bounds_of, dhcp_of, lines_of};
+    ghost use Rattle.book_spec.specs.declared.book.Network.{Network};
+    ghost use Rattle.book_spec.specs.Leases.{bounds_of, dhcp_of, lines_of};
     ghost use Rattle.net_core.specs.Entries.{KeepsNext};
 
     ghost Value = { Network };

@@ -1,6 +1,6 @@
 // The host lines of a network.
 ghost use Rattle.std.specs.Prelude.{◌≡◌, find};
-ghost use Rattle.network_spec.specs.Leases.{hosted_for, is_hosted, same_mac};
+ghost use Rattle.book_spec.specs.Leases.{hosted_for, is_hosted, same_mac};
 ghost use Rattle.net_core.specs.Entries.{IsFirst};
 
 use virt_types::{HostLine, Mac};
@@ -18,7 +18,7 @@ fn line_for(hosts: &[HostLine], mac: Mac) -> Option<HostLine>
 }
 
 /// The address of the first line of this interface.
-#[tactic(auto, unfolding(network_spec::specs::Leases::hosted_for))]
+#[tactic(auto, unfolding(book_spec::specs::Leases::hosted_for))]
 pub(crate) fn address_of(hosts: &[HostLine], mac: Mac) -> Option<u32>
     ensures { result ≡ hosted_for mac hosts.now }
 {
@@ -29,7 +29,7 @@ pub(crate) fn address_of(hosts: &[HostLine], mac: Mac) -> Option<u32>
 }
 
 /// Whether a line has this address.
-#[tactic(auto, unfolding(network_spec::specs::Leases::is_hosted))]
+#[tactic(auto, unfolding(book_spec::specs::Leases::is_hosted))]
 pub(crate) fn is_host_address(hosts: &[HostLine], address: u32) -> bool
     ensures { result ≡ is_hosted address hosts.now }
 {

@@ -1,5 +1,5 @@
 use crate::book::NetBook;
-use network_spec::{NetMark, Networks};
+use book_spec::{NetMark, Networks};
 use turn_cell::Kept;
 
 impl Kept for NetBook {

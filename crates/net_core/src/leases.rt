@@ -1,7 +1,7 @@
 // The leases of a network.
 ghost use Rattle.std.specs.Prelude.{◌≡◌, ◌++◌, ◌∷◌, [], None, OnOk, OnErr, IfOk};
-ghost use Rattle.network_spec.specs.Leases.{leased_to};
-ghost use Rattle.network_spec.specs.NetReads.{AreInOrder};
+ghost use Rattle.book_spec.specs.Leases.{leased_to};
+ghost use Rattle.book_spec.specs.NetReads.{AreInOrder};
 
 use crate::mac_index::MacIndex;
 use std::alloc::Global;

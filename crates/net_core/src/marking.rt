@@ -1,13 +1,13 @@
 // The marks of calls. Who calls these functions says what the mark is; a pick sees the callee's
 // arguments alone, so they take what was asked for.
 ghost use Rattle.std.specs.Prelude.{◌≡◌, ◌<◌, ◌^◌, length};
-ghost use Rattle.network_spec.specs.declared.book.NetMark.{NetMark};
-ghost use Rattle.network_spec.specs.NetHistory.{with_mark};
+ghost use Rattle.book_spec.specs.declared.book.NetMark.{NetMark};
+ghost use Rattle.book_spec.specs.NetHistory.{with_mark};
 ghost use Rattle.net_core.specs.Answers.{Leaves, LeavesRefusal};
 
 use crate::chronicle::Chronicle;
 use crate::refusals::Tested;
-use network_spec::LeaseFault;
+use book_spec::LeaseFault;
 use virt_types::{Mac, NetDef, OrNoMemory, Refusal, Text, Uuid};
 
 // The mark of a call, but where there was no memory.

@@ -1,8 +1,8 @@
 // Why a call on a network is not done.
 ghost use Rattle.std.specs.Prelude.{◌≡◌};
 ghost use Rattle.uuid.specs.Text.{hyphenated_text, lower};
-ghost use Rattle.network_spec.specs.declared.book.NetAnswer.TheVariants.{Refused};
-ghost use Rattle.network_spec.specs.NetCalls.{book_full, is_active, is_inactive, network_exists, no_memory, no_network};
+ghost use Rattle.book_spec.specs.declared.book.NetAnswer.TheVariants.{Refused};
+ghost use Rattle.book_spec.specs.NetCalls.{book_full, is_active, is_inactive, network_exists, no_memory, no_network};
 ghost use Rattle.net_core.specs.Answers.{IsMissing, Tells, plain_of};
 
 use std::alloc::Global;

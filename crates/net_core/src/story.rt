@@ -1,7 +1,7 @@
 // The history of the book, of no bytes.
 ghost use Rattle.std.specs.Prelude.{◌≡◌};
 ghost use Rattle.std.specs.Borrow.{ftrue};
-ghost use Rattle.network_spec.specs.NetHistory.{NetHistory};
+ghost use Rattle.book_spec.specs.NetHistory.{NetHistory};
 
 use std::marker::{Model, PhantomData};
 

@@ -1,10 +1,10 @@
 // The networks of the book.
 ghost use Rattle.std.specs.Prelude.{◌≡◌, Bool, map, option_copied, IfOk, position};
-ghost use Rattle.network_spec.specs.declared.book.NetAnswer.TheVariants.{Done};
-ghost use Rattle.network_spec.specs.declared.book.NetCall.TheVariants as call;
-ghost use Rattle.network_spec.specs.Networks.{has, name_of, network_of, uuid_of, with_changed, without};
-ghost use Rattle.network_spec.specs.NetCalls.{answer, if_active, if_inactive, if_there, networks_after, redefined, started, stopped, with_autostart, with_network};
-ghost use Rattle.network_spec.specs.NetReads.{AreLeases, AreRows, IsDescribed, row_of};
+ghost use Rattle.book_spec.specs.declared.book.NetAnswer.TheVariants.{Done};
+ghost use Rattle.book_spec.specs.declared.book.NetCall.TheVariants as call;
+ghost use Rattle.book_spec.specs.Networks.{has, name_of, network_of, uuid_of, with_changed, without};
+ghost use Rattle.book_spec.specs.NetCalls.{answer, if_active, if_inactive, if_there, networks_after, redefined, started, stopped, with_autostart, with_network};
+ghost use Rattle.book_spec.specs.NetReads.{AreLeases, AreRows, IsDescribed, row_of};
 ghost use Rattle.net_core.specs.Answers.{IsFoundOf, LeaseTakesEffect, TakesEffect, Tells, TellsLease};
 ghost use Rattle.net_core.specs.Opening.{opened};
 
@@ -13,7 +13,7 @@ use crate::found::FoundNetworkList;
 use crate::refusals::{
     Tested, book_full, is_active, is_inactive, missing, name_exists, no_network, uuid_exists,
 };
-use network_spec::{LeaseFault, NetRow, NetRowList};
+use book_spec::{LeaseFault, NetRow, NetRowList};
 use std::alloc::Global;
 use std::marker::Model;
 use virt_types::{LeaseRowList, ListOf, Mac, NetDef, NoMemory, OrNoMemory, Refusal, TryCopy, Uuid};
@@ -30,7 +30,7 @@ pub struct Table {
 
 impl Model for Table {
     ghost use Rattle.std.specs.Prelude.{◌≤◌, vec_capacity};
-    ghost use Rattle.network_spec.specs.Networks.{Networks};
+    ghost use Rattle.book_spec.specs.Networks.{Networks};
 
     ghost Value = { Networks };
 
@@ -159,7 +159,7 @@ impl Table {
     }
 
     /// Whether there is a network of this identifier.
-    #[tactic(auto, unfolding(network_spec::specs::NetCalls::answer))]
+    #[tactic(auto, unfolding(book_spec::specs::NetCalls::answer))]
     pub(crate) fn may_change(&self, uuid: Uuid) -> Tested
         ensures { (on : Bool) → Tells result (answer (call.Autostart uuid on) self.now) }
     {
@@ -171,7 +171,7 @@ impl Table {
     }
 
     /// Whether there is one that is inactive.
-    #[tactic(auto, unfolding(network_spec::specs::NetCalls::answer))]
+    #[tactic(auto, unfolding(book_spec::specs::NetCalls::answer))]
     pub(crate) fn may_undefine(&self, uuid: Uuid) -> Tested
         ensures { Tells result (answer (call.Undefine uuid) self.now) }
     {
@@ -231,7 +231,7 @@ impl Table {
     }
 
     /// Starts a network that is inactive.
-    #[tactic(auto, unfolding(network_spec::specs::NetCalls::answer, network_spec::specs::NetCalls::networks_after))]
+    #[tactic(auto, unfolding(book_spec::specs::NetCalls::answer, book_spec::specs::NetCalls::networks_after))]
     pub(crate) fn start(&mut self, uuid: Uuid) -> Tested
         ensures answer { Tells result (answer (call.Start uuid) self.old) }
         ensures effect { TakesEffect (call.Start uuid) result self.old self.new }
@@ -247,7 +247,7 @@ impl Table {
     }
 
     /// Stops a network that is active.
-    #[tactic(auto, unfolding(network_spec::specs::NetCalls::answer, network_spec::specs::NetCalls::networks_after))]
+    #[tactic(auto, unfolding(book_spec::specs::NetCalls::answer, book_spec::specs::NetCalls::networks_after))]
     pub(crate) fn stop(&mut self, uuid: Uuid) -> Tested
         ensures answer { Tells result (answer (call.Stop uuid) self.old) }
         ensures effect { TakesEffect (call.Stop uuid) result self.old self.new }

@@ -1,14 +1,14 @@
 // The calls of the book in turns. Each mark bears the number of the pass that has the turn.
 ghost use Rattle.std.specs.Prelude.{◌≡◌, ℕ, ◌<◌, ◌^◌, true, IfOk, IfErr, Ok};
-ghost use Rattle.network_spec.specs.declared.book.NetAnswer.TheVariants.{Refused};
-ghost use Rattle.network_spec.specs.declared.book.NetCall.{NetCall};
-ghost use Rattle.network_spec.specs.declared.book.NetCall.TheVariants as call;
-ghost use Rattle.network_spec.specs.NetCalls.{IsStored};
-ghost use Rattle.network_spec.specs.NetHistory.{CanCall, HasCalled, MayCall, told, told_lease, with_call, with_mark};
+ghost use Rattle.book_spec.specs.declared.book.NetAnswer.TheVariants.{Refused};
+ghost use Rattle.book_spec.specs.declared.book.NetCall.{NetCall};
+ghost use Rattle.book_spec.specs.declared.book.NetCall.TheVariants as call;
+ghost use Rattle.book_spec.specs.NetCalls.{IsStored};
+ghost use Rattle.book_spec.specs.NetHistory.{CanCall, HasCalled, MayCall, told, told_lease, with_call, with_mark};
 ghost use Rattle.net_core.specs.Turns.{HasAsked};
 
 use crate::book::NetBook;
-use network_spec::LeaseFault;
+use book_spec::LeaseFault;
 use std::sync::Wait;
 use turn_cell::{Pass, Turn, TurnCell};
 use virt_types::{Mac, NetDef, OrNoMemory, Refusal, Text, Uuid};

@@ -1,11 +1,11 @@
 -- Host lines, read one after the other.
 use Rattle.std.proofs.Common.{◌≡◌, List, [], ◌∷◌, ◌++◌, append_assoc, append-nil, Bool, true, false, cond, Result, Ok, Err, refl, sym, ap, ◌∙◌}
 use Rattle.std.specs.Prelude.{codes, filter}
-use Rattle.virt_types.specs.declared.network_def.HostLine.{HostLine}
+use Rattle.types_base.specs.declared.network_def.HostLine.{HostLine}
 use Rattle.text_spec.specs.declared.definition.DefFault.{DefFault}
 use Rattle.text_spec.specs.Tree.{Tree}
-use Rattle.tree_words.specs.Called.{is_called}
-use Rattle.text_rows.specs.Rows.{then_read}
+use Rattle.xml_tables.specs.Called.{is_called}
+use Rattle.xml_tables.specs.Rows.{then_read}
 use Rattle.network_xml.specs.NetworkText.{host_of, hosts_of}
 use Rattle.network_xml.specs.declared.subnet.Subnet.{Subnet}
 

@@ -8,14 +8,14 @@ use Rattle.std.specs.Str.{IsAscii}
 use Rattle.std.proofs.lemmas.Str.{chars-IsAscii}
 use Rattle.uuid.specs.Parts.{zero_bytes}
 use Rattle.uuid.specs.Text.{hyphenated_text, lower}
-use Rattle.virt_types.specs.Mac.{mac_text}
-use Rattle.virt_types.specs.declared.network_def.AddressRange.{AddressRange}
-use Rattle.virt_types.specs.declared.network_def.Dhcp.{Dhcp}
-use Rattle.virt_types.specs.declared.network_def.ForwardMode.{ForwardMode}
-use Rattle.virt_types.specs.declared.network_def.ForwardMode.TheVariants as mode
-use Rattle.virt_types.specs.declared.network_def.HostLine.{HostLine}
-use Rattle.virt_types.specs.declared.network_def.NetDef.{NetDef}
-use Rattle.virt_types.specs.declared.network_def.NetIp.{NetIp}
+use Rattle.types_base.specs.Mac.{mac_text}
+use Rattle.types_base.specs.declared.network_def.AddressRange.{AddressRange}
+use Rattle.types_base.specs.declared.network_def.Dhcp.{Dhcp}
+use Rattle.types_base.specs.declared.network_def.ForwardMode.{ForwardMode}
+use Rattle.types_base.specs.declared.network_def.ForwardMode.TheVariants as mode
+use Rattle.types_base.specs.declared.network_def.HostLine.{HostLine}
+use Rattle.types_base.specs.declared.network_def.NetDef.{NetDef}
+use Rattle.types_base.specs.declared.network_def.NetIp.{NetIp}
 use Rattle.procedure_spec.specs.LeaseText.{address_text}
 use Rattle.procedure_spec.proofs.LeaseTexts.{address_again}
 use Rattle.text_spec.specs.Character.{is_name_start, is_name_char}
@@ -35,13 +35,13 @@ use Rattle.text_laws.proofs.Bare.{mac_plain}
 use Rattle.text_laws.proofs.Lengths.{AreNoLonger, as_long, both_longer, first_room, fits_too, none_longer, tree_room, with_room}
 use Rattle.text_laws.proofs.Macs.{mac_back}
 use Rattle.text_laws.proofs.Plain.{ArePlain, ascii, decimal_plain, named_by, plain_value, word_value}
-use Rattle.tree_words.specs.Called.{all_called, first_called, is_called, is_pair_called, text_called, value_called}
-use Rattle.tree_words.specs.Spelled.{spelled, worded, worth}
-use Rattle.text_rows.specs.Rows.{optional}
-use Rattle.text_rows.specs.Values.{uuid_tree}
-use Rattle.text_rows.proofs.Again.{identifier_back, name_back}
-use Rattle.text_rows.proofs.Identifiers.{uuid_filled, uuid_longer}
-use Rattle.text_rows.proofs.Formed.{first_in, holder_formed, one_attribute, uuid_formed, word_formed, writable}
+use Rattle.xml_tables.specs.Called.{all_called, first_called, is_called, is_pair_called, text_called, value_called}
+use Rattle.xml_tables.specs.Spelled.{spelled, worded, worth}
+use Rattle.xml_tables.specs.Rows.{optional}
+use Rattle.xml_tables.specs.Values.{uuid_tree}
+use Rattle.xml_tables.proofs.Again.{identifier_back, name_back}
+use Rattle.xml_tables.proofs.Identifiers.{uuid_filled, uuid_longer}
+use Rattle.xml_tables.proofs.Formed.{first_in, holder_formed, one_attribute, uuid_formed, word_formed, writable}
 use Rattle.network_xml.specs.Addresses.{mask_of}
 use Rattle.network_xml.proofs.Masks.{is_le, mask_small, ones_back}
 use Rattle.network_xml.specs.NetworkPrinted.{bridge_tree, dhcp_tree, forward_tree, host_tree, identified, if_some, ip_tree, mode_word, network_fits, network_tree, range_tree}

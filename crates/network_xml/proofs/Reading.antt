@@ -1,17 +1,17 @@
 -- What is read, from its parts.
 use Rattle.std.proofs.Common.{◌≡◌, ℕ, List, Option, Ok, refl, sym}
 use Rattle.std.specs.Prelude.{codes}
-use Rattle.virt_types.specs.Memory.{FailsUnlessNoMemory}
-use Rattle.virt_types.specs.declared.memory.OrNoMemory.{OrNoMemory}
-use Rattle.virt_types.specs.declared.memory.OrNoMemory.TheVariants.{Fault, NoMemory}
-use Rattle.virt_types.specs.declared.network_def.Dhcp.{Dhcp}
-use Rattle.virt_types.specs.declared.network_def.ForwardMode.{ForwardMode}
-use Rattle.virt_types.specs.declared.network_def.NetIp.{NetIp}
+use Rattle.types_base.specs.Memory.{FailsUnlessNoMemory}
+use Rattle.types_base.specs.declared.memory.OrNoMemory.{OrNoMemory}
+use Rattle.types_base.specs.declared.memory.OrNoMemory.TheVariants.{Fault, NoMemory}
+use Rattle.types_base.specs.declared.network_def.Dhcp.{Dhcp}
+use Rattle.types_base.specs.declared.network_def.ForwardMode.{ForwardMode}
+use Rattle.types_base.specs.declared.network_def.NetIp.{NetIp}
 use Rattle.text_spec.specs.declared.definition.DefFault.{DefFault}
 use Rattle.text_spec.specs.Tree.{Tree}
-use Rattle.tree_words.specs.Called.{first_called, text_called, value_called}
-use Rattle.text_rows.specs.Rows.{needed, optional}
-use Rattle.text_rows.specs.Values.{name_value, uuid_value}
+use Rattle.xml_tables.specs.Called.{first_called, text_called, value_called}
+use Rattle.xml_tables.specs.Rows.{needed, optional}
+use Rattle.xml_tables.specs.Values.{name_value, uuid_value}
 use Rattle.network_xml.specs.NetworkText.{address_value, bridge_in, dhcp_of, if_there, ip_of, mode_in, mode_value, network_of, prefix_of}
 
 pub ip_reads : (t : Tree) (address prefix : ℕ) (dhcp : Option Dhcp) (addresses masks prefixes : Option (List ℕ)) (parts : Option Tree)

@@ -3,13 +3,13 @@ use Rattle.std.proofs.Common.{◌≡◌, ℕ, ◌^◌, ◌<◌, Bool, true, fals
 use Rattle.std.specs.Prelude.{◌&&◌, codes, nat_le, option_and_then}
 use Rattle.std.specs.List.{AllByRecursion}
 use Rattle.std.proofs.lemmas.Bool.Decides.{nat_tests}
-use Rattle.virt_types.specs.Name.{bad_place}
-use Rattle.virt_types.specs.declared.mac.Mac.{Mac}
-use Rattle.virt_types.specs.declared.network_def.AddressRange.{AddressRange}
-use Rattle.virt_types.specs.declared.network_def.Dhcp.{Dhcp}
-use Rattle.virt_types.specs.declared.network_def.HostLine.{HostLine}
-use Rattle.virt_types.specs.declared.network_def.NetDef.{NetDef}
-use Rattle.virt_types.specs.declared.network_def.NetIp.{NetIp}
+use Rattle.types_base.specs.Name.{bad_place}
+use Rattle.types_base.specs.declared.mac.Mac.{Mac}
+use Rattle.types_base.specs.declared.network_def.AddressRange.{AddressRange}
+use Rattle.types_base.specs.declared.network_def.Dhcp.{Dhcp}
+use Rattle.types_base.specs.declared.network_def.HostLine.{HostLine}
+use Rattle.types_base.specs.declared.network_def.NetDef.{NetDef}
+use Rattle.types_base.specs.declared.network_def.NetIp.{NetIp}
 use Rattle.procedure_spec.specs.LeaseText.{address_written}
 use Rattle.procedure_spec.proofs.LeaseTexts.{address_found}
 use Rattle.text_spec.specs.declared.definition.DefFault.{DefFault}
@@ -25,12 +25,12 @@ use Rattle.text_laws.specs.Given.{IsMac, IsUuidOf, IsValue, IsWithin}
 use Rattle.text_laws.specs.Texts.{Of}
 use Rattle.text_laws.proofs.Parts.{both_of}
 use Rattle.text_laws.proofs.ReadMacs.{Read, mac_read}
-use Rattle.tree_words.specs.Called.{all_called, first_called, is_called, text_called, value_called}
-use Rattle.text_rows.specs.Rows.{needed, optional, present}
-use Rattle.text_rows.specs.Values.{name_value, uuid_value}
-use Rattle.text_rows.proofs.Found.{Formed, all_formed, first_formed, text_formed, then_of, value_formed}
-use Rattle.text_rows.proofs.Identifiers.{uuid_was}
-use Rattle.text_rows.proofs.Was.{at_was, fitting_was, known_was, name_was, needed_was, optional_was, root_was, same_value, then_was}
+use Rattle.xml_tables.specs.Called.{all_called, first_called, is_called, text_called, value_called}
+use Rattle.xml_tables.specs.Rows.{needed, optional, present}
+use Rattle.xml_tables.specs.Values.{name_value, uuid_value}
+use Rattle.xml_tables.proofs.Found.{Formed, all_formed, first_formed, text_formed, then_of, value_formed}
+use Rattle.xml_tables.proofs.Identifiers.{uuid_was}
+use Rattle.xml_tables.proofs.Was.{at_was, fitting_was, known_was, name_was, needed_was, optional_was, root_was, same_value, then_was}
 use Rattle.network_xml.specs.Addresses.{contains, has_range, ones_of}
 use Rattle.network_xml.specs.NetworkPrinted.{network_fits}
 use Rattle.network_xml.specs.NetworkText.{a_prefix, address_value, bridge_in, dhcp_of, host_of, hosts_of, if_there, in_range, ip_of, mac_value, mask_value, mode_in, mode_value, network_in, network_of, network_read, prefix_of, prefix_value, range_of}

@@ -1,7 +1,7 @@
 -- The addresses of a network (RFC 4632): those that begin with as many of the same bits as its prefix says.
 use Rattle.std.specs.Prelude.{ℕ, ◌-◌, ◌/◌, ◌^◌, ◌==◌, ◌&&◌, Bool, find, nat_le, Option}
 use Rattle.std.specs.List.{range_with_len}
-use Rattle.virt_types.specs.declared.network_def.AddressRange.{AddressRange}
+use Rattle.types_base.specs.declared.network_def.AddressRange.{AddressRange}
 use Rattle.network_xml.specs.declared.subnet.Subnet.{Subnet}
 
 -- how many addresses a network of this prefix has

@@ -2,20 +2,20 @@
 use Rattle.std.specs.Prelude.{ℕ, List, [], ◌∷◌, ◌++◌, Bool, map, Option, Some, option_map, unwrap_or, codes}
 use Rattle.std.specs.Option.{option_to_list}
 use Rattle.uuid.specs.Parts.{zero_bytes}
-use Rattle.virt_types.specs.Mac.{mac_text}
-use Rattle.virt_types.specs.declared.network_def.AddressRange.{AddressRange}
-use Rattle.virt_types.specs.declared.network_def.Dhcp.{Dhcp}
-use Rattle.virt_types.specs.declared.network_def.ForwardMode.{ForwardMode}
-use Rattle.virt_types.specs.declared.network_def.ForwardMode.TheVariants as mode
-use Rattle.virt_types.specs.declared.network_def.HostLine.{HostLine}
-use Rattle.virt_types.specs.declared.network_def.NetDef.{NetDef}
-use Rattle.virt_types.specs.declared.network_def.NetIp.{NetIp}
+use Rattle.types_base.specs.Mac.{mac_text}
+use Rattle.types_base.specs.declared.network_def.AddressRange.{AddressRange}
+use Rattle.types_base.specs.declared.network_def.Dhcp.{Dhcp}
+use Rattle.types_base.specs.declared.network_def.ForwardMode.{ForwardMode}
+use Rattle.types_base.specs.declared.network_def.ForwardMode.TheVariants as mode
+use Rattle.types_base.specs.declared.network_def.HostLine.{HostLine}
+use Rattle.types_base.specs.declared.network_def.NetDef.{NetDef}
+use Rattle.types_base.specs.declared.network_def.NetIp.{NetIp}
 use Rattle.procedure_spec.specs.LeaseText.{address_text}
 use Rattle.text_spec.specs.declared.pair.Pair.{Pair}
 use Rattle.text_spec.specs.Spelling.{fits}
 use Rattle.text_spec.specs.Tree.{Tree}
-use Rattle.tree_words.specs.Spelled.{spelled, worded, worth}
-use Rattle.text_rows.specs.Values.{uuid_tree}
+use Rattle.xml_tables.specs.Spelled.{spelled, worded, worth}
+use Rattle.xml_tables.specs.Values.{uuid_tree}
 use Rattle.network_xml.specs.Addresses.{mask_of}
 
 -- the part that there may be

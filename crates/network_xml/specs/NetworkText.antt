@@ -1,14 +1,14 @@
 -- The texts of networks, after libvirt's network format ("General metadata", "Connectivity", "Addressing").
 use Rattle.std.specs.Prelude.{ℕ, List, [], ◌∷◌, ◌&&◌, Bool, Option, Some, None, Result, Ok, Err, nat_le, option_and_then, codes, if◌then◌else◌}
 use Rattle.std.specs.Str.{bytes_eq}
-use Rattle.virt_types.specs.declared.mac.Mac.{Mac}
-use Rattle.virt_types.specs.declared.network_def.AddressRange.{AddressRange}
-use Rattle.virt_types.specs.declared.network_def.Dhcp.{Dhcp}
-use Rattle.virt_types.specs.declared.network_def.ForwardMode.{ForwardMode}
-use Rattle.virt_types.specs.declared.network_def.ForwardMode.TheVariants as mode
-use Rattle.virt_types.specs.declared.network_def.HostLine.{HostLine}
-use Rattle.virt_types.specs.declared.network_def.NetDef.{NetDef}
-use Rattle.virt_types.specs.declared.network_def.NetIp.{NetIp}
+use Rattle.types_base.specs.declared.mac.Mac.{Mac}
+use Rattle.types_base.specs.declared.network_def.AddressRange.{AddressRange}
+use Rattle.types_base.specs.declared.network_def.Dhcp.{Dhcp}
+use Rattle.types_base.specs.declared.network_def.ForwardMode.{ForwardMode}
+use Rattle.types_base.specs.declared.network_def.ForwardMode.TheVariants as mode
+use Rattle.types_base.specs.declared.network_def.HostLine.{HostLine}
+use Rattle.types_base.specs.declared.network_def.NetDef.{NetDef}
+use Rattle.types_base.specs.declared.network_def.NetIp.{NetIp}
 use Rattle.procedure_spec.specs.LeaseText.{address_written}
 use Rattle.text_spec.specs.declared.definition.DefFault.{DefFault}
 use Rattle.text_spec.specs.declared.definition.DefKind.{DefKind}
@@ -18,9 +18,9 @@ use Rattle.text_spec.specs.MacText.{mac_of}
 use Rattle.text_spec.specs.Table.{fault_of_root, root_fault}
 use Rattle.text_spec.specs.Tree.{Tree}
 use Rattle.text_spec.specs.Units.{number_of}
-use Rattle.tree_words.specs.Called.{all_called, first_called, is_called, text_called, value_called}
-use Rattle.text_rows.specs.Rows.{at, needed, optional, present, then_read}
-use Rattle.text_rows.specs.Values.{known_value, name_value, uuid_value}
+use Rattle.xml_tables.specs.Called.{all_called, first_called, is_called, text_called, value_called}
+use Rattle.xml_tables.specs.Rows.{at, needed, optional, present, then_read}
+use Rattle.xml_tables.specs.Values.{known_value, name_value, uuid_value}
 use Rattle.network_xml.specs.Addresses.{contains, has_range, ones_of}
 use Rattle.network_xml.specs.NetworkPrinted.{network_fits}
 use Rattle.network_xml.specs.declared.subnet.Subnet.{Subnet}

@@ -1,12 +1,12 @@
 -- What whole texts say of networks, and what reading can give.
 use Rattle.std.specs.Prelude.{◌≡◌, ◌^◌, ◌<◌, ℕ, List, true, Ok, None}
 use Rattle.std.specs.List.{AllByRecursion}
-use Rattle.virt_types.specs.Name.{bad_place}
-use Rattle.virt_types.specs.declared.network_def.AddressRange.{AddressRange}
-use Rattle.virt_types.specs.declared.network_def.Dhcp.{Dhcp}
-use Rattle.virt_types.specs.declared.network_def.HostLine.{HostLine}
-use Rattle.virt_types.specs.declared.network_def.NetDef.{NetDef}
-use Rattle.virt_types.specs.declared.network_def.NetIp.{NetIp}
+use Rattle.types_base.specs.Name.{bad_place}
+use Rattle.types_base.specs.declared.network_def.AddressRange.{AddressRange}
+use Rattle.types_base.specs.declared.network_def.Dhcp.{Dhcp}
+use Rattle.types_base.specs.declared.network_def.HostLine.{HostLine}
+use Rattle.types_base.specs.declared.network_def.NetDef.{NetDef}
+use Rattle.types_base.specs.declared.network_def.NetIp.{NetIp}
 use Rattle.text_spec.specs.Text.{read_of}
 use Rattle.text_spec.specs.Tree.{Tree}
 use Rattle.text_spec.specs.Writable.{IsText}

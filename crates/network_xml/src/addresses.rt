@@ -1,16 +1,16 @@
 // Addresses as values of attributes: of the network (IPv4) and of interfaces.
 ghost use Rattle.std.specs.Prelude.{◌≡◌, option_map};
-ghost use Rattle.virt_types.specs.Memory.{UnlessNoMemory};
-ghost use Rattle.text_rows.specs.Rows.{at, needed};
+ghost use Rattle.types_base.specs.Memory.{UnlessNoMemory};
+ghost use Rattle.xml_tables.specs.Rows.{at, needed};
 ghost use Rattle.network_xml.specs.NetworkText as spec;
 
 use crate::subnet::ones_of;
-use definition_words::{mac_of, read_number};
 use procedure_spec::address_of;
 use std::alloc::Global;
-use text_rows::fault_at;
 use text_spec::{DefFault, DefKind};
-use virt_types::{Mac, OrNoMemory, Text};
+use types_base::{Mac, OrNoMemory, Text};
+use xml_tables::fault_at_path;
+use xml_words::{mac_of, read_number};
 
 /// An address that has to be there.
 ///
@@ -23,10 +23,10 @@ pub(crate) fn needed_address(
     ensures { UnlessNoMemory result (needed path.now spec.address_value (option_map (λ t. t.now) text.entry)) }
 {
     match text {
-        None => Err(fault_at(alloc, path, DefKind::Missing)),
+        None => Err(fault_at_path(alloc, path, DefKind::Missing)),
         Some(text) => match address_of(text.as_str()) {
             Some(address) => Ok(address),
-            None => Err(fault_at(alloc, path, DefKind::BadValue)),
+            None => Err(fault_at_path(alloc, path, DefKind::BadValue)),
         },
     }
 }
@@ -40,10 +40,10 @@ pub(crate) fn needed_mac(
     ensures { UnlessNoMemory result (needed path.now spec.mac_value (option_map (λ t. t.now) text.entry)) }
 {
     match text {
-        None => Err(fault_at(alloc, path, DefKind::Missing)),
+        None => Err(fault_at_path(alloc, path, DefKind::Missing)),
         Some(text) => match mac_of(text.as_bytes()) {
             Some(mac) => Ok(mac),
-            None => Err(fault_at(alloc, path, DefKind::BadValue)),
+            None => Err(fault_at_path(alloc, path, DefKind::BadValue)),
         },
     }
 }
@@ -83,7 +83,7 @@ fn kind_at<T>(
 {
     match value {
         Ok(value) => Ok(value),
-        Err(kind) => Err(fault_at(alloc, path, kind)),
+        Err(kind) => Err(fault_at_path(alloc, path, kind)),
     }
 }
 
@@ -101,6 +101,6 @@ pub(crate) fn prefix_of(
     match (mask, prefix) {
         (Some(mask), _) => kind_at(alloc, "/network/ip", mask_value(mask)),
         (None, Some(prefix)) => kind_at(alloc, "/network/ip", prefix_value(prefix)),
-        (None, None) => Err(fault_at(alloc, "/network/ip", DefKind::Missing)),
+        (None, None) => Err(fault_at_path(alloc, "/network/ip", DefKind::Missing)),
     }
 }

@@ -1,17 +1,16 @@
 // Which addresses a network leases, read.
 ghost use Rattle.std.specs.Prelude.{◌≡◌, codes, filter, map, option_map};
 ghost use Rattle.text_spec.specs.Tree.{seen};
-ghost use Rattle.tree_words.specs.Called.{all_called, is_called as called};
-ghost use Rattle.virt_types.specs.Memory.{UnlessNoMemory};
+ghost use Rattle.xml_tables.specs.Called.{all_called, is_called as called};
+ghost use Rattle.types_base.specs.Memory.{UnlessNoMemory};
 ghost use Rattle.network_xml.specs.NetworkText as spec;
 
 use crate::addresses::{needed_address, needed_mac};
 use crate::subnet::Subnet;
 use std::alloc::Global;
-use text_rows::fault_at;
 use text_spec::{DefFault, DefKind, Tree};
-use tree_words::{first_called, is_called, value_called};
-use virt_types::{AddressRange, Dhcp, HostLine, HostLineList, NoMemory, OrNoMemory};
+use types_base::{AddressRange, Dhcp, HostLine, HostLineList, NoMemory, OrNoMemory};
+use xml_tables::{fault_at_path, first_called, is_called, value_called};
 
 #[tactic(auto, unfolding(crate::specs::NetworkText::range_of))]
 fn range_of(
@@ -34,7 +33,7 @@ fn range_of(
     if subnet.has_range(range) {
         Ok(range)
     } else {
-        Err(fault_at(alloc, path, DefKind::Range))
+        Err(fault_at_path(alloc, path, DefKind::Range))
     }
 }
 
@@ -70,7 +69,7 @@ fn host_of(alloc: Global, subnet: Subnet, tree: &Tree) -> Result<HostLine, OrNoM
     if subnet.contains(address) {
         Ok(HostLine { mac, address })
     } else {
-        Err(fault_at(alloc, path, DefKind::Range))
+        Err(fault_at_path(alloc, path, DefKind::Range))
     }
 }
 
@@ -96,7 +95,7 @@ fn hosts_among(
     Ok(hosts)
 }
 
-#[tactic(auto, using(text_spec::proofs::Seen::children_seen), unfolding(tree_words::specs::Called::all_called))]
+#[tactic(auto, using(text_spec::proofs::Seen::children_seen), unfolding(xml_tables::specs::Called::all_called))]
 fn hosts_in(
     alloc: Global,
     subnet: Subnet,

@@ -1,7 +1,7 @@
 // The addresses of a network, read.
 ghost use Rattle.std.specs.Prelude.{◌≡◌, option_map};
 ghost use Rattle.text_spec.specs.Tree.{seen};
-ghost use Rattle.virt_types.specs.Memory.{UnlessNoMemory};
+ghost use Rattle.types_base.specs.Memory.{UnlessNoMemory};
 ghost use Rattle.network_xml.specs.NetworkText as spec;
 
 use crate::addresses::{needed_address, prefix_of};
@@ -9,8 +9,8 @@ use crate::dhcp::optional_dhcp;
 use crate::subnet::Subnet;
 use std::alloc::Global;
 use text_spec::{DefFault, Tree};
-use tree_words::{first_called, value_called};
-use virt_types::{NetIp, OrNoMemory};
+use types_base::{NetIp, OrNoMemory};
+use xml_tables::{first_called, value_called};
 
 #[tactic(auto, unfolding(crate::specs::NetworkText::ip_of))]
 fn ip_of(alloc: Global, tree: &Tree) -> Result<NetIp, OrNoMemory<DefFault>>

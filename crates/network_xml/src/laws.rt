@@ -1,6 +1,6 @@
 // What is printed of networks reads back, and what is read is sound.
 ghost use Rattle.std.specs.Prelude.{◌≡◌, ℕ, List};
-ghost use Rattle.virt_types.specs.declared.network_def.NetDef.{NetDef as TheNetwork};
+ghost use Rattle.types_base.specs.declared.network_def.NetDef.{NetDef as TheNetwork};
 ghost use Rattle.text_spec.specs.Fill.{IsUuidFilled};
 ghost use Rattle.text_spec.specs.Written.{written};
 ghost use Rattle.network_xml.specs.NetworkPrinted.{network_tree};

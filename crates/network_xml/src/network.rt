@@ -3,9 +3,9 @@ ghost use Rattle.std.specs.Prelude.{◌≡◌, IfOk, codes, option_map};
 ghost use Rattle.text_spec.specs.Fill.{IsUuidFilled};
 ghost use Rattle.text_spec.specs.Tree.{seen};
 ghost use Rattle.text_spec.specs.Written.{written};
-ghost use Rattle.virt_types.specs.Drawn.{IsMadeOfDrawn};
-ghost use Rattle.virt_types.specs.Memory.{UnlessNoMemory};
-ghost use Rattle.text_rows.specs.Rows.{optional};
+ghost use Rattle.types_base.specs.Drawn.{IsMadeOfDrawn};
+ghost use Rattle.types_base.specs.Memory.{UnlessNoMemory};
+ghost use Rattle.xml_tables.specs.Rows.{optional};
 ghost use Rattle.network_xml.specs.NetworkPrinted.{network_tree as the_tree};
 ghost use Rattle.network_xml.specs.NetworkText as spec;
 ghost use Rattle.network_xml.specs.ReadsAs.{IsSoundNetwork, ReadsAsNetwork};
@@ -13,14 +13,15 @@ ghost use Rattle.network_xml.specs.ReadsAs.{IsSoundNetwork, ReadsAsNetwork};
 use crate::ip::optional_ip;
 use crate::laws::printed_network_reads_back;
 use crate::network_tree::{network_fits, network_tree};
-use definition_fill::uuid_or_new;
-use element_table::fault_of_root;
 use markup::write_tree;
 use std::alloc::Global;
-use text_rows::{fault_at, needed_name, optional_uuid};
 use text_spec::{DefFault, DefKind, Tree};
-use tree_words::{first_called, is_called, text_called, value_called};
-use virt_types::{ForwardMode, NetDef, NoMemory, OrNoMemory, Random, Text, TryCopy};
+use types_base::{ForwardMode, NetDef, NoMemory, OrNoMemory, Random, Text, TryCopy};
+use xml_fill::uuid_or_new;
+use xml_tables::{
+    fault_at_path, fault_of_root, first_called, is_called, needed_name, optional_uuid, text_called,
+    value_called,
+};
 
 #[tactic(auto, unfolding(crate::specs::NetworkText::mode_in))]
 fn mode_in(tree: &Tree) -> Option<&Text>
@@ -62,7 +63,7 @@ fn optional_mode(
         Some(text) => match text.as_str() {
             "nat" => Ok(Some(ForwardMode::Nat)),
             "route" => Ok(Some(ForwardMode::Route)),
-            _ => Err(fault_at(alloc, "/network/forward", DefKind::BadValue)),
+            _ => Err(fault_at_path(alloc, "/network/forward", DefKind::BadValue)),
         },
     }
 }

@@ -1,18 +1,17 @@
 // The trees of networks.
 ghost use Rattle.std.specs.Prelude.{◌≡◌, ◌++◌, ◌∷◌, [], IfOk, OnOk, map};
 ghost use Rattle.text_spec.specs.Tree.{seen};
-ghost use Rattle.tree_words.specs.Spelled.{worth};
+ghost use Rattle.xml_tables.specs.Spelled.{worth};
 ghost use Rattle.network_xml.specs.NetworkPrinted as spec;
 
 use crate::subnet::mask_of;
-use definition_print::tree_fits;
-use definition_words::mac_text;
 use procedure_spec::address_text;
 use std::alloc::Global;
-use text_rows::add_uuid;
 use text_spec::{PairList, Tree};
-use tree_words::{add, push_worth, spelled, worded};
-use virt_types::{AddressRange, Dhcp, ForwardMode, HostLine, NetDef, NetIp, NoMemory, Text, Uuid};
+use types_base::{AddressRange, Dhcp, ForwardMode, HostLine, NetDef, NetIp, NoMemory, Text, Uuid};
+use xml_print::tree_fits;
+use xml_tables::{add, add_uuid, push_worth, spelled, worded};
+use xml_words::mac_text;
 
 /// Two attributes, each with its value.
 fn two_worths(

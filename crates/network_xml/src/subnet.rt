@@ -2,7 +2,7 @@
 ghost use Rattle.std.specs.Prelude.{◌≡◌};
 ghost use Rattle.network_xml.specs.Addresses as spec;
 
-use virt_types::AddressRange;
+use types_base::AddressRange;
 
 /// An address of a network, and how many leading bits all its addresses share.
 #[derive(Clone, Copy)]

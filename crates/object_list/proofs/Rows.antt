@@ -4,8 +4,8 @@ use Rattle.std.proofs.lemmas.Bool.{cases_eq, cond-true, cond-false, cond_both, a
 use Rattle.std.proofs.lemmas.List.{set-set, get_or_read}
 use Rattle.std.proofs.lemmas.List.Sums.{get_or-le-sum_by}
 use Rattle.history_spec.specs.Tally.{one_fewer}
-use Rattle.virt_types.specs.Front.{is_longer}
-use Rattle.virt_types.specs.declared.caller.Front.{Front}
+use Rattle.types_base.specs.Front.{is_longer}
+use Rattle.types_base.specs.declared.caller.Front.{Front}
 use Rattle.book_spec.specs.declared.list.Entry.{Entry}
 use Rattle.book_spec.specs.Slots.{Slots, entry_in, name_of, uuid_of, held_by, told, let_go_by, kept, released, times_held, holders_in, all_holders}
 use Rattle.book_spec.proofs.SlotProofs.{within_at}

@@ -6,10 +6,10 @@ use Rattle.history_spec.proofs.Marks.{added-more, added-next}
 use Rattle.turn_cell.specs.Passes.{Turned, Enters, left_by}
 use Rattle.turn_cell.specs.Turning.{Changes, Went}
 use Rattle.turn_cell.proofs.Turning.{changes_by, nothing_changes, turn_tells}
-use Rattle.virt_types.specs.Memory.{UnlessNoMemory}
-use Rattle.virt_types.specs.declared.caller.Front.{Front}
-use Rattle.virt_types.specs.declared.memory.OrNoMemory.{OrNoMemory}
-use Rattle.virt_types.specs.declared.memory.OrNoMemory.TheVariants.{Fault, NoMemory}
+use Rattle.types_base.specs.Memory.{UnlessNoMemory}
+use Rattle.types_base.specs.declared.caller.Front.{Front}
+use Rattle.types_base.specs.declared.memory.OrNoMemory.{OrNoMemory}
+use Rattle.types_base.specs.declared.memory.OrNoMemory.TheVariants.{Fault, NoMemory}
 use Rattle.book_spec.specs.declared.list.ListCall.{ListCall}
 use Rattle.book_spec.specs.declared.list.ListCall.TheVariants as call
 use Rattle.book_spec.specs.declared.list.ListFault.{ListFault}

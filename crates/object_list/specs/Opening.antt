@@ -1,6 +1,6 @@
 -- The slots with which the list is opened: the domains that were found, from slot 0 on. Each is occupied.
 use Rattle.std.specs.Prelude.{◌≡◌, ℕ, ◌-◌, ◌<◌, ◌≤◌, ◌++◌, true, List, map, length, replicate, slice_index_or, None, Some}
-use Rattle.virt_types.specs.Limits.{most_domains}
+use Rattle.types_base.specs.Limits.{most_domains}
 use Rattle.book_spec.specs.declared.list.Entry.{Entry}
 use Rattle.book_spec.specs.Slots.{Slots, new_entry}
 use Rattle.object_list.specs.declared.slot_name.FoundDomain.{FoundDomain}

@@ -3,10 +3,10 @@ use Rattle.std.specs.Prelude.{◌≡◌, ℕ, ◌+◌, ◌<◌, Bool, List, [], 
 use Rattle.history_spec.specs.Chapter.{tagged}
 use Rattle.turn_cell.specs.Passes.{Passed}
 use Rattle.turn_cell.specs.Turning.{Went}
-use Rattle.virt_types.specs.Memory.{UnlessNoMemory}
-use Rattle.virt_types.specs.declared.caller.Front.{Front}
-use Rattle.virt_types.specs.declared.memory.OrNoMemory.{OrNoMemory}
-use Rattle.virt_types.specs.declared.memory.OrNoMemory.TheVariants.{Fault, NoMemory}
+use Rattle.types_base.specs.Memory.{UnlessNoMemory}
+use Rattle.types_base.specs.declared.caller.Front.{Front}
+use Rattle.types_base.specs.declared.memory.OrNoMemory.{OrNoMemory}
+use Rattle.types_base.specs.declared.memory.OrNoMemory.TheVariants.{Fault, NoMemory}
 use Rattle.book_spec.specs.declared.list.ListCall.{ListCall}
 use Rattle.book_spec.specs.declared.list.ListCall.TheVariants as call
 use Rattle.book_spec.specs.declared.list.ListFault.{ListFault}

@@ -7,7 +7,7 @@ ghost use Rattle.object_list.specs.Index.{slot_at, Updates, Stays};
 
 use std::alloc::Global;
 use std::collections::BTreeMap;
-use virt_types::NoMemory;
+use types_base::NoMemory;
 
 /// A map from bytes to slots.
 #[derive(Drop)]

@@ -1,6 +1,6 @@
 ghost use Rattle.std.specs.Prelude.{◌≡◌, ℕ, ◌<◌, ◌≤◌, ◌^◌, [], OnOk, OnErr, IfOk, Ok, Err, None, length};
-ghost use Rattle.virt_types.specs.Memory.{UnlessNoMemory};
-ghost use Rattle.virt_types.specs.declared.memory.OrNoMemory.TheVariants as or;
+ghost use Rattle.types_base.specs.Memory.{UnlessNoMemory};
+ghost use Rattle.types_base.specs.declared.memory.OrNoMemory.TheVariants as or;
 ghost use Rattle.book_spec.specs.declared.list.ListCall.{ListCall};
 ghost use Rattle.book_spec.specs.declared.list.ListCall.TheVariants as call;
 ghost use Rattle.book_spec.specs.Slots.{Slots, all_holders, entry_in};
@@ -17,7 +17,7 @@ use crate::table::Table;
 use book_spec::ListFault;
 use std::alloc::Global;
 use std::marker::Model;
-use virt_types::{Front, ListOf, MOST_DOMAINS, Name, NoMemory, OrNoMemory, TryCopy, Uuid};
+use types_base::{Front, ListOf, MOST_DOMAINS, Name, NoMemory, OrNoMemory, TryCopy, Uuid};
 
 /// The list of domains. Contracts see its history: what a slot holds is told by the chapter's base
 /// and its marks.

@@ -9,7 +9,7 @@ use crate::slot_name::FoundDomain;
 use crate::turns::ListPass;
 use std::alloc::Global;
 use turn_cell::TurnCell;
-use virt_types::{ListOf, NoMemory};
+use types_base::{ListOf, NoMemory};
 
 /// The list of the domains that were found where the daemon was opened, in a cell of its own, with
 /// the first pass, of number 0, which holds none of them.

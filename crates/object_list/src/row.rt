@@ -4,7 +4,7 @@ ghost use Rattle.book_spec.specs.Slots.{new_entry, held_by, told, let_go_by, tim
 
 use history_spec::Tally;
 use std::marker::Model;
-use virt_types::{Front, Name, Uuid};
+use types_base::{Front, Name, Uuid};
 
 /// A domain in its slot. Contracts see who holds it.
 #[derive(Drop)]

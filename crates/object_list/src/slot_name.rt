@@ -1,5 +1,5 @@
 // What callers of the list give and get.
-use virt_types::{ListOf, Name, Uuid};
+use types_base::{ListOf, Name, Uuid};
 
 /// A domain that was found where the daemon was opened.
 #[derive(Drop)]

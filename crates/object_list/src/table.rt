@@ -10,7 +10,7 @@ use crate::row::Row;
 use crate::slot_name::{SlotName, SlotNameList};
 use std::alloc::Global;
 use std::marker::Model;
-use virt_types::{Front, ListOf, MOST_DOMAINS, Name, NoMemory, TryCopy, Uuid};
+use types_base::{Front, ListOf, MOST_DOMAINS, Name, NoMemory, TryCopy, Uuid};
 
 /// So many holders there are at most.
 const MOST_HOLDERS: u64 = 1 << 62;

@@ -1,7 +1,7 @@
 // The calls of the list in turns. Each mark bears the number of the pass that has the turn.
 ghost use Rattle.std.specs.Prelude.{◌≡◌, ℕ, ◌<◌, ◌≤◌, ◌^◌, true, IfOk, IfErr, Err, slice_index};
-ghost use Rattle.virt_types.specs.Memory.{UnlessNoMemory};
-ghost use Rattle.virt_types.specs.declared.memory.OrNoMemory.TheVariants as or;
+ghost use Rattle.types_base.specs.Memory.{UnlessNoMemory};
+ghost use Rattle.types_base.specs.declared.memory.OrNoMemory.TheVariants as or;
 ghost use Rattle.book_spec.specs.declared.list.ListCall.TheVariants as call;
 ghost use Rattle.book_spec.specs.Slots.{all_holders};
 ghost use Rattle.book_spec.specs.ListCalls.{answer};
@@ -15,7 +15,7 @@ use crate::slot_name::SlotNameList;
 use book_spec::ListFault;
 use std::sync::Wait;
 use turn_cell::{Pass, Turn, TurnCell};
-use virt_types::{Front, Name, NoMemory, OrNoMemory, Uuid};
+use types_base::{Front, Name, NoMemory, OrNoMemory, Uuid};
 
 /// The right to take turns at the list.
 pub type ListPass = Pass<ObjectList>;

@@ -12,7 +12,7 @@ use Rattle.domain_spec.specs.Read.{read}
 use Rattle.domain_spec.specs.declared.mark.Mark.{Mark}
 use Rattle.domain_spec.specs.declared.standing.Base.{Base}
 use Rattle.virt_types.specs.Front.{is_longer}
-use Rattle.virt_types.specs.declared.caller.Front.{Front}
+use Rattle.virt_types.specs.Below.types_base.declared.caller.Front.{Front}
 use Rattle.outcome_spec.specs.Histories.{front_of}
 use Rattle.outcome_spec.specs.Laws.{MarksAreOfOneRequest, ReadsAreNotFromBefore, ReadsAreOfNow, RepliesNeedMarks}
 use Rattle.outcome_spec.specs.Marks.{HasLeft}

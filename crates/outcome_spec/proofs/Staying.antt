@@ -7,7 +7,7 @@ use Rattle.std.proofs.lemmas.Option.{slice_get-get_or, slice_get_within}
 use Rattle.history_spec.specs.declared.history.History.{History}
 use Rattle.history_spec.specs.Begins.{Begins, IsPrefix, LaterChapter, SameChapter}
 use Rattle.history_spec.proofs.Beginnings.{NoMarkLowers, begins_chapter, begins_through}
-use Rattle.virt_types.specs.declared.caller.Front.{Front}
+use Rattle.virt_types.specs.Below.types_base.declared.caller.Front.{Front}
 use Rattle.outcome_spec.specs.Histories.{IsRead}
 use Rattle.outcome_spec.specs.Marks.{HasLeft, StandsAt}
 use Rattle.outcome_spec.specs.Rows.{IsLater, Known}

@@ -16,7 +16,7 @@ use Rattle.store_spec.specs.declared.image.ImageFault.{ImageFault}
 use Rattle.text_spec.specs.Fill.{IsFilled}
 use Rattle.virt_types.specs.declared.call.Call.TheVariants as call
 use Rattle.virt_types.specs.declared.call.Query.TheVariants as query
-use Rattle.virt_types.specs.declared.domain_def.DomainDef.{DomainDef}
+use Rattle.virt_types.specs.Below.types_base.declared.domain_def.DomainDef.{DomainDef}
 use Rattle.virt_types.specs.declared.object_request.DomainRequest.{DomainRequest}
 use Rattle.virt_types.specs.declared.request.Request.{Request}
 use Rattle.virt_types.specs.declared.request.Request.TheVariants as request

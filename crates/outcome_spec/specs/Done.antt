@@ -6,7 +6,7 @@ use Rattle.domain_spec.specs.declared.mark.Mark.TheVariants as mark
 use Rattle.domain_spec.specs.declared.step.Outcome.{Outcome as Next}
 use Rattle.domain_spec.specs.declared.step.Outcome.TheVariants as next
 use Rattle.virt_types.specs.declared.call.Call.{Call}
-use Rattle.virt_types.specs.declared.caller.Front.{Front}
+use Rattle.virt_types.specs.Below.types_base.declared.caller.Front.{Front}
 use Rattle.virt_types.specs.declared.value.Reply.{Reply}
 use Rattle.outcome_spec.specs.Marks.{HasLeft, StandsAt}
 use Rattle.reply_texts.specs.Printed.{told}

@@ -2,7 +2,7 @@
 use Rattle.std.specs.Prelude.{ℕ, List, length}
 use Rattle.history_spec.specs.declared.history.History.{History}
 use Rattle.history_spec.specs.Begins.{Begins}
-use Rattle.virt_types.specs.declared.caller.Front.{Front}
+use Rattle.virt_types.specs.Below.types_base.declared.caller.Front.{Front}
 use Rattle.outcome_spec.specs.Rows.{Known}
 
 -- how far a history has come

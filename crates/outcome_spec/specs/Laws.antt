@@ -5,7 +5,7 @@ use Rattle.domain_spec.specs.declared.mark.Mark.{Mark}
 use Rattle.virt_types.specs.Front.{is_longer}
 use Rattle.virt_types.specs.declared.call.Call.{Call}
 use Rattle.virt_types.specs.declared.call.Query.{Query}
-use Rattle.virt_types.specs.declared.caller.Front.{Front}
+use Rattle.virt_types.specs.Below.types_base.declared.caller.Front.{Front}
 use Rattle.virt_types.specs.declared.request.Request.{Request}
 use Rattle.virt_types.specs.declared.value.Reply.{Reply}
 use Rattle.outcome_spec.specs.declared.outcome.Outcome.{Outcome}

@@ -7,9 +7,9 @@ use Rattle.book_spec.specs.declared.list.ListFault.TheVariants as fault
 use Rattle.domain_requests.specs.declared.task.Task.{Task}
 use Rattle.domain_requests.specs.Below.session_spec.Refused.{refusal}
 use Rattle.uuid.specs.Text.{hyphenated_text, lower}
-use Rattle.virt_types.specs.declared.caller.Front.{Front}
-use Rattle.virt_types.specs.declared.refusal.Refusal.{Refusal}
-use Rattle.virt_types.specs.declared.refusal.RefusalCode.TheVariants as code
+use Rattle.virt_types.specs.Below.types_base.declared.caller.Front.{Front}
+use Rattle.virt_types.specs.Below.types_base.declared.refusal.Refusal.{Refusal}
+use Rattle.virt_types.specs.Below.types_base.declared.refusal.RefusalCode.TheVariants as code
 use Rattle.virt_types.specs.declared.request.Request.{Request}
 use Rattle.outcome_spec.specs.Asked.{Asks}
 use Rattle.outcome_spec.specs.Marks.{StandsAt}

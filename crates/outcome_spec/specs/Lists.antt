@@ -12,7 +12,7 @@ use Rattle.domain_spec.specs.Chapter.{rising_number}
 use Rattle.domain_spec.specs.Reading.{reference_of, state_in}
 use Rattle.domain_spec.specs.declared.mark.Mark.{Mark}
 use Rattle.domain_spec.specs.declared.standing.Base.{Base}
-use Rattle.virt_types.specs.declared.caller.Front.{Front}
+use Rattle.virt_types.specs.Below.types_base.declared.caller.Front.{Front}
 use Rattle.virt_types.specs.declared.domain.Domain.{Domain}
 use Rattle.virt_types.specs.declared.domain.State.{State}
 use Rattle.virt_types.specs.declared.domain.State.TheVariants as state

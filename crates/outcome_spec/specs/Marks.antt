@@ -1,6 +1,6 @@
 -- Marks that a request left: each is one of its pass's own marks, after those that the pass had before.
 use Rattle.std.specs.Prelude.{◌≡◌, ℕ, ◌-◌, ◌<◌, ◌≤◌, Some, slice_get, length}
-use Rattle.virt_types.specs.declared.caller.Front.{Front}
+use Rattle.virt_types.specs.Below.types_base.declared.caller.Front.{Front}
 use Rattle.outcome_spec.specs.Rows.{Known}
 
 module _ {B M : Type 0} where

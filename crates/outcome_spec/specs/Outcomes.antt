@@ -3,10 +3,10 @@ use Rattle.std.specs.Prelude.{◌≡◌, ◌⊎◌, ℕ, nat_abs, Some}
 use Rattle.book_spec.specs.declared.list.ListCall.{ListCall}
 use Rattle.domain_requests.specs.declared.task.Task.{Task}
 use Rattle.domain_requests.specs.declared.task.Task.TheVariants as task
-use Rattle.virt_types.specs.declared.caller.CellName.{CellName}
-use Rattle.virt_types.specs.declared.caller.CellName.TheVariants as cell
-use Rattle.virt_types.specs.declared.caller.Front.{Front}
-use Rattle.virt_types.specs.declared.refusal.Refusal.{Refusal}
+use Rattle.virt_types.specs.Below.types_base.declared.caller.CellName.{CellName}
+use Rattle.virt_types.specs.Below.types_base.declared.caller.CellName.TheVariants as cell
+use Rattle.virt_types.specs.Below.types_base.declared.caller.Front.{Front}
+use Rattle.virt_types.specs.Below.types_base.declared.refusal.Refusal.{Refusal}
 use Rattle.virt_types.specs.declared.request.Request.{Request}
 use Rattle.virt_types.specs.declared.request.Request.TheVariants as request
 use Rattle.virt_types.specs.declared.value.Reply.{Reply}

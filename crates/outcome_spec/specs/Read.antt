@@ -7,7 +7,7 @@ use Rattle.domain_spec.specs.Read.{read}
 use Rattle.domain_spec.specs.declared.mark.Mark.{Mark}
 use Rattle.domain_spec.specs.declared.standing.Base.{Base}
 use Rattle.virt_types.specs.declared.call.Query.{Query}
-use Rattle.virt_types.specs.declared.caller.Front.{Front}
+use Rattle.virt_types.specs.Below.types_base.declared.caller.Front.{Front}
 use Rattle.virt_types.specs.declared.domain.State.{State}
 use Rattle.virt_types.specs.declared.value.Reply.{Reply}
 use Rattle.outcome_spec.specs.Histories.{IsRead, front_of}

@@ -4,8 +4,8 @@ use Rattle.store_asks.specs.Below.def_keeper.declared.mark.StoreAction.TheVarian
 use Rattle.store_asks.specs.Restoring.{saved_in, unread}
 use Rattle.store_spec.specs.declared.image.Image.{Image}
 use Rattle.store_spec.specs.declared.image.ImageFault.{ImageFault}
-use Rattle.virt_types.specs.declared.caller.Front.{Front}
-use Rattle.virt_types.specs.declared.refusal.Refusal.{Refusal}
+use Rattle.virt_types.specs.Below.types_base.declared.caller.Front.{Front}
+use Rattle.virt_types.specs.Below.types_base.declared.refusal.Refusal.{Refusal}
 use Rattle.outcome_spec.specs.Marks.{StandsAt}
 use Rattle.outcome_spec.specs.Rows.{KnownRow}
 

@@ -9,12 +9,12 @@ use Rattle.domain_requests.specs.Below.session_spec.DefinitionText.{definition_i
 use Rattle.domain_requests.specs.Below.session_spec.Refused.{refusal}
 use Rattle.domain_requests.specs.Below.session_spec.Bounds.{passed}
 use Rattle.domain_requests.specs.declared.task.Parsed.{Parsed}
-use Rattle.virt_types.specs.declared.domain_def.DomainDef.{DomainDef}
+use Rattle.virt_types.specs.Below.types_base.declared.domain_def.DomainDef.{DomainDef}
 use Rattle.virt_types.specs.Name.{bad_place}
 use Rattle.virt_types.specs.declared.object_request.DomainRequest.{DomainRequest}
 use Rattle.virt_types.specs.declared.object_request.DomainRequest.TheVariants as on_domain
-use Rattle.virt_types.specs.declared.refusal.Refusal.{Refusal}
-use Rattle.virt_types.specs.declared.refusal.RefusalCode.TheVariants as code
+use Rattle.virt_types.specs.Below.types_base.declared.refusal.Refusal.{Refusal}
+use Rattle.virt_types.specs.Below.types_base.declared.refusal.RefusalCode.TheVariants as code
 use Rattle.virt_types.specs.declared.request.Request.{Request}
 use Rattle.virt_types.specs.declared.request.Request.TheVariants as request
 

@@ -1,8 +1,8 @@
 -- Cases: no ticket is left for a pass of the row, or there was no memory.
 use Rattle.std.specs.Prelude.{◌≡◌, ℕ, ◌⊎◌, ◌^◌, true, decimal, codes, Some}
 use Rattle.domain_requests.specs.Below.session_spec.Refused.{refusal}
-use Rattle.virt_types.specs.declared.refusal.Refusal.{Refusal}
-use Rattle.virt_types.specs.declared.refusal.RefusalCode.TheVariants as code
+use Rattle.virt_types.specs.Below.types_base.declared.refusal.Refusal.{Refusal}
+use Rattle.virt_types.specs.Below.types_base.declared.refusal.RefusalCode.TheVariants as code
 use Rattle.outcome_spec.specs.Rows.{DomainPass, KnownRow, pass_of}
 
 -- the pass of the domain in this slot is spent

@@ -9,7 +9,7 @@ use Rattle.store_spec.specs.Changes.{Definitions, after as map_after}
 use Rattle.store_spec.specs.declared.entry.Entry.{Entry}
 use Rattle.store_spec.specs.declared.kind.BookKind.TheVariants as kind
 use Rattle.virt_types.specs.Refusal.{kept_cut}
-use Rattle.virt_types.specs.declared.caller.Front.{Front}
+use Rattle.virt_types.specs.Below.types_base.declared.caller.Front.{Front}
 use Rattle.virt_types.specs.declared.value.Reply.{Reply}
 use Rattle.virt_types.specs.declared.value.Reply.TheVariants as reply
 use Rattle.virt_types.specs.declared.value.TitleRow.{TitleRow}

@@ -1,8 +1,8 @@
 -- What a feed holds of a stream, and what a piece changes.
 use Rattle.std.specs.Prelude.{◌≡◌, ℕ, List, [], ◌++◌, Option, None, Some, MatchOption}
 use Rattle.std.specs.List.{AllByRecursion}
-use Rattle.virt_types.specs.declared.memory.OrNoMemory.{OrNoMemory}
-use Rattle.virt_types.specs.declared.memory.OrNoMemory.TheVariants.{Fault, NoMemory}
+use Rattle.types_base.specs.declared.memory.OrNoMemory.{OrNoMemory}
+use Rattle.types_base.specs.declared.memory.OrNoMemory.TheVariants.{Fault, NoMemory}
 use Rattle.wire_spec.specs.declared.fault.BadPacket.{BadPacket}
 use Rattle.wire_spec.specs.declared.message.Packet.{Packet}
 use Rattle.wire_spec.specs.Packets.{IsPacket, fault}

@@ -1,7 +1,7 @@
 -- The packet that is written, and when none is.
 use Rattle.std.specs.Prelude.{◌≡◌, ◌<◌, ◌≤◌, ◌^◌, ℕ, List, ◌++◌, length, drop, Result, Ok, Err}
-use Rattle.virt_types.specs.declared.memory.OrNoMemory.{OrNoMemory}
-use Rattle.virt_types.specs.declared.memory.OrNoMemory.TheVariants.{Fault, NoMemory}
+use Rattle.types_base.specs.declared.memory.OrNoMemory.{OrNoMemory}
+use Rattle.types_base.specs.declared.memory.OrNoMemory.TheVariants.{Fault, NoMemory}
 use Rattle.wire_spec.specs.Xdr.{word}
 use Rattle.wire_spec.specs.declared.message.Header.{Header}
 use Rattle.wire_spec.specs.declared.message.Packet.{Packet}

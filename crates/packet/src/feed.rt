@@ -8,7 +8,7 @@ use crate::pieces::{begun_of, take_piece};
 use std::alloc::Global;
 use std::collections::VecDeque;
 use std::marker::Model;
-use virt_types::{NoMemory, OrNoMemory};
+use types_base::{NoMemory, OrNoMemory};
 use wire_spec::{BadPacket, Packet};
 
 // Room for the first bytes; it grows with the longest packet.

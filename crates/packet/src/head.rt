@@ -4,7 +4,7 @@ ghost use Rattle.wire_spec.specs.Packets.{word_at, fault, length_fault, kind_fau
 ghost use Rattle.packet.specs.Front.{Begins, StandsAt, header_at};
 
 use std::alloc::Global;
-use virt_types::{Bytes, NoMemory};
+use types_base::{Bytes, NoMemory};
 use wire_spec::{
     BadPacket, CALL, CONTINUE, HEADER_LENGTH, Header, MESSAGE, MOST_BYTES, OK, Packet,
 };

@@ -5,7 +5,7 @@ ghost use Rattle.packet.specs.Memory.{empty_sink, source_of};
 use crate::outside::{Sink, Source};
 use std::alloc::Global;
 use std::marker::Model;
-use virt_types::Failed;
+use types_base::Failed;
 
 /// Which calls fail. They are counted from 1.
 #[derive(Clone, Copy, Debug, PartialEq, Eq)]

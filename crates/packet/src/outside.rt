@@ -5,7 +5,7 @@ ghost use Rattle.std.specs.Io.{ReadsAtMost, WritesAtMost};
 ghost use Rattle.std.specs.Io.KnownBytes.{ReadConsumes, WriteAppends};
 ghost use Rattle.outside_spec.specs.Faults.{HasCause};
 
-use virt_types::Failed;
+use types_base::Failed;
 
 /// Where bytes come from: a connection, standard input, or memory.
 pub trait Source {

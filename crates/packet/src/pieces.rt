@@ -7,7 +7,7 @@ ghost use Rattle.packet.specs.Pieces.{Decodes, TakesPiece};
 use crate::head::{Front, front_of};
 use std::alloc::Global;
 use std::collections::VecDeque;
-use virt_types::NoMemory;
+use types_base::NoMemory;
 use wire_spec::{BadPacket, Packet};
 
 /// Where the whole packets of some bytes end, and why no packet begins there.

@@ -4,7 +4,7 @@ ghost use Rattle.std.specs.Io.KnownBytes.{Appends};
 ghost use Rattle.outside_spec.specs.Faults.{HasCause};
 
 use crate::outside::Sink;
-use virt_types::Failed;
+use types_base::Failed;
 
 /// Puts all the bytes, piece by piece as the sink takes them. After an `Err` it took a front of them, and not all.
 pub fn put_all<K: Sink>(sink: &mut K, bytes: &[u8]) -> Result<(), Failed>

@@ -9,7 +9,7 @@ ghost use Rattle.packet.specs.Writing.{Frames, HasWords, IsRefused, packet_with}
 use std::alloc::Global;
 use std::error::Error;
 use std::fmt;
-use virt_types::{Bytes, NoMemory, OrNoMemory};
+use types_base::{Bytes, NoMemory, OrNoMemory};
 use wire_spec::{HEADER_LENGTH, Header, MOST_BYTES};
 use xdr_codec::Writer;
 

@@ -6,7 +6,7 @@ use Rattle.std.proofs.lemmas.List.{append_assoc, append-nil, length-append, take
 use Rattle.std.proofs.lemmas.List.Elements.{All-pop, All-same}
 use Rattle.atomic_table.specs.Seated.{TableId}
 use Rattle.turn_cell.specs.Meaning.{Meaning}
-use Rattle.virt_types.specs.Room.{Roomy}
+use Rattle.types_base.specs.Room.{Roomy}
 use Rattle.turn_cell.specs.Passes.{Passed}
 use Rattle.pass_rows.specs.Cutting.{cell_of}
 use Rattle.pass_rows.specs.Rows.{PassRow, IsOf}

@@ -8,7 +8,7 @@ use crate::row::RowOf;
 use std::alloc::Global;
 use std::marker::Model;
 use turn_cell::Kept;
-use virt_types::NoMemory;
+use types_base::NoMemory;
 
 /// Rows in order, with room for more. Contracts see the rows and how many more fit.
 #[derive(Drop)]
@@ -19,7 +19,7 @@ pub struct RowListOf<L: Kept, S: Kept, D: Kept, G> {
 impl<L: Kept, S: Kept, D: Kept, G> Model for RowListOf<L, S, D, G> {
     ghost use Rattle.std.specs.Prelude.{length, ◌-◌};
     ghost use Rattle.std.specs.Vec.{vec_capacity};
-    ghost use Rattle.virt_types.specs.Room.{Roomy};
+    ghost use Rattle.types_base.specs.Room.{Roomy};
     ghost use Rattle.pass_rows.specs.Rows.{PassRow};
 
     ghost Value = { Roomy (PassRow L.Base L.Mark L.Share S.Base S.Mark S.Share D.Base D.Mark D.Share G) };

@@ -13,7 +13,7 @@ use monitor_link::Guests;
 use std::alloc::Global;
 use std::marker::Model;
 use turn_cell::{CellOf, Kept, TurnCell};
-use virt_types::NoMemory;
+use types_base::NoMemory;
 
 // What a new row takes memory for. Contracts see how many passes fit.
 #[derive(Drop)]

@@ -1,19 +1,19 @@
 -- What a call answers and leaves, once the table and the history went on together.
 use Rattle.std.proofs.Common.{◌≡◌, inl, inr, Bool, ℕ, ◌<◌, List, [], length, Result, Ok, Err, refl, sym, ap, ◌∙◌, subst, arith}
-use Rattle.virt_types.specs.declared.storage_def.PoolDef.{PoolDef}
-use Rattle.virt_types.specs.declared.refusal.Refusal.{Refusal}
-use Rattle.virt_types.specs.declared.memory.OrNoMemory.{OrNoMemory}
-use Rattle.virt_types.specs.declared.memory.OrNoMemory.TheVariants.{Fault, NoMemory}
-use Rattle.pool_spec.specs.declared.book.PoolAnswer.{PoolAnswer}
-use Rattle.pool_spec.specs.declared.book.PoolAnswer.TheVariants.{Done, Refused}
-use Rattle.pool_spec.specs.declared.book.PoolCall.{PoolCall}
-use Rattle.pool_spec.specs.declared.book.PoolCall.TheVariants as call
-use Rattle.pool_spec.specs.declared.book.PoolMark.{PoolMark}
-use Rattle.pool_spec.specs.Pools.{Pools, uuid_of, with_changed, without}
-use Rattle.pool_spec.specs.PoolCalls.{answer, pools_after, with_autostart, with_pool}
-use Rattle.pool_spec.specs.PoolHistory.{PoolHistory, pools_of, open_chapter, with_mark, with_call, told, HasCalled, MayCall}
-use Rattle.pool_spec.specs.PoolReads.{IsRead}
-use Rattle.pool_table.specs.Answers.{Tells, plain_of, TakesEffect, IsFound}
+use Rattle.virt_types.specs.Below.types_base.declared.storage_def.PoolDef.{PoolDef}
+use Rattle.virt_types.specs.Below.types_base.declared.refusal.Refusal.{Refusal}
+use Rattle.virt_types.specs.Below.types_base.declared.memory.OrNoMemory.{OrNoMemory}
+use Rattle.virt_types.specs.Below.types_base.declared.memory.OrNoMemory.TheVariants.{Fault, NoMemory}
+use Rattle.book_spec.specs.declared.pool_book.PoolAnswer.{PoolAnswer}
+use Rattle.book_spec.specs.declared.pool_book.PoolAnswer.TheVariants.{Done, Refused}
+use Rattle.book_spec.specs.declared.pool_book.PoolCall.{PoolCall}
+use Rattle.book_spec.specs.declared.pool_book.PoolCall.TheVariants as call
+use Rattle.book_spec.specs.declared.pool_book.PoolMark.{PoolMark}
+use Rattle.book_spec.specs.Pools.{Pools, uuid_of, with_changed, without}
+use Rattle.book_spec.specs.PoolCalls.{answer, pools_after, with_autostart, with_pool}
+use Rattle.book_spec.specs.PoolHistory.{PoolHistory, pools_of, open_chapter, with_mark, with_call, told, HasCalled, MayCall}
+use Rattle.book_spec.specs.PoolReads.{IsRead}
+use Rattle.pool_core.specs.Answers.{Tells, plain_of, TakesEffect, IsFound}
 use Rattle.pool_core.specs.Marks.{tested, Leaves, LeavesRefusal}
 use Rattle.pool_core.specs.Keeping.{IsKept}
 use Rattle.pool_core.proofs.Chronicles.{pools_of-open, pools_of-mark, marks-mark, open_short}

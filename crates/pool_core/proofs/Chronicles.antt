@@ -2,9 +2,9 @@
 use Rattle.std.proofs.Common.{◌≡◌, ℕ, ◌+◌, ◌<◌, ◌≤◌, ltb, [], ◌∷◌, length, length-append, refl, sym, ap, ◌∙◌, subst, ⊎_elim, arith}
 use Rattle.std.proofs.lemmas.Bool.{cases_lt, cond-true, cond-false, lt-ltb, le-ltb}
 use Rattle.std.proofs.lemmas.List.Sums.{fold-append}
-use Rattle.pool_spec.specs.declared.book.PoolMark.{PoolMark}
-use Rattle.pool_spec.specs.PoolCalls.{pools_after}
-use Rattle.pool_spec.specs.PoolHistory.{PoolHistory, marked, pools_of, most_marks, open_chapter, with_mark}
+use Rattle.book_spec.specs.declared.pool_book.PoolMark.{PoolMark}
+use Rattle.book_spec.specs.PoolCalls.{pools_after}
+use Rattle.book_spec.specs.PoolHistory.{PoolHistory, marked, pools_of, most_marks, open_chapter, with_mark}
 use Rattle.pool_core.specs.Keeping.{IsCounted}
 
 -- a long chapter ends

@@ -1,3 +1,6 @@
-pub mod Chronicles
 pub mod Calling
+pub mod Chronicles
+pub mod Reasons
+pub mod Tabling
 pub mod Turning
+pub mod VolumeSums

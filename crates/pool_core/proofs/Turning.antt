@@ -6,12 +6,12 @@ use Rattle.history_spec.proofs.Marks.{added-more, added-next}
 use Rattle.turn_cell.specs.Passes.{Turned, Enters, left_by}
 use Rattle.turn_cell.specs.Turning.{Changes, Went}
 use Rattle.turn_cell.proofs.Turning.{changes_by, nothing_changes, turn_tells}
-use Rattle.pool_spec.specs.declared.book.PoolAnswer.{PoolAnswer}
-use Rattle.pool_spec.specs.declared.book.PoolCall.{PoolCall}
-use Rattle.pool_spec.specs.declared.book.PoolMark.{PoolMark}
-use Rattle.pool_spec.specs.Pools.{Pools}
-use Rattle.pool_spec.specs.PoolCalls.{answer}
-use Rattle.pool_spec.specs.PoolHistory.{PoolHistory, pools_of, open_chapter, with_mark, HasCalled, IsCalled, LacksMemory}
+use Rattle.book_spec.specs.declared.pool_book.PoolAnswer.{PoolAnswer}
+use Rattle.book_spec.specs.declared.pool_book.PoolCall.{PoolCall}
+use Rattle.book_spec.specs.declared.pool_book.PoolMark.{PoolMark}
+use Rattle.book_spec.specs.Pools.{Pools}
+use Rattle.book_spec.specs.PoolCalls.{answer}
+use Rattle.book_spec.specs.PoolHistory.{PoolHistory, pools_of, open_chapter, with_mark, HasCalled, IsCalled, LacksMemory}
 use Rattle.pool_core.specs.Keeping.{meaning, no_mark_lowers, new_base_keeps}
 use Rattle.pool_core.specs.Turns.{PoolPassed, HasAsked}
 use Rattle.pool_core.proofs.Chronicles.{opens_next, opens_same, pools_of-open}

@@ -2,9 +2,9 @@
 use Rattle.std.specs.Prelude.{◌≡◌, ℕ, ◌≤◌, [], length, Some}
 use Rattle.std.proofs.Common.{le_refl}
 use Rattle.turn_cell.specs.Meaning.{Meaning, NoMarkLowers, NewBaseKeeps}
-use Rattle.pool_spec.specs.declared.book.PoolMark.{PoolMark}
-use Rattle.pool_spec.specs.Pools.{Pools}
-use Rattle.pool_spec.specs.PoolHistory.{PoolHistory, pools_of, most_marks}
+use Rattle.book_spec.specs.declared.pool_book.PoolMark.{PoolMark}
+use Rattle.book_spec.specs.Pools.{Pools}
+use Rattle.book_spec.specs.PoolHistory.{PoolHistory, pools_of, most_marks}
 
 -- a pass keeps nothing in the book
 abbrev pub meaning : Meaning PoolHistory Pools PoolMark (Unit {0})

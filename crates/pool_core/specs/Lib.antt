@@ -1,3 +1,5 @@
-pub mod Marks
+pub mod Answers
 pub mod Keeping
+pub mod Marks
+pub mod Opening
 pub mod Turns

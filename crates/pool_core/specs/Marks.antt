@@ -1,13 +1,13 @@
 -- Which marks the answers of the table leave.
 use Rattle.std.specs.Prelude.{◌≡◌, Result, Ok, Err}
-use Rattle.virt_types.specs.declared.refusal.Refusal.{Refusal}
-use Rattle.virt_types.specs.declared.memory.OrNoMemory.{OrNoMemory}
-use Rattle.virt_types.specs.declared.memory.OrNoMemory.TheVariants.{Fault, NoMemory}
-use Rattle.pool_spec.specs.declared.book.PoolAnswer.{PoolAnswer}
-use Rattle.pool_spec.specs.declared.book.PoolAnswer.TheVariants.{Done, Refused}
-use Rattle.pool_spec.specs.declared.book.PoolMark.{PoolMark}
-use Rattle.pool_spec.specs.PoolCalls.{no_memory}
-use Rattle.pool_spec.specs.PoolHistory.{PoolHistory, with_mark, open_chapter}
+use Rattle.virt_types.specs.Below.types_base.declared.refusal.Refusal.{Refusal}
+use Rattle.virt_types.specs.Below.types_base.declared.memory.OrNoMemory.{OrNoMemory}
+use Rattle.virt_types.specs.Below.types_base.declared.memory.OrNoMemory.TheVariants.{Fault, NoMemory}
+use Rattle.book_spec.specs.declared.pool_book.PoolAnswer.{PoolAnswer}
+use Rattle.book_spec.specs.declared.pool_book.PoolAnswer.TheVariants.{Done, Refused}
+use Rattle.book_spec.specs.declared.pool_book.PoolMark.{PoolMark}
+use Rattle.book_spec.specs.PoolCalls.{no_memory}
+use Rattle.book_spec.specs.PoolHistory.{PoolHistory, with_mark, open_chapter}
 
 -- the answer that is told
 abbrev pub tested : Result Unit (OrNoMemory Refusal) → PoolAnswer

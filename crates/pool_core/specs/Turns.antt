@@ -3,12 +3,12 @@ use Rattle.std.specs.Prelude.{◌≡◌, ◌⊎◌, [], ◌∷◌}
 use Rattle.history_spec.specs.Chapter.{tagged}
 use Rattle.turn_cell.specs.Passes.{Passed}
 use Rattle.turn_cell.specs.Turning.{Went}
-use Rattle.pool_spec.specs.declared.book.PoolAnswer.{PoolAnswer}
-use Rattle.pool_spec.specs.declared.book.PoolAnswer.TheVariants.{Refused}
-use Rattle.pool_spec.specs.declared.book.PoolCall.{PoolCall}
-use Rattle.pool_spec.specs.declared.book.PoolMark.{PoolMark}
-use Rattle.pool_spec.specs.Pools.{Pools}
-use Rattle.pool_spec.specs.PoolCalls.{answer, no_memory}
+use Rattle.book_spec.specs.declared.pool_book.PoolAnswer.{PoolAnswer}
+use Rattle.book_spec.specs.declared.pool_book.PoolAnswer.TheVariants.{Refused}
+use Rattle.book_spec.specs.declared.pool_book.PoolCall.{PoolCall}
+use Rattle.book_spec.specs.declared.pool_book.PoolMark.{PoolMark}
+use Rattle.book_spec.specs.Pools.{Pools}
+use Rattle.book_spec.specs.PoolCalls.{answer, no_memory}
 use Rattle.pool_core.specs.Keeping.{meaning}
 
 abbrev pub PoolPassed : Type 0

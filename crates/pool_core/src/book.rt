@@ -1,21 +1,21 @@
 ghost use Rattle.std.specs.Prelude.{◌≡◌, ℕ, ◌<◌, ◌^◌, [], map, IfOk, Ok, length};
-ghost use Rattle.pool_spec.specs.declared.book.PoolCall.{PoolCall};
-ghost use Rattle.pool_spec.specs.declared.book.PoolCall.TheVariants as call;
-ghost use Rattle.pool_spec.specs.declared.book.PoolMark.{PoolMark};
-ghost use Rattle.pool_spec.specs.declared.book.PoolAnswer.TheVariants.{Refused};
-ghost use Rattle.pool_spec.specs.Pools.{Pools, pool_of, uuid_of};
-ghost use Rattle.pool_spec.specs.PoolCalls.{IsStored};
-ghost use Rattle.pool_spec.specs.PoolHistory.{CanCall, HasCalled, MayCall, pools_of, told, with_call, with_mark};
-ghost use Rattle.pool_spec.specs.PoolReads.{AreNames, AreRows, IsRead, described, volume_in, volumes_in};
-ghost use Rattle.pool_table.specs.Answers.{IsSame};
-ghost use Rattle.pool_table.specs.Opening.{opened};
+ghost use Rattle.book_spec.specs.declared.pool_book.PoolCall.{PoolCall};
+ghost use Rattle.book_spec.specs.declared.pool_book.PoolCall.TheVariants as call;
+ghost use Rattle.book_spec.specs.declared.pool_book.PoolMark.{PoolMark};
+ghost use Rattle.book_spec.specs.declared.pool_book.PoolAnswer.TheVariants.{Refused};
+ghost use Rattle.book_spec.specs.Pools.{Pools, pool_of, uuid_of};
+ghost use Rattle.book_spec.specs.PoolCalls.{IsStored};
+ghost use Rattle.book_spec.specs.PoolHistory.{CanCall, HasCalled, MayCall, pools_of, told, with_call, with_mark};
+ghost use Rattle.book_spec.specs.PoolReads.{AreNames, AreRows, IsRead, described, volume_in, volumes_in};
+ghost use Rattle.pool_core.specs.Answers.{IsSame};
+ghost use Rattle.pool_core.specs.Opening.{opened};
 
 use crate::chronicle::Chronicle;
 use crate::marking::{
     mark_autostart, mark_autostart_done, mark_def, mark_def_done, mark_deleted, mark_done,
     mark_made, mark_refusal, mark_refused, mark_uuid,
 };
-use pool_table::{FoundPoolList, Table, plain};
+use crate::{FoundPoolList, Table, plain};
 use std::alloc::Global;
 use std::marker::Model;
 use std::snapshot::Snapshot;
@@ -30,7 +30,7 @@ pub struct PoolBook {
 }
 
 impl Model for PoolBook {
-    ghost use Rattle.pool_spec.specs.PoolHistory.{PoolHistory};
+    ghost use Rattle.book_spec.specs.PoolHistory.{PoolHistory};
     ghost use Rattle.pool_core.specs.Keeping.{IsKept};
 
     ghost Value = { PoolHistory };

@@ -1,8 +1,8 @@
 // The history of the book: at run time the numbers of its chapter and of its marks.
 ghost use Rattle.std.specs.Prelude.{◌≡◌, ◌<◌, ◌^◌, [], length};
-ghost use Rattle.pool_spec.specs.Pools.{Pools};
-ghost use Rattle.pool_spec.specs.declared.book.PoolMark.{PoolMark};
-ghost use Rattle.pool_spec.specs.PoolHistory.{PoolHistory, open_chapter, with_mark};
+ghost use Rattle.book_spec.specs.Pools.{Pools};
+ghost use Rattle.book_spec.specs.declared.pool_book.PoolMark.{PoolMark};
+ghost use Rattle.book_spec.specs.PoolHistory.{PoolHistory, open_chapter, with_mark};
 
 use crate::story::Story;
 use std::marker::Model;
@@ -19,7 +19,7 @@ pub struct Chronicle {
 }
 
 impl Model for Chronicle {
-    ghost use Rattle.pool_spec.specs.PoolHistory.{PoolHistory};
+    ghost use Rattle.book_spec.specs.PoolHistory.{PoolHistory};
     ghost use Rattle.pool_core.specs.Keeping.{IsCounted};
 
     ghost Value = { PoolHistory };

@@ -1,5 +1,5 @@
 use crate::book::PoolBook;
-use pool_spec::{PoolMark, Pools};
+use book_spec::{PoolMark, Pools};
 use turn_cell::Kept;
 
 impl Kept for PoolBook {

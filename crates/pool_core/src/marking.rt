@@ -1,12 +1,12 @@
 // The marks of calls. Who calls these functions says what the mark is; a pick sees the callee's
 // arguments alone, so they take what was asked for.
 ghost use Rattle.std.specs.Prelude.{◌≡◌, ◌<◌, ◌^◌, length};
-ghost use Rattle.pool_spec.specs.declared.book.PoolMark.{PoolMark};
-ghost use Rattle.pool_spec.specs.PoolHistory.{with_mark};
+ghost use Rattle.book_spec.specs.declared.pool_book.PoolMark.{PoolMark};
+ghost use Rattle.book_spec.specs.PoolHistory.{with_mark};
 ghost use Rattle.pool_core.specs.Marks.{Leaves, LeavesRefusal};
 
+use crate::Tested;
 use crate::chronicle::Chronicle;
-use pool_table::Tested;
 use std::snapshot::Snapshot;
 use virt_types::{Name, OrNoMemory, PoolDef, Refusal, Uuid, VolDef};
 

@@ -1,7 +1,7 @@
 // The history of the book, of no bytes.
 ghost use Rattle.std.specs.Prelude.{◌≡◌};
 ghost use Rattle.std.specs.Borrow.{ftrue};
-ghost use Rattle.pool_spec.specs.PoolHistory.{PoolHistory};
+ghost use Rattle.book_spec.specs.PoolHistory.{PoolHistory};
 
 use std::marker::{Model, PhantomData};
 

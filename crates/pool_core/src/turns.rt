@@ -1,10 +1,10 @@
 // The calls of the book in turns. Each mark bears the number of the pass that has the turn.
 ghost use Rattle.std.specs.Prelude.{◌≡◌, ℕ, ◌<◌, ◌^◌, true, IfOk, IfErr, Ok};
-ghost use Rattle.pool_spec.specs.declared.book.PoolAnswer.TheVariants.{Refused};
-ghost use Rattle.pool_spec.specs.declared.book.PoolCall.{PoolCall};
-ghost use Rattle.pool_spec.specs.declared.book.PoolCall.TheVariants as call;
-ghost use Rattle.pool_spec.specs.PoolCalls.{IsStored};
-ghost use Rattle.pool_spec.specs.PoolHistory.{CanCall, HasCalled, MayCall, told, with_call, with_mark};
+ghost use Rattle.book_spec.specs.declared.pool_book.PoolAnswer.TheVariants.{Refused};
+ghost use Rattle.book_spec.specs.declared.pool_book.PoolCall.{PoolCall};
+ghost use Rattle.book_spec.specs.declared.pool_book.PoolCall.TheVariants as call;
+ghost use Rattle.book_spec.specs.PoolCalls.{IsStored};
+ghost use Rattle.book_spec.specs.PoolHistory.{CanCall, HasCalled, MayCall, told, with_call, with_mark};
 ghost use Rattle.pool_core.specs.Turns.{HasAsked};
 
 use crate::book::PoolBook;

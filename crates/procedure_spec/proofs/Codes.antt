@@ -4,8 +4,8 @@ use Rattle.std.specs.Prelude.{◌≢◌, IfNone, IfSome}
 use Rattle.std.specs.List.{find}
 use Rattle.std.proofs.lemmas.Bool.{eqb-true}
 use Rattle.virt_types.specs.Refusal.{refusal_number}
-use Rattle.virt_types.specs.declared.refusal.RefusalCode.{RefusalCode}
-use Rattle.virt_types.specs.declared.refusal.RefusalCode.TheVariants as code
+use Rattle.virt_types.specs.Below.types_base.declared.refusal.RefusalCode.{RefusalCode}
+use Rattle.virt_types.specs.Below.types_base.declared.refusal.RefusalCode.TheVariants as code
 use Rattle.procedure_spec.specs.Codes.{code_numbered, every_code}
 
 -- what is found passes the test

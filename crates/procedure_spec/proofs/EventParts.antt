@@ -2,7 +2,7 @@
 use Rattle.std.proofs.Common.{◌≡◌, ◌==◌, ℕ, ◌+◌, ◌<◌, ◌^◌, Bool, true, false, cond, List, ◌++◌, length, Option, None, Some, Result, Ok, Err, refl, sym, ap, subst, ◌∙◌, lit<}
 use Rattle.std.specs.Prelude.{negsuc}
 use Rattle.std.proofs.lemmas.Bool.{eqb-true}
-use Rattle.virt_types.specs.declared.transition.Transition.{Transition}
+use Rattle.virt_types.specs.Below.types_base.declared.transition.Transition.{Transition}
 use Rattle.virt_types.specs.declared.value.Note.{Note}
 use Rattle.virt_types.specs.declared.value.Note.TheVariants as note
 use Rattle.wire_spec.specs.Xdr.{IsWord, fixed, integer, opaque, word}

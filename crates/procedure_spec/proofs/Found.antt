@@ -1,8 +1,8 @@
 -- An answer that is what reading gives, where reading gives a value exactly where there is one.
 use Rattle.std.proofs.Common.{◌≡◌, Result, Ok, Err, sym, ◌∙◌}
 use Rattle.std.specs.Prelude.{IfOk}
-use Rattle.virt_types.specs.declared.memory.OrNoMemory.{OrNoMemory}
-use Rattle.virt_types.specs.declared.memory.OrNoMemory.TheVariants.{Fault, NoMemory}
+use Rattle.virt_types.specs.Below.types_base.declared.memory.OrNoMemory.{OrNoMemory}
+use Rattle.virt_types.specs.Below.types_base.declared.memory.OrNoMemory.TheVariants.{Fault, NoMemory}
 use Rattle.virt_types.specs.Memory.{UnlessNoMemory}
 
 pub found_by : {A F : Type 0} (IsIt : A → Type 0) (read : Result A F) (result : Result A (OrNoMemory F)) → ((x : A) → read ≡ Ok x → IsIt x) → UnlessNoMemory result read → IfOk result IsIt

@@ -20,7 +20,7 @@ use Rattle.std.proofs.lemmas.Str.{IsAscii-append, IsUtf8-from_ascii}
 use Rattle.std.proofs.lemmas.Str.Ascii.{IsAscii-cons, IsAscii-nil}
 use Rattle.std.proofs.lemmas.Str.Parse.{digit_at}
 use Rattle.virt_types.specs.Mac.{mac_text}
-use Rattle.virt_types.specs.declared.mac.Mac.{Mac}
+use Rattle.virt_types.specs.Below.types_base.declared.mac.Mac.{Mac}
 use Rattle.wire_spec.specs.Xdr.{IsString}
 use Rattle.text_spec.specs.MacText.{mac_of}
 use Rattle.text_laws.specs.Given.{AreBytes, IsMac}

@@ -5,8 +5,8 @@ use Rattle.std.proofs.lemmas.Bool.{ltb-true}
 use Rattle.std.proofs.lemmas.Str.{IsUtf8-from_ascii}
 use Rattle.std.proofs.lemmas.Str.Ascii.{IsAscii-nil}
 use Rattle.virt_types.specs.Refusal.{refusal_message}
-use Rattle.virt_types.specs.declared.refusal.RefusalCode.{RefusalCode}
-use Rattle.virt_types.specs.declared.refusal.RefusalCode.TheVariants as code
+use Rattle.virt_types.specs.Below.types_base.declared.refusal.RefusalCode.{RefusalCode}
+use Rattle.virt_types.specs.Below.types_base.declared.refusal.RefusalCode.TheVariants as code
 use Rattle.wire_spec.specs.Xdr.{IsString}
 use Rattle.procedure_spec.specs.declared.words.TheConstants.{PACKET_BOUND}
 

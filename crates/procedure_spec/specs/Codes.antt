@@ -1,8 +1,8 @@
 -- Codes of errors by their numbers.
 use Rattle.std.specs.Prelude.{◌==◌, ℕ, List, [], ◌∷◌, Option, find}
 use Rattle.virt_types.specs.Refusal.{refusal_number}
-use Rattle.virt_types.specs.declared.refusal.RefusalCode.{RefusalCode}
-use Rattle.virt_types.specs.declared.refusal.RefusalCode.TheVariants as code
+use Rattle.virt_types.specs.Below.types_base.declared.refusal.RefusalCode.{RefusalCode}
+use Rattle.virt_types.specs.Below.types_base.declared.refusal.RefusalCode.TheVariants as code
 
 abbrev pub every_code : List RefusalCode
 every_code =

@@ -1,7 +1,7 @@
 -- The payload of an error (libvirt's `virNetMessageError`, src/rpc/virnetprotocol.x).
 use Rattle.std.specs.Prelude.{◌≡◌, ℕ, List, [], ◌∷◌, ◌++◌, Option, None, Some}
 use Rattle.virt_types.specs.Refusal.{refusal_message, refusal_number}
-use Rattle.virt_types.specs.declared.refusal.Refusal.{Refusal}
+use Rattle.virt_types.specs.Below.types_base.declared.refusal.Refusal.{Refusal}
 use Rattle.wire_spec.specs.Xdr.{IsString, opaque, optional, word}
 use Rattle.procedure_spec.specs.declared.words.TheConstants.{ERROR_DOMAIN, ERROR_LEVEL}
 use Rattle.procedure_spec.specs.declared.words.TheConstants.{PACKET_BOUND}

@@ -2,8 +2,8 @@
 use Rattle.std.specs.Prelude.{◌==◌, ℕ, not, Bool, false, List, [], ◌∷◌, Option, None, Some, Result, Ok, Err, if◌then◌else◌}
 use Rattle.std.specs.Str.{bytes_eq}
 use Rattle.virt_types.specs.Refusal.{refusal_message}
-use Rattle.virt_types.specs.declared.refusal.Refusal.{Refusal}
-use Rattle.virt_types.specs.declared.refusal.RefusalCode.{RefusalCode}
+use Rattle.virt_types.specs.Below.types_base.declared.refusal.Refusal.{Refusal}
+use Rattle.virt_types.specs.Below.types_base.declared.refusal.RefusalCode.{RefusalCode}
 use Rattle.wire_spec.specs.XdrReading.{Left, first_optional, first_string, first_truth, first_word}
 use Rattle.procedure_spec.specs.Codes.{code_numbered}
 use Rattle.procedure_spec.specs.Reading.{◌>>=◌, all, item}

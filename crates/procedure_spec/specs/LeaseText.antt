@@ -5,7 +5,7 @@ use Rattle.std.specs.List.{slice_split}
 use Rattle.std.specs.Net.Text.{ipv4_text}
 use Rattle.std.specs.Str.Parse.{digits_value}
 use Rattle.virt_types.specs.Mac.{mac_text}
-use Rattle.virt_types.specs.declared.mac.Mac.{Mac}
+use Rattle.virt_types.specs.Below.types_base.declared.mac.Mac.{Mac}
 use Rattle.text_spec.specs.MacText.{mac_of}
 
 -- an address of the network as a text; its first number is the highest byte

@@ -1,8 +1,8 @@
 -- Entries of lists that are read one by one.
 use Rattle.std.proofs.Common.{◌≡◌, ℕ, ◌+◌, ◌≤◌, suc, List, [], ◌∷◌, ◌++◌, length, Result, Ok, Err, refl, sym, ap, ◌∙◌, append_assoc, arith}
 use Rattle.std.proofs.lemmas.List.{append-nil, length-append}
-use Rattle.virt_types.specs.declared.memory.OrNoMemory.{OrNoMemory}
-use Rattle.virt_types.specs.declared.memory.OrNoMemory.TheVariants.{Fault, NoMemory}
+use Rattle.virt_types.specs.Below.types_base.declared.memory.OrNoMemory.{OrNoMemory}
+use Rattle.virt_types.specs.Below.types_base.declared.memory.OrNoMemory.TheVariants.{Fault, NoMemory}
 use Rattle.wire_spec.specs.Xdr.{fixed, opaque, padding, word}
 use Rattle.wire_spec.specs.XdrAnswer.{Takes}
 use Rattle.wire_spec.specs.XdrReading.{Left}

@@ -5,7 +5,7 @@ use Rattle.std.specs.List.{AllByRecursion}
 use Rattle.std.specs.Str.{IsUtf8}
 use Rattle.std.proofs.lemmas.List.{length-append}
 use Rattle.virt_types.specs.Name.{IsName}
-use Rattle.virt_types.specs.declared.refusal.Refusal.{Refusal}
+use Rattle.virt_types.specs.Below.types_base.declared.refusal.Refusal.{Refusal}
 use Rattle.virt_types.specs.Refusal.{refusal_message, refusal_number}
 use Rattle.virt_types.specs.declared.value.Value.{Value}
 use Rattle.virt_types.specs.declared.value.Value.TheVariants as value

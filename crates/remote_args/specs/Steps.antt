@@ -1,7 +1,7 @@
 -- What a reader of several items did.
 use Rattle.std.specs.Prelude.{◌≡◌, ◌==◌, true, false, length, Result, Ok, Err}
-use Rattle.virt_types.specs.declared.memory.OrNoMemory.{OrNoMemory}
-use Rattle.virt_types.specs.declared.memory.OrNoMemory.TheVariants.{Fault, NoMemory}
+use Rattle.virt_types.specs.Below.types_base.declared.memory.OrNoMemory.{OrNoMemory}
+use Rattle.virt_types.specs.Below.types_base.declared.memory.OrNoMemory.TheVariants.{Fault, NoMemory}
 use Rattle.wire_spec.specs.declared.fault.XdrFault.{XdrFault}
 use Rattle.wire_spec.specs.declared.fault.XdrFault.TheVariants.{Extra}
 use Rattle.wire_spec.specs.XdrReading.{Left}

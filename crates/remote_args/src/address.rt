@@ -8,11 +8,11 @@ ghost use Rattle.procedure_spec.specs.ResultItemsReading.{first_written};
 ghost use Rattle.remote_args.specs.Steps.{Walks};
 
 use crate::item::text;
-use definition_words::{mac_of, mac_text};
 use procedure_spec::{ArgFault, address_of, address_text};
 use std::alloc::Global;
 use virt_types::{Mac, NoMemory, OrNoMemory};
 use xdr_codec::{Reader, Writer};
+use xml_words::{mac_of, mac_text};
 
 // Two laws: an address has six numbers, and they are bytes.
 

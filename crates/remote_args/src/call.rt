@@ -1,6 +1,6 @@
 // Reading calls.
 ghost use Rattle.std.specs.Prelude.{Ok, ◌≡◌, IfOk, IsErrOf, IsOk};
-ghost use Rattle.virt_types.specs.declared.memory.OrNoMemory.TheVariants.{NoMemory};
+ghost use Rattle.virt_types.specs.Below.types_base.declared.memory.OrNoMemory.TheVariants.{NoMemory};
 ghost use Rattle.virt_types.specs.declared.request.Request.{Request as Asked};
 ghost use Rattle.procedure_spec.specs.Calls.{IsCall, call_of, in_line as in_line_of, is_known as is_known_row, is_program, line_of};
 ghost use Rattle.procedure_spec.specs.Procedures.{row_of};

@@ -1,6 +1,6 @@
 // Reading the payload of an error.
 ghost use Rattle.std.specs.Prelude.{Ok, ◌≡◌, IfOk};
-ghost use Rattle.virt_types.specs.declared.refusal.Refusal.{Refusal as Told};
+ghost use Rattle.virt_types.specs.Below.types_base.declared.refusal.Refusal.{Refusal as Told};
 ghost use Rattle.virt_types.specs.Memory.{UnlessNoMemory};
 ghost use Rattle.procedure_spec.specs.Codes.{code_numbered as code_by};
 ghost use Rattle.procedure_spec.specs.Errors.{IsErrorOf};

@@ -1,5 +1,5 @@
 -- What of a domain's cell goes into a reply: a reference to the domain, and texts of its parts.
-use Rattle.domain_texts.specs.Below.live_print.LiveText.{live_tree}
+use Rattle.domain_texts.specs.Below.xml_print.LiveText.{live_tree}
 use Rattle.domain_texts.specs.Below.session_spec.DefinitionText.{text_of}
 use Rattle.snapshot_xml.specs.SnapshotText.{kept_tree}
 use Rattle.text_spec.specs.Written.{written}

@@ -8,11 +8,11 @@ use Rattle.slot_holds.specs.Holds.{call_of}
 use Rattle.slot_holds.specs.declared.Hold.TheVariants as hold
 use Rattle.outcome_spec.specs.Below.store_asks.Asks.{identifier}
 use Rattle.text_spec.specs.Fill.{IsFilledBy}
-use Rattle.virt_types.specs.declared.domain_def.DomainDef.{DomainDef}
-use Rattle.virt_types.specs.declared.memory.OrNoMemory.{OrNoMemory}
-use Rattle.virt_types.specs.declared.memory.OrNoMemory.TheVariants as or
-use Rattle.virt_types.specs.declared.refusal.Refusal.{Refusal}
-use Rattle.virt_types.specs.declared.refusal.RefusalCode.TheVariants as code
+use Rattle.virt_types.specs.Below.types_base.declared.domain_def.DomainDef.{DomainDef}
+use Rattle.virt_types.specs.Below.types_base.declared.memory.OrNoMemory.{OrNoMemory}
+use Rattle.virt_types.specs.Below.types_base.declared.memory.OrNoMemory.TheVariants as or
+use Rattle.virt_types.specs.Below.types_base.declared.refusal.Refusal.{Refusal}
+use Rattle.virt_types.specs.Below.types_base.declared.refusal.RefusalCode.TheVariants as code
 use Rattle.request_asks.specs.Claims.{IsClaimed, IsClaimedBy}
 use Rattle.request_asks.specs.declared.claiming.Claimed.{Claimed}
 

@@ -16,12 +16,12 @@ use Rattle.slot_holds.specs.declared.Hold.TheVariants as hold
 use Rattle.virt_types.specs.Memory.{FailsUnlessNoMemory}
 use Rattle.virt_types.specs.declared.call.Call.TheVariants as call
 use Rattle.virt_types.specs.declared.call.Query.TheVariants as query
-use Rattle.virt_types.specs.declared.memory.OrNoMemory.{OrNoMemory}
-use Rattle.virt_types.specs.declared.memory.OrNoMemory.TheVariants as or
+use Rattle.virt_types.specs.Below.types_base.declared.memory.OrNoMemory.{OrNoMemory}
+use Rattle.virt_types.specs.Below.types_base.declared.memory.OrNoMemory.TheVariants as or
 use Rattle.virt_types.specs.declared.object_request.DomainRequest.{DomainRequest}
 use Rattle.virt_types.specs.declared.reference.DomainTarget.{DomainTarget}
-use Rattle.virt_types.specs.declared.refusal.Refusal.{Refusal}
-use Rattle.virt_types.specs.declared.refusal.RefusalCode.TheVariants as code
+use Rattle.virt_types.specs.Below.types_base.declared.refusal.Refusal.{Refusal}
+use Rattle.virt_types.specs.Below.types_base.declared.refusal.RefusalCode.TheVariants as code
 use Rattle.virt_types.specs.declared.request.Request.{Request}
 use Rattle.virt_types.specs.declared.request.Request.TheVariants as request
 use Rattle.request_asks.specs.Claims.{IsClaimedBy}

@@ -8,10 +8,10 @@ use Rattle.procedure_spec.specs.declared.procedure.Procedure.{Procedure}
 use Rattle.procedure_spec.specs.declared.procedure.Procedure.TheVariants as procedure
 use Rattle.procedure_spec.proofs.LinesAre.{each_found}
 use Rattle.session_spec.specs.Refused.{refusal}
-use Rattle.virt_types.specs.declared.memory.OrNoMemory.{OrNoMemory}
-use Rattle.virt_types.specs.declared.memory.OrNoMemory.TheVariants as or
-use Rattle.virt_types.specs.declared.refusal.Refusal.{Refusal}
-use Rattle.virt_types.specs.declared.refusal.RefusalCode.TheVariants as code
+use Rattle.virt_types.specs.Below.types_base.declared.memory.OrNoMemory.{OrNoMemory}
+use Rattle.virt_types.specs.Below.types_base.declared.memory.OrNoMemory.TheVariants as or
+use Rattle.virt_types.specs.Below.types_base.declared.refusal.Refusal.{Refusal}
+use Rattle.virt_types.specs.Below.types_base.declared.refusal.RefusalCode.TheVariants as code
 use Rattle.virt_types.specs.declared.request.Request.{Request}
 
 each_own : (p : Procedure) → (line p).procedure ≡ p

@@ -5,11 +5,11 @@ use Rattle.outcome_spec.specs.Shown.{text_shown}
 use Rattle.session_spec.specs.DefinitionText.{definition_in}
 use Rattle.slot_holds.specs.Holds.{call_of}
 use Rattle.text_spec.specs.Fill.{IsFilledBy}
-use Rattle.virt_types.specs.declared.domain_def.DomainDef.{DomainDef}
-use Rattle.virt_types.specs.declared.memory.NoMemory.{NoMemory}
-use Rattle.virt_types.specs.declared.memory.OrNoMemory.{OrNoMemory}
-use Rattle.virt_types.specs.declared.memory.OrNoMemory.TheVariants as or
-use Rattle.virt_types.specs.declared.refusal.Refusal.{Refusal}
+use Rattle.virt_types.specs.Below.types_base.declared.domain_def.DomainDef.{DomainDef}
+use Rattle.virt_types.specs.Below.types_base.declared.memory.NoMemory.{NoMemory}
+use Rattle.virt_types.specs.Below.types_base.declared.memory.OrNoMemory.{OrNoMemory}
+use Rattle.virt_types.specs.Below.types_base.declared.memory.OrNoMemory.TheVariants as or
+use Rattle.virt_types.specs.Below.types_base.declared.refusal.Refusal.{Refusal}
 use Rattle.request_asks.specs.Words.{IsDefinitionBy}
 use Rattle.request_asks.specs.declared.claiming.Claimed.{Claimed}
 

@@ -7,8 +7,8 @@ use Rattle.outcome_spec.specs.Shown.{IsShown, is_built, shown_by}
 use Rattle.slot_holds.specs.Holds.{call_of}
 use Rattle.outcome_spec.specs.Below.store_asks.Turning.{HasReadSaved, StorePass}
 use Rattle.outcome_spec.specs.Below.store_asks.declared.restoring.SavedGuest.{SavedGuest}
-use Rattle.virt_types.specs.declared.memory.OrNoMemory.{OrNoMemory}
-use Rattle.virt_types.specs.declared.refusal.Refusal.{Refusal}
+use Rattle.virt_types.specs.Below.types_base.declared.memory.OrNoMemory.{OrNoMemory}
+use Rattle.virt_types.specs.Below.types_base.declared.refusal.Refusal.{Refusal}
 use Rattle.virt_types.specs.declared.request.Request.{Request}
 use Rattle.virt_types.specs.declared.request.Request.TheVariants as request
 use Rattle.request_asks.specs.Passes.{OfRows}

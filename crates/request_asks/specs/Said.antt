@@ -1,9 +1,9 @@
 -- What is found out by what a request says alone, whatever the passes are. No public clause cites these.
 use Rattle.std.specs.Prelude.{ℕ, List}
 use Rattle.outcome_spec.specs.Below.store_asks.Turning.{StorePass}
-use Rattle.virt_types.specs.declared.memory.OrNoMemory.{OrNoMemory}
-use Rattle.virt_types.specs.declared.memory.OrNoMemory.TheVariants as or
-use Rattle.virt_types.specs.declared.refusal.Refusal.{Refusal}
+use Rattle.virt_types.specs.Below.types_base.declared.memory.OrNoMemory.{OrNoMemory}
+use Rattle.virt_types.specs.Below.types_base.declared.memory.OrNoMemory.TheVariants as or
+use Rattle.virt_types.specs.Below.types_base.declared.refusal.Refusal.{Refusal}
 use Rattle.virt_types.specs.declared.request.Request.{Request}
 use Rattle.request_asks.specs.Found.{IsFound}
 use Rattle.request_asks.specs.declared.asked.Asked.{Asked}

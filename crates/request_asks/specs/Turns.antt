@@ -10,11 +10,11 @@ use Rattle.outcome_spec.specs.Below.store_asks.Turning.{EndsIn, HasReadSaved, St
 use Rattle.outcome_spec.specs.Below.store_asks.declared.restoring.SavedGuest.{SavedGuest}
 use Rattle.text_spec.specs.Fill.{IsFilledBy}
 use Rattle.virt_types.specs.declared.call.Call.TheVariants as call
-use Rattle.virt_types.specs.declared.caller.Front.{Front}
-use Rattle.virt_types.specs.declared.domain_def.DomainDef.{DomainDef}
-use Rattle.virt_types.specs.declared.memory.OrNoMemory.{OrNoMemory}
-use Rattle.virt_types.specs.declared.memory.OrNoMemory.TheVariants as or
-use Rattle.virt_types.specs.declared.refusal.Refusal.{Refusal}
+use Rattle.virt_types.specs.Below.types_base.declared.caller.Front.{Front}
+use Rattle.virt_types.specs.Below.types_base.declared.domain_def.DomainDef.{DomainDef}
+use Rattle.virt_types.specs.Below.types_base.declared.memory.OrNoMemory.{OrNoMemory}
+use Rattle.virt_types.specs.Below.types_base.declared.memory.OrNoMemory.TheVariants as or
+use Rattle.virt_types.specs.Below.types_base.declared.refusal.Refusal.{Refusal}
 use Rattle.request_asks.specs.declared.asked.Asked.{Asked}
 use Rattle.request_asks.specs.declared.asked.Asked.TheVariants as asked
 

@@ -14,7 +14,7 @@ use Rattle.outcome_spec.specs.Below.store_asks.declared.restoring.SavedGuest.{Sa
 use Rattle.store_spec.specs.declared.image.Image.{Image}
 use Rattle.text_spec.specs.Fill.{IsFilledBy}
 use Rattle.virt_types.specs.declared.call.Call.TheVariants as call
-use Rattle.virt_types.specs.declared.domain_def.DomainDef.{DomainDef}
+use Rattle.virt_types.specs.Below.types_base.declared.domain_def.DomainDef.{DomainDef}
 use Rattle.virt_types.specs.declared.request.Request.{Request}
 use Rattle.virt_types.specs.declared.request.Request.TheVariants as request
 use Rattle.request_asks.specs.Passes.{known}

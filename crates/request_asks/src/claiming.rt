@@ -5,13 +5,13 @@ ghost use Rattle.virt_types.specs.Drawn.{IsMadeOfDrawn};
 ghost use Rattle.request_asks.specs.Claims.{IsClaimed, IsClaimedBy};
 
 use crate::refusing::refuse;
-use definition_fill::fill_domain;
 use outcome_spec::read_domain;
 use slot_holds::Hold;
 use std::alloc::Global;
 use virt_types::{
     Boxed, DomainDef, NoMemory, OrNoMemory, Random, Refusal, RefusalCode, Text, TryCopy, Uuid, both,
 };
+use xml_fill::fill_domain;
 
 /// A definition that lacks nothing, and the claim of the slot of its domain.
 #[derive(Drop)]

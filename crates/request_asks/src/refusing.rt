@@ -5,7 +5,7 @@ ghost use Rattle.outcome_spec.specs.Below.domain_requests.Requests.{Fails};
 ghost use Rattle.procedure_spec.specs.Lines.{line};
 ghost use Rattle.procedure_spec.specs.Requests.{procedure_of};
 ghost use Rattle.session_spec.specs.Refused.{refusal};
-ghost use Rattle.virt_types.specs.declared.refusal.RefusalCode.TheVariants as code;
+ghost use Rattle.virt_types.specs.Below.types_base.declared.refusal.RefusalCode.TheVariants as code;
 
 use procedure_spec::call_numbers;
 use std::alloc::Global;

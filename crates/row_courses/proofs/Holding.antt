@@ -9,7 +9,7 @@ use Rattle.row_courses.specs.Outcomes.{IsOutcome, RowGoes, ShowsOutcomes, outcom
 use Rattle.service_spec.proofs.Running.{answers_last, rows_go, runs_in_turn}
 use Rattle.service_spec.specs.Activities.{Activity, Hand}
 use Rattle.service_spec.specs.Laws.{Lasts}
-use Rattle.virt_types.specs.declared.caller.Who.{Who}
+use Rattle.virt_types.specs.Below.types_base.declared.caller.Who.{Who}
 use Rattle.virt_types.specs.declared.request.Request.{Request}
 use Rattle.virt_types.specs.declared.value.Reply.{Reply}
 

@@ -8,7 +8,7 @@ use Rattle.service_spec.specs.Activities.{Activity, Hand}
 use Rattle.service_spec.specs.Calls.{Runs, RunsAll}
 use Rattle.service_spec.specs.Laws.{IsShown}
 use Rattle.service_spec.specs.Saying.{Answer}
-use Rattle.virt_types.specs.declared.caller.Who.{Who}
+use Rattle.virt_types.specs.Below.types_base.declared.caller.Who.{Who}
 use Rattle.virt_types.specs.declared.request.Request.{Request}
 use Rattle.virt_types.specs.declared.value.Reply.{Reply}
 

@@ -4,9 +4,9 @@ use Rattle.outcome_spec.specs.Outcomes.{HasOutcome}
 use Rattle.outcome_spec.specs.Rows.{HasGone, KnownRow}
 use Rattle.outcome_spec.specs.declared.outcome.Outcome.{Outcome}
 use Rattle.service_spec.specs.Activities.{Hand}
-use Rattle.virt_types.specs.declared.caller.CellName.{CellName}
-use Rattle.virt_types.specs.declared.caller.Front.{Front}
-use Rattle.virt_types.specs.declared.caller.Who.{Who}
+use Rattle.virt_types.specs.Below.types_base.declared.caller.CellName.{CellName}
+use Rattle.virt_types.specs.Below.types_base.declared.caller.Front.{Front}
+use Rattle.virt_types.specs.Below.types_base.declared.caller.Who.{Who}
 use Rattle.virt_types.specs.declared.request.Request.{Request}
 use Rattle.virt_types.specs.declared.value.Reply.{Reply}
 

@@ -1,7 +1,7 @@
 -- Who answers an ask, and how.
 use Rattle.std.specs.Prelude.{◌≡◌, ◌⊎◌, ◌≤◌, ℕ, List, Bool, true, false, IfErr, IfOk, Option, None, Some, Result, Ok, Err}
-use Rattle.virt_types.specs.declared.memory.Fault.{Fault}
-use Rattle.virt_types.specs.declared.memory.Fault.TheVariants as fault
+use Rattle.virt_types.specs.Below.types_base.declared.memory.Fault.{Fault}
+use Rattle.virt_types.specs.Below.types_base.declared.memory.Fault.TheVariants as fault
 use Rattle.domain_spec.specs.Types.{Answer, Ask, Command}
 use Rattle.domain_spec.specs.Types.answer
 use Rattle.domain_spec.specs.Types.ask

@@ -4,7 +4,7 @@ use Rattle.outside_spec.specs.Faults.{Rose}
 use Rattle.domain_spec.specs.Types.{Answer, Ask}
 use Rattle.domain_spec.specs.Types.ask
 use Rattle.domain_spec.specs.Types.answer
-use Rattle.virt_types.specs.declared.domain_def.DomainDef.{DomainDef}
+use Rattle.virt_types.specs.Below.types_base.declared.domain_def.DomainDef.{DomainDef}
 use Rattle.files_disk.specs.Telling.{Told}
 use Rattle.turn_cell.specs.Turning.{Went}
 use Rattle.def_keeper.specs.declared.mark.StoreMark.{StoreMark}

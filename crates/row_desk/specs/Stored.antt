@@ -1,6 +1,6 @@
 -- What the marks of a store say of the asks that it answered.
 use Rattle.std.specs.Prelude.{◌≡◌, ◌<◌, ◌≤◌, ◌-◌, ℕ, List, [], ◌∷◌, filter, not, slice_get, Bool, true, false, Some}
-use Rattle.virt_types.specs.declared.caller.Front.{Front}
+use Rattle.virt_types.specs.Below.types_base.declared.caller.Front.{Front}
 use Rattle.domain_spec.specs.Types.{Answer, Ask}
 use Rattle.domain_spec.specs.Types.ask
 use Rattle.def_keeper.specs.declared.mark.StoreAction.{StoreAction}

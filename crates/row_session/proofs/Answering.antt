@@ -14,7 +14,7 @@ use Rattle.service_spec.specs.Saying.{AReply, APong, AreWhole, Answer, Due, Pong
 use Rattle.service_spec.proofs.Running.{runs_append}
 use Rattle.session_spec.specs.Course.{StaysOpen}
 use Rattle.session_spec.specs.Replies.{asks_to_close, closes}
-use Rattle.virt_types.specs.declared.caller.Who.{Who}
+use Rattle.virt_types.specs.Below.types_base.declared.caller.Who.{Who}
 use Rattle.virt_types.specs.declared.request.Request.{Request}
 use Rattle.virt_types.specs.declared.value.Reply.{Reply}
 use Rattle.wire_spec.specs.Packets.{IsPacket, spelling}

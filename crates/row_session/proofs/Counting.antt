@@ -15,7 +15,7 @@ use Rattle.service_spec.specs.Saying.{AReply, APong, Answer, Due, Ponged, Replie
 use Rattle.service_spec.proofs.Running.{runs_count}
 use Rattle.session_spec.specs.declared.end.End.{End}
 use Rattle.session_spec.specs.declared.end.End.TheVariants as end
-use Rattle.virt_types.specs.declared.caller.Who.{Who}
+use Rattle.virt_types.specs.Below.types_base.declared.caller.Who.{Who}
 use Rattle.virt_types.specs.declared.request.Request.{Request}
 use Rattle.virt_types.specs.declared.value.Reply.{Reply}
 use Rattle.wire_spec.specs.Packets.{header, spelling}

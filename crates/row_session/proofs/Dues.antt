@@ -19,7 +19,7 @@ use Rattle.service_spec.specs.Keepalive.{is_ping, pong}
 use Rattle.service_spec.specs.Reading.{read_of}
 use Rattle.service_spec.specs.Saying.{AReply, APong, Answer, Due, Ponged, Replied, Said, all_due, all_given, answers_in, due_to, gives, log_bytes, message}
 use Rattle.session_spec.specs.Replies.{asks_to_close, closes, reply_packet}
-use Rattle.virt_types.specs.declared.caller.Who.{Who}
+use Rattle.virt_types.specs.Below.types_base.declared.caller.Who.{Who}
 use Rattle.virt_types.specs.declared.request.Request.{Request}
 use Rattle.virt_types.specs.declared.value.Reply.{Reply}
 use Rattle.wire_spec.specs.Packets.{IsPacket, spelling}

@@ -10,9 +10,9 @@ use Rattle.procedure_spec.specs.Calls.{IsCall}
 use Rattle.row_session.specs.Replying.{CanReply}
 use Rattle.service_spec.specs.Sayable.{IsSayable}
 use Rattle.virt_types.specs.Refusal.{kept_cut, refusal_message}
-use Rattle.virt_types.specs.declared.refusal.Refusal.{Refusal}
-use Rattle.virt_types.specs.declared.refusal.RefusalCode.{RefusalCode}
-use Rattle.virt_types.specs.declared.refusal.RefusalCode.TheVariants as code
+use Rattle.virt_types.specs.Below.types_base.declared.refusal.Refusal.{Refusal}
+use Rattle.virt_types.specs.Below.types_base.declared.refusal.RefusalCode.{RefusalCode}
+use Rattle.virt_types.specs.Below.types_base.declared.refusal.RefusalCode.TheVariants as code
 use Rattle.virt_types.specs.declared.request.Request.{Request}
 use Rattle.virt_types.specs.declared.value.Reply.{Reply}
 use Rattle.virt_types.specs.declared.value.Reply.TheVariants as reply

@@ -17,7 +17,7 @@ use Rattle.session_spec.specs.Replies.{closes}
 use Rattle.session_spec.specs.declared.end.End.{End}
 use Rattle.session_spec.specs.declared.end.End.TheVariants.{BadPacket, Eof, NoMemory, SinkFault, Truncated}
 use Rattle.session_spec.specs.declared.end.End.TheVariants as end
-use Rattle.virt_types.specs.declared.caller.Who.{Who}
+use Rattle.virt_types.specs.Below.types_base.declared.caller.Who.{Who}
 use Rattle.virt_types.specs.declared.request.Request.{Request}
 use Rattle.virt_types.specs.declared.value.Reply.{Reply}
 use Rattle.wire_spec.specs.Packets.{IsPacket, fault, spelling}

@@ -7,7 +7,7 @@ use Rattle.service_spec.specs.Activities.{Activity, Hand, next_who}
 use Rattle.service_spec.specs.Calls.{IsAnswered}
 use Rattle.service_spec.specs.Reading.{read_of}
 use Rattle.session_spec.specs.Replies.{asks_to_close}
-use Rattle.virt_types.specs.declared.caller.Who.{Who}
+use Rattle.virt_types.specs.Below.types_base.declared.caller.Who.{Who}
 use Rattle.virt_types.specs.declared.request.Request.{Request}
 use Rattle.virt_types.specs.declared.value.Reply.{Reply}
 use Rattle.wire_spec.specs.declared.message.Packet.{Packet}

@@ -1,7 +1,7 @@
 -- Events are given in order.
 use Rattle.std.proofs.Common.{◌≡◌, ◌≤◌, ℕ, true, List, [], ◌∷◌, Option, refl, sym, ◌∙◌}
-use Rattle.virt_types.specs.declared.memory.OrNoMemory.{OrNoMemory}
-use Rattle.virt_types.specs.declared.memory.OrNoMemory.TheVariants as or
+use Rattle.virt_types.specs.Below.types_base.declared.memory.OrNoMemory.{OrNoMemory}
+use Rattle.virt_types.specs.Below.types_base.declared.memory.OrNoMemory.TheVariants as or
 use Rattle.wire_spec.specs.declared.message.Packet.{Packet}
 use Rattle.rpc_client.specs.Inflow.{Gives, GivesNone, Hears, Inflow, Passes, StopsOrNoMemory}
 use Rattle.rpc_client.specs.Messages.{is_reply}

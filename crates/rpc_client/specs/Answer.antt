@@ -1,6 +1,6 @@
 -- What a reply answers to the call of a request, or why it is no answer.
 use Rattle.std.specs.Prelude.{◌==◌, ◌&&◌, Bool, List, ℕ, Result, Ok, Err, if◌then◌else◌}
-use Rattle.virt_types.specs.declared.refusal.Refusal.{Refusal}
+use Rattle.virt_types.specs.Below.types_base.declared.refusal.Refusal.{Refusal}
 use Rattle.virt_types.specs.declared.request.Request.{Request}
 use Rattle.virt_types.specs.declared.value.Reply.{Reply}
 use Rattle.virt_types.specs.declared.value.Reply.TheVariants as reply

@@ -1,7 +1,7 @@
 -- The notes that events spell, as a client gives them.
 use Rattle.std.specs.Prelude.{◌≡◌, ℕ, List, Option, Result, Ok, Err}
-use Rattle.virt_types.specs.declared.memory.OrNoMemory.{OrNoMemory}
-use Rattle.virt_types.specs.declared.memory.OrNoMemory.TheVariants.{Fault, NoMemory}
+use Rattle.virt_types.specs.Below.types_base.declared.memory.OrNoMemory.{OrNoMemory}
+use Rattle.virt_types.specs.Below.types_base.declared.memory.OrNoMemory.TheVariants.{Fault, NoMemory}
 use Rattle.virt_types.specs.declared.value.Note.{Note}
 use Rattle.wire_spec.specs.declared.message.Packet.{Packet}
 use Rattle.procedure_spec.specs.Events.{IsNote}

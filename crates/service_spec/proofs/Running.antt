@@ -12,7 +12,7 @@ use Rattle.service_spec.specs.Saying.{Answer, Ponged, Replied, Said, answers, an
 use Rattle.session_spec.specs.Replies.{asks_to_close}
 use Rattle.session_spec.specs.declared.end.End.{End}
 use Rattle.session_spec.specs.declared.end.End.TheVariants as end
-use Rattle.virt_types.specs.declared.caller.Who.{Who}
+use Rattle.virt_types.specs.Below.types_base.declared.caller.Who.{Who}
 use Rattle.virt_types.specs.declared.request.Request.{Request}
 use Rattle.virt_types.specs.declared.value.Reply.{Reply}
 use Rattle.virt_types.specs.declared.value.Reply.TheVariants as reply

@@ -1,6 +1,6 @@
 -- What runs calls.
 use Rattle.std.specs.Prelude.{ℕ, ◌+◌, List, Option}
-use Rattle.virt_types.specs.declared.caller.Who.{Who}
+use Rattle.virt_types.specs.Below.types_base.declared.caller.Who.{Who}
 
 -- what an activity has at hand: its row, and the words that were drawn for it so far, where their source reports them
 pub record Hand (W : Type 0) : Type 0 where

@@ -7,7 +7,7 @@ use Rattle.service_spec.specs.Reading.{read_of}
 use Rattle.service_spec.specs.Saying.{Answer}
 use Rattle.session_spec.specs.Refused.{unread}
 use Rattle.session_spec.specs.Replies.{asks_to_close}
-use Rattle.virt_types.specs.declared.caller.Who.{Who}
+use Rattle.virt_types.specs.Below.types_base.declared.caller.Who.{Who}
 use Rattle.virt_types.specs.declared.request.Request.{Request}
 use Rattle.virt_types.specs.declared.value.Reply.{Reply}
 use Rattle.virt_types.specs.declared.value.Reply.TheVariants as reply

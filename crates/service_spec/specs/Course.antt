@@ -11,7 +11,7 @@ use Rattle.service_spec.specs.Saying.{AreWhole, Said, all_due, all_given, answer
 use Rattle.service_spec.specs.declared.lanes.TheConstants.{READER}
 use Rattle.session_spec.specs.Course.{HasEnd}
 use Rattle.session_spec.specs.declared.end.End.{End}
-use Rattle.virt_types.specs.declared.caller.Who.{Who}
+use Rattle.virt_types.specs.Below.types_base.declared.caller.Who.{Who}
 use Rattle.virt_types.specs.declared.request.Request.{Request}
 use Rattle.virt_types.specs.declared.value.Reply.{Reply}
 use Rattle.wire_spec.specs.Packets.{IsPacket}

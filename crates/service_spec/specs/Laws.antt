@@ -8,7 +8,7 @@ use Rattle.service_spec.specs.Reading.{read_of}
 use Rattle.service_spec.specs.Saying.{Answer, answers}
 use Rattle.session_spec.specs.Replies.{asks_to_close}
 use Rattle.session_spec.specs.declared.end.End.{End}
-use Rattle.virt_types.specs.declared.caller.Who.{Who}
+use Rattle.virt_types.specs.Below.types_base.declared.caller.Who.{Who}
 use Rattle.virt_types.specs.declared.request.Request.{Request}
 use Rattle.virt_types.specs.declared.value.Reply.{Reply}
 

@@ -4,7 +4,7 @@ ghost use Rattle.procedure_spec.specs.Results.{result_shape};
 ghost use Rattle.procedure_spec.specs.declared.procedure.Procedure.{Procedure as OfProcedure};
 ghost use Rattle.service_spec.specs.Activities.{Hand, hand};
 ghost use Rattle.service_spec.specs.Sayable.{IsSayable};
-ghost use Rattle.virt_types.specs.declared.caller.Who.{Who as Caller};
+ghost use Rattle.virt_types.specs.Below.types_base.declared.caller.Who.{Who as Caller};
 ghost use Rattle.virt_types.specs.declared.request.Request.{Request as Asked};
 ghost use Rattle.virt_types.specs.declared.value.Reply.{Reply as Said};
 

@@ -8,7 +8,7 @@ use Rattle.text_spec.specs.Tree.{Tree}
 use Rattle.text_spec.specs.Written.{written}
 use Rattle.text_spec.specs.declared.definition.DefFault.{DefFault}
 use Rattle.text_spec.specs.declared.fault.TextFault.{TextFault}
-use Rattle.virt_types.specs.declared.domain_def.DomainDef.{DomainDef}
+use Rattle.virt_types.specs.Below.types_base.declared.domain_def.DomainDef.{DomainDef}
 
 -- the definition that a text is, or what the refusal keeps: the place where it leaves the grammar, or
 -- the path of the element at which its tree is no definition

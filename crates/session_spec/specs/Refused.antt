@@ -6,9 +6,9 @@ use Rattle.procedure_spec.specs.Procedures.{row_of}
 use Rattle.procedure_spec.specs.declared.fault.ArgFault.{ArgFault}
 use Rattle.procedure_spec.specs.declared.fault.ArgFault.TheVariants as fault
 use Rattle.virt_types.specs.Refusal.{kept_cut}
-use Rattle.virt_types.specs.declared.refusal.Refusal.{Refusal}
-use Rattle.virt_types.specs.declared.refusal.RefusalCode.{RefusalCode}
-use Rattle.virt_types.specs.declared.refusal.RefusalCode.TheVariants as code
+use Rattle.virt_types.specs.Below.types_base.declared.refusal.Refusal.{Refusal}
+use Rattle.virt_types.specs.Below.types_base.declared.refusal.RefusalCode.{RefusalCode}
+use Rattle.virt_types.specs.Below.types_base.declared.refusal.RefusalCode.TheVariants as code
 use Rattle.wire_spec.specs.declared.fault.XdrFault.{XdrFault}
 use Rattle.wire_spec.specs.declared.fault.XdrFault.TheVariants as xdr
 use Rattle.wire_spec.specs.declared.message.Header.{Header}

@@ -3,7 +3,7 @@ use crate::stories::Step;
 use packet::Source;
 use std::sync::Wait;
 use story_guests::{SharedSignals, Signal};
-use virt_types::Failed;
+use types_base::Failed;
 
 /// How many steps a client takes at most from one call to the next.
 const MOST_STEPS: u32 = 100;

@@ -1,7 +1,7 @@
 // The gates of sessions.
 use std::sync::Wait;
 use story_guests::{SharedSignals, Signal};
-use virt_types::Gate;
+use types_base::Gate;
 
 /// Where a session is before a call is run.
 const BEFORE: u32 = 1;

@@ -19,7 +19,7 @@ use std::sync::Wait;
 use std::thread::Threads;
 use stories::{STORIES, Story};
 use told::lines_of;
-use virt_types::NoMemory;
+use types_base::NoMemory;
 
 fn print<R: Print>(rt: &R, title: &str, told: Result<String, NoMemory>) -> io::Result<()> {
     match told {

@@ -9,7 +9,7 @@ use packet::memory::MemorySink;
 use std::alloc::Global;
 use std::sync::{Arc, Wait};
 use story_guests::{Manner, SharedSignals, Signals, StoryGuests};
-use virt_types::NoMemory;
+use types_base::NoMemory;
 
 /// A session of a story.
 pub(crate) type StorySession<H> = Session<StorySource<H>, MemorySink, CountedWords, StoryGate<H>>;

@@ -4,7 +4,7 @@ use crate::scene::ServedSession;
 use packet::{Feed, OK, Packet};
 use remote_args::read_error;
 use std::alloc::Global;
-use virt_types::NoMemory;
+use types_base::NoMemory;
 
 // What the payload of a reply says that something was done. The first word of an info is the state.
 fn done(alloc: Global, asked: Asked, payload: &[u8]) -> Result<String, NoMemory> {

@@ -1,5 +1,5 @@
 // Words that are drawn for sessions.
-use virt_types::Random;
+use types_base::Random;
 
 /// Words that count up.
 #[derive(Clone, Copy)]

@@ -1,7 +1,7 @@
 //! How the slot of a request's domain is asked for.
 #![tactic(auto)]
 
-use virt_types::{Bytes, Name, Uuid};
+use types_base::{Bytes, Name, Uuid};
 
 /// By what a request asks the list of domains for a slot.
 #[derive(Drop)]

@@ -12,13 +12,13 @@ use Rattle.text_spec.specs.Text.{read_of}
 use Rattle.text_spec.specs.Tree.{Tree, trees, none}
 use Rattle.text_spec.specs.Writable.{IsNamed, IsText, IsTree, IsWritable}
 use Rattle.text_spec.specs.Written.{written, in_text, deeper, trees_written}
-use Rattle.definition_print.specs.Below.text_laws.Texts.{Of}
-use Rattle.definition_print.proofs.Below.text_laws.Allowed.{both_all}
-use Rattle.definition_print.proofs.Below.text_laws.Lengths.{AreNoLonger, as_long, both_longer, first_room, fits_too, none_longer, tree_room, with_room}
-use Rattle.definition_print.proofs.Below.text_laws.Plain.{named_by, word_text}
-use Rattle.text_rows.proofs.Formed.{first_in, holder_formed, word_formed, writable}
-use Rattle.tree_words.specs.Called.{is_called, text_called}
-use Rattle.tree_words.specs.Spelled.{spelled, worded, wordeds}
+use Rattle.xml_print.specs.Below.text_laws.Texts.{Of}
+use Rattle.xml_print.proofs.Below.text_laws.Allowed.{both_all}
+use Rattle.xml_print.proofs.Below.text_laws.Lengths.{AreNoLonger, as_long, both_longer, first_room, fits_too, none_longer, tree_room, with_room}
+use Rattle.xml_print.proofs.Below.text_laws.Plain.{named_by, word_text}
+use Rattle.xml_tables.proofs.Formed.{first_in, holder_formed, word_formed, writable}
+use Rattle.xml_tables.specs.Called.{is_called, text_called}
+use Rattle.xml_tables.specs.Spelled.{spelled, worded, wordeds}
 use Rattle.snapshot_xml.specs.ReadsAs.{IsNameText, IsSoundInfo, IsSoundSnapshot, ReadsAsSnapshot}
 use Rattle.snapshot_xml.specs.SnapshotText.{info_tree, run_word, said, parent_trees, kept_tree, info_of, name_kind, info_in, info_fault, snapshot_in, snapshot_read}
 

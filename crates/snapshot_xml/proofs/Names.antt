@@ -4,7 +4,7 @@ use Rattle.std.specs.Prelude.{option_map, codes}
 use Rattle.text_spec.specs.declared.definition.DefKind.{DefKind}
 use Rattle.text_spec.specs.Table.{told}
 use Rattle.text_spec.specs.Tree.{Tree}
-use Rattle.tree_words.specs.Called.{is_called, text_called}
+use Rattle.xml_tables.specs.Called.{is_called, text_called}
 use Rattle.snapshot_xml.specs.Parts.{described, name_read}
 use Rattle.snapshot_xml.specs.SnapshotText.{at_name, name_kind, info_fault, info_in, snapshot_in}
 

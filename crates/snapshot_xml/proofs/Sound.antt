@@ -13,9 +13,9 @@ use Rattle.text_spec.specs.Table.{fault_of_root, root_fault, told}
 use Rattle.text_spec.specs.Text.{read_of}
 use Rattle.text_spec.specs.Tree.{Tree, element, Trees, none, first}
 use Rattle.text_spec.specs.Writable.{AreTrees, IsText, IsTree}
-use Rattle.definition_print.specs.Below.text_laws.Formed.{IsFormed}
-use Rattle.definition_print.specs.Below.text_laws.Texts.{Of}
-use Rattle.tree_words.specs.Called.{is_called, first_called, text_called}
+use Rattle.xml_print.specs.Below.text_laws.Formed.{IsFormed}
+use Rattle.xml_print.specs.Below.text_laws.Texts.{Of}
+use Rattle.xml_tables.specs.Called.{is_called, first_called, text_called}
 use Rattle.snapshot_xml.specs.ReadsAs.{IsNameText, IsSoundInfo, ReadsAsSnapshot}
 use Rattle.snapshot_xml.specs.SnapshotText.{at_name, info_fault, info_in, info_tree, name_kind, snapshot_in, snapshot_read}
 

@@ -7,7 +7,7 @@ use Rattle.text_spec.specs.Spelling.{fits}
 use Rattle.text_spec.specs.Text.{read_of}
 use Rattle.text_spec.specs.Tree.{Tree}
 use Rattle.text_spec.specs.Writable.{IsText}
-use Rattle.definition_print.specs.Below.text_laws.Texts.{Of}
+use Rattle.xml_print.specs.Below.text_laws.Texts.{Of}
 use Rattle.snapshot_xml.specs.SnapshotText.{info_tree, kept_tree, snapshot_read}
 
 pub record ReadsAsSnapshot (text : List ℕ) (s : SnapInfo) : Type 0 where

@@ -13,8 +13,8 @@ use Rattle.text_spec.specs.Definition.{not_too_long}
 use Rattle.text_spec.specs.Spelling.{fits}
 use Rattle.text_spec.specs.Table.{fault_of_root, root_fault, told}
 use Rattle.text_spec.specs.Tree.{Tree}
-use Rattle.tree_words.specs.Called.{is_called, text_called}
-use Rattle.tree_words.specs.Spelled.{spelled, worded, wordeds}
+use Rattle.xml_tables.specs.Called.{is_called, text_called}
+use Rattle.xml_tables.specs.Spelled.{spelled, worded, wordeds}
 
 -- ---- printing
 -- what a caller says: the name and the description, where there are any

@@ -6,8 +6,8 @@ ghost use Rattle.text_spec.specs.Written.{written};
 ghost use Rattle.snapshot_xml.specs.ReadsAs.{IsSoundInfo, IsSoundSnapshot, ReadsAsSnapshot};
 ghost use Rattle.snapshot_xml.specs.SnapshotText.{info_of, info_tree, kept_tree};
 
-use definition_print::read_is_writable;
 use text_spec::written_reads_back;
+use xml_print::read_is_writable;
 
 /// The text that is printed of what a caller says of a snapshot reads as that.
 #[tactic(auto, using(crate::proofs::Again::info_again))]

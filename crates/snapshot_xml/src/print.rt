@@ -6,9 +6,9 @@ ghost use Rattle.snapshot_xml.specs.SnapshotText as spec;
 
 use crate::laws::{kept_snapshot_reads_back, printed_snapshot_reads_back};
 use crate::tree::{info_tree, kept_tree};
-use definition_print::write_tree;
 use std::alloc::Global;
 use virt_types::{NoMemory, Snap, SnapInfo, Text};
+use xml_print::write_tree;
 
 /// The text of what a caller says of a snapshot: one element a line, two blanks a level, and nothing
 /// for what is absent. What is sound, as all that is read, is what its text reads as.

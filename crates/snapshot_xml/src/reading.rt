@@ -1,18 +1,17 @@
 // Reading what a caller says of a snapshot.
 ghost use Rattle.std.specs.Prelude.{◌≡◌, IfOk, codes};
 ghost use Rattle.text_spec.specs.Tree.{seen};
-ghost use Rattle.tree_words.specs.Called.{text_called as text_in};
+ghost use Rattle.xml_tables.specs.Called.{text_called as text_in};
 ghost use Rattle.virt_types.specs.Memory.{UnlessNoMemory};
 ghost use Rattle.snapshot_xml.specs.Parts as parts;
 ghost use Rattle.snapshot_xml.specs.SnapshotText as spec;
 
 use crate::tree::info_tree;
-use definition_print::tree_fits;
-use element_table::fault_of_root;
 use std::alloc::Global;
 use text_spec::{DefFault, DefKind, Tree};
-use tree_words::{is_called, text_called};
 use virt_types::{Name, NoMemory, OrNoMemory, SnapInfo, Text, TryCopy, both};
+use xml_print::tree_fits;
+use xml_tables::{fault_of_root, is_called, text_called};
 
 /// The name of a snapshot that has one.
 fn name_in(alloc: Global, tree: &Tree) -> Result<Option<Name>, OrNoMemory<DefFault>>

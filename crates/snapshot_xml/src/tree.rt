@@ -5,8 +5,8 @@ ghost use Rattle.snapshot_xml.specs.SnapshotText as spec;
 
 use std::alloc::Global;
 use text_spec::{PairList, Tree};
-use tree_words::{add, add_worded, spelled, worded};
 use virt_types::{Name, NoMemory, RunState, Snap, SnapInfo, Text};
+use xml_tables::{add, add_worded, spelled, worded};
 
 fn name_text(name: &Option<Name>) -> Option<&str>
     ensures { option_map (λ t. t.now) result ≡ name.now }

@@ -17,15 +17,15 @@ use Rattle.text_spec.specs.Written.{written, in_text, deeper, trees_written}
 use Rattle.text_laws.proofs.Allowed.{both_all}
 use Rattle.text_laws.proofs.Lengths.{AreNoLonger, as_long, both_longer, first_room, fits_too, none_longer, tree_room, with_room}
 use Rattle.text_laws.proofs.Plain.{named_by, word_value}
-use Rattle.virt_types.specs.declared.storage_def.PoolDef.{PoolDef}
-use Rattle.virt_types.specs.declared.storage_def.PoolType.{PoolType}
-use Rattle.virt_types.specs.declared.storage_def.PoolType.TheVariants as pool
-use Rattle.tree_words.specs.Called.{first_called, is_called, is_pair_called, text_called, value_called}
-use Rattle.tree_words.specs.Spelled.{spelled, worded, worth}
-use Rattle.text_rows.specs.Values.{size_tree, uuid_tree}
-use Rattle.text_rows.proofs.Again.{identifier_back, name_back, size_back}
-use Rattle.text_rows.proofs.Identifiers.{uuid_filled, uuid_longer}
-use Rattle.text_rows.proofs.Formed.{first_in, holder_formed, one_attribute, size_formed, uuid_formed, word_formed, writable}
+use Rattle.types_base.specs.declared.storage_def.PoolDef.{PoolDef}
+use Rattle.types_base.specs.declared.storage_def.PoolType.{PoolType}
+use Rattle.types_base.specs.declared.storage_def.PoolType.TheVariants as pool
+use Rattle.xml_tables.specs.Called.{first_called, is_called, is_pair_called, text_called, value_called}
+use Rattle.xml_tables.specs.Spelled.{spelled, worded, worth}
+use Rattle.xml_tables.specs.Values.{size_tree, uuid_tree}
+use Rattle.xml_tables.proofs.Again.{identifier_back, name_back, size_back}
+use Rattle.xml_tables.proofs.Identifiers.{uuid_filled, uuid_longer}
+use Rattle.xml_tables.proofs.Formed.{first_in, holder_formed, one_attribute, size_formed, uuid_formed, word_formed, writable}
 use Rattle.storage_xml.specs.PoolText.{capacity_or_most, identified, path_in, pool_fits, pool_in, pool_of, pool_read, pool_tree, target_tree}
 use Rattle.storage_xml.specs.ReadsAs.{IsSoundPool, ReadsAsPool}
 

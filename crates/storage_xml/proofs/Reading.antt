@@ -1,11 +1,11 @@
 -- What is read, from its parts.
 use Rattle.std.proofs.Common.{◌≡◌, ℕ, List, Option, Ok, refl, sym}
 use Rattle.std.specs.Prelude.{codes, unwrap_or}
-use Rattle.virt_types.specs.declared.storage_def.PoolType.{PoolType}
+use Rattle.types_base.specs.declared.storage_def.PoolType.{PoolType}
 use Rattle.text_spec.specs.Tree.{Tree}
-use Rattle.tree_words.specs.Called.{first_called, text_called, value_called}
-use Rattle.text_rows.specs.Rows.{needed, optional}
-use Rattle.text_rows.specs.Values.{name_value, size_value, uuid_value}
+use Rattle.xml_tables.specs.Called.{first_called, text_called, value_called}
+use Rattle.xml_tables.specs.Rows.{needed, optional}
+use Rattle.xml_tables.specs.Values.{name_value, size_value, uuid_value}
 use Rattle.storage_xml.specs.PoolText.{capacity_or_most, path_in, pool_of, pool_type_value}
 use Rattle.storage_xml.specs.VolumeText.{format_in, volume_of}
 

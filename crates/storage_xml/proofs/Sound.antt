@@ -2,10 +2,10 @@
 use Rattle.std.proofs.Common.{◌≡◌, ℕ, ◌^◌, ◌≤◌, List, Bool, true, false, Option, Some, None, Result, Ok, refl, subst, arith}
 use Rattle.std.specs.Prelude.{◌==◌, codes, option_and_then, unwrap_or, if◌then◌else◌}
 use Rattle.std.proofs.lemmas.Bool.Decides.{nat_tests}
-use Rattle.virt_types.specs.Name.{bad_place}
-use Rattle.virt_types.specs.declared.storage_def.PoolDef.{PoolDef}
-use Rattle.virt_types.specs.declared.storage_def.PoolType.{PoolType}
-use Rattle.virt_types.specs.declared.storage_def.VolDef.{VolDef}
+use Rattle.types_base.specs.Name.{bad_place}
+use Rattle.types_base.specs.declared.storage_def.PoolDef.{PoolDef}
+use Rattle.types_base.specs.declared.storage_def.PoolType.{PoolType}
+use Rattle.types_base.specs.declared.storage_def.VolDef.{VolDef}
 use Rattle.text_spec.specs.declared.definition.DefFault.{DefFault}
 use Rattle.text_spec.specs.declared.definition.DefKind.TheVariants as kind
 use Rattle.text_spec.specs.Table.{fault_of_root, root_fault}
@@ -16,12 +16,12 @@ use Rattle.text_laws.proofs.Plain.{word_value}
 use Rattle.text_laws.specs.Formed.{IsFormed}
 use Rattle.text_laws.specs.Given.{IsUuidOf, IsValue, IsWithin}
 use Rattle.text_laws.specs.Texts.{Of}
-use Rattle.tree_words.specs.Called.{first_called, is_called, text_called, value_called}
-use Rattle.text_rows.specs.Rows.{needed, optional, then_read}
-use Rattle.text_rows.specs.Values.{name_value, size_value, uuid_value}
-use Rattle.text_rows.proofs.Found.{Formed, first_formed, text_formed, then_of, value_formed}
-use Rattle.text_rows.proofs.Identifiers.{uuid_was}
-use Rattle.text_rows.proofs.Was.{fitting_was, name_was, needed_was, optional_was, root_was, same_value, size_was, then_was}
+use Rattle.xml_tables.specs.Called.{first_called, is_called, text_called, value_called}
+use Rattle.xml_tables.specs.Rows.{needed, optional, then_read}
+use Rattle.xml_tables.specs.Values.{name_value, size_value, uuid_value}
+use Rattle.xml_tables.proofs.Found.{Formed, first_formed, text_formed, then_of, value_formed}
+use Rattle.xml_tables.proofs.Identifiers.{uuid_was}
+use Rattle.xml_tables.proofs.Was.{fitting_was, name_was, needed_was, optional_was, root_was, same_value, size_was, then_was}
 use Rattle.storage_xml.specs.PoolText.{capacity_or_most, path_in, pool_fits, pool_in, pool_of, pool_read, pool_type_value}
 use Rattle.storage_xml.specs.ReadsAs.{IsSoundPool, IsSoundVolume, ReadsAsPool, ReadsAsVolume}
 use Rattle.storage_xml.specs.VolumeText.{format_in, volume_fits, volume_in, volume_of, volume_read}

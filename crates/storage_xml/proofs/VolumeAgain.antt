@@ -7,12 +7,12 @@ use Rattle.text_spec.specs.Tree.{Tree}
 use Rattle.text_spec.specs.Writable.{IsNamed, IsTree, IsWritable}
 use Rattle.text_spec.specs.Written.{written}
 use Rattle.text_laws.proofs.Plain.{named_by}
-use Rattle.virt_types.specs.declared.storage_def.VolDef.{VolDef}
-use Rattle.tree_words.specs.Called.{first_called, is_called, is_pair_called, text_called, value_called}
-use Rattle.tree_words.specs.Spelled.{worded, worth}
-use Rattle.text_rows.specs.Values.{size_tree}
-use Rattle.text_rows.proofs.Again.{name_back, size_back}
-use Rattle.text_rows.proofs.Formed.{first_in, holder_formed, one_attribute, size_formed, word_formed, writable}
+use Rattle.types_base.specs.declared.storage_def.VolDef.{VolDef}
+use Rattle.xml_tables.specs.Called.{first_called, is_called, is_pair_called, text_called, value_called}
+use Rattle.xml_tables.specs.Spelled.{worded, worth}
+use Rattle.xml_tables.specs.Values.{size_tree}
+use Rattle.xml_tables.proofs.Again.{name_back, size_back}
+use Rattle.xml_tables.proofs.Formed.{first_in, holder_formed, one_attribute, size_formed, word_formed, writable}
 use Rattle.storage_xml.specs.ReadsAs.{IsSoundVolume, ReadsAsVolume}
 use Rattle.storage_xml.specs.VolumeText.{format_in, format_tree, target_tree, volume_fits, volume_in, volume_of, volume_read, volume_tree}
 

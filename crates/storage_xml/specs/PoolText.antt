@@ -3,9 +3,9 @@ use Rattle.std.specs.Prelude.{ℕ, ◌^◌, ◌==◌, List, [], ◌∷◌, ◌++
 use Rattle.std.specs.Option.{option_to_list}
 use Rattle.std.specs.Str.{bytes_eq}
 use Rattle.uuid.specs.Parts.{zero_bytes}
-use Rattle.virt_types.specs.declared.storage_def.PoolDef.{PoolDef}
-use Rattle.virt_types.specs.declared.storage_def.PoolType.{PoolType}
-use Rattle.virt_types.specs.declared.storage_def.PoolType.TheVariants as pool
+use Rattle.types_base.specs.declared.storage_def.PoolDef.{PoolDef}
+use Rattle.types_base.specs.declared.storage_def.PoolType.{PoolType}
+use Rattle.types_base.specs.declared.storage_def.PoolType.TheVariants as pool
 use Rattle.text_spec.specs.declared.definition.DefFault.{DefFault}
 use Rattle.text_spec.specs.declared.definition.DefKind.{DefKind}
 use Rattle.text_spec.specs.declared.definition.DefKind.TheVariants as kind
@@ -13,10 +13,10 @@ use Rattle.text_spec.specs.Definition.{not_too_long}
 use Rattle.text_spec.specs.Spelling.{fits}
 use Rattle.text_spec.specs.Table.{fault_of_root, root_fault}
 use Rattle.text_spec.specs.Tree.{Tree}
-use Rattle.tree_words.specs.Called.{first_called, is_called, text_called, value_called}
-use Rattle.tree_words.specs.Spelled.{spelled, worded, worth}
-use Rattle.text_rows.specs.Rows.{needed, optional, then_read}
-use Rattle.text_rows.specs.Values.{name_value, size_tree, size_value, uuid_tree, uuid_value}
+use Rattle.xml_tables.specs.Called.{first_called, is_called, text_called, value_called}
+use Rattle.xml_tables.specs.Spelled.{spelled, worded, worth}
+use Rattle.xml_tables.specs.Rows.{needed, optional, then_read}
+use Rattle.xml_tables.specs.Values.{name_value, size_tree, size_value, uuid_tree, uuid_value}
 
 -- the most that a pool's volumes may take together, which is also what a pool has that says nothing of it
 abbrev pub most_capacity : ℕ

@@ -1,8 +1,8 @@
 -- What whole texts say of pools and volumes, and what reading can give.
 use Rattle.std.specs.Prelude.{◌≡◌, ◌^◌, ◌≤◌, ℕ, List, true, Ok, None}
-use Rattle.virt_types.specs.Name.{bad_place}
-use Rattle.virt_types.specs.declared.storage_def.PoolDef.{PoolDef}
-use Rattle.virt_types.specs.declared.storage_def.VolDef.{VolDef}
+use Rattle.types_base.specs.Name.{bad_place}
+use Rattle.types_base.specs.declared.storage_def.PoolDef.{PoolDef}
+use Rattle.types_base.specs.declared.storage_def.VolDef.{VolDef}
 use Rattle.text_spec.specs.Text.{read_of}
 use Rattle.text_spec.specs.Tree.{Tree}
 use Rattle.text_spec.specs.Writable.{IsText}

@@ -1,16 +1,16 @@
 -- The texts of volumes, after libvirt's storage volume format ("General metadata", "Target elements").
 use Rattle.std.specs.Prelude.{ℕ, List, [], ◌∷◌, Bool, Option, Result, Ok, Err, option_and_then, unwrap_or, codes, if◌then◌else◌}
-use Rattle.virt_types.specs.declared.storage_def.VolDef.{VolDef}
+use Rattle.types_base.specs.declared.storage_def.VolDef.{VolDef}
 use Rattle.text_spec.specs.declared.definition.DefFault.{DefFault}
 use Rattle.text_spec.specs.declared.definition.DefKind.TheVariants as kind
 use Rattle.text_spec.specs.Definition.{not_too_long}
 use Rattle.text_spec.specs.Spelling.{fits}
 use Rattle.text_spec.specs.Table.{fault_of_root, root_fault}
 use Rattle.text_spec.specs.Tree.{Tree}
-use Rattle.tree_words.specs.Called.{first_called, is_called, text_called, value_called}
-use Rattle.tree_words.specs.Spelled.{spelled, worded, worth}
-use Rattle.text_rows.specs.Rows.{needed, optional, then_read}
-use Rattle.text_rows.specs.Values.{name_value, size_tree, size_value}
+use Rattle.xml_tables.specs.Called.{first_called, is_called, text_called, value_called}
+use Rattle.xml_tables.specs.Spelled.{spelled, worded, worth}
+use Rattle.xml_tables.specs.Rows.{needed, optional, then_read}
+use Rattle.xml_tables.specs.Values.{name_value, size_tree, size_value}
 
 -- the type of the first `format` in the first `target`
 unfoldable pub format_in : Tree → Option (List ℕ)

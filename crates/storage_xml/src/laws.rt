@@ -1,7 +1,7 @@
 // What is printed of pools and volumes reads back, and what is read is sound.
 ghost use Rattle.std.specs.Prelude.{◌≡◌, ℕ, List};
-ghost use Rattle.virt_types.specs.declared.storage_def.PoolDef.{PoolDef as ThePool};
-ghost use Rattle.virt_types.specs.declared.storage_def.VolDef.{VolDef as TheVolume};
+ghost use Rattle.types_base.specs.declared.storage_def.PoolDef.{PoolDef as ThePool};
+ghost use Rattle.types_base.specs.declared.storage_def.VolDef.{VolDef as TheVolume};
 ghost use Rattle.text_spec.specs.Fill.{IsUuidFilled};
 ghost use Rattle.text_spec.specs.Written.{written};
 ghost use Rattle.storage_xml.specs.PoolText.{pool_tree};

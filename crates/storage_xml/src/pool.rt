@@ -3,24 +3,25 @@ ghost use Rattle.std.specs.Prelude.{◌≡◌, IfOk, option_map};
 ghost use Rattle.text_spec.specs.Fill.{IsUuidFilled};
 ghost use Rattle.text_spec.specs.Tree.{seen};
 ghost use Rattle.text_spec.specs.Written.{written};
-ghost use Rattle.virt_types.specs.Drawn.{IsMadeOfDrawn};
-ghost use Rattle.virt_types.specs.Memory.{UnlessNoMemory};
-ghost use Rattle.text_rows.specs.Rows.{needed};
+ghost use Rattle.types_base.specs.Drawn.{IsMadeOfDrawn};
+ghost use Rattle.types_base.specs.Memory.{UnlessNoMemory};
+ghost use Rattle.xml_tables.specs.Rows.{needed};
 ghost use Rattle.std.specs.Prelude.{codes};
-ghost use Rattle.tree_words.specs.Called.{value_called as value_in};
+ghost use Rattle.xml_tables.specs.Called.{value_called as value_in};
 ghost use Rattle.storage_xml.specs.PoolText as spec;
 ghost use Rattle.storage_xml.specs.ReadsAs.{IsSoundPool, ReadsAsPool};
 
 use crate::laws::printed_pool_reads_back;
 use crate::pool_tree::{pool_fits, pool_tree};
-use definition_fill::uuid_or_new;
-use element_table::fault_of_root;
 use markup::write_tree;
 use std::alloc::Global;
-use text_rows::{fault_at, needed_name, needed_text, optional_size, optional_uuid};
 use text_spec::{DefFault, DefKind, Tree};
-use tree_words::{first_called, is_called, text_called, value_called};
-use virt_types::{NoMemory, OrNoMemory, PoolDef, PoolType, Random, Text};
+use types_base::{NoMemory, OrNoMemory, PoolDef, PoolType, Random, Text};
+use xml_fill::uuid_or_new;
+use xml_tables::{
+    fault_at_path, fault_of_root, first_called, is_called, needed_name, needed_text, optional_size,
+    optional_uuid, text_called, value_called,
+};
 
 /// The most that a pool's volumes may take together, in bytes.
 const MOST_CAPACITY: u64 = 1 << 60;
@@ -29,12 +30,12 @@ fn type_in(alloc: Global, tree: &Tree) -> Result<PoolType, OrNoMemory<DefFault>>
     ensures { UnlessNoMemory result (needed (codes "/pool") spec.pool_type_value (value_in (codes "type") (seen tree.now))) }
 {
     match value_called("type", tree) {
-        None => Err(fault_at(alloc, "/pool", DefKind::Missing)),
+        None => Err(fault_at_path(alloc, "/pool", DefKind::Missing)),
         Some(word) => {
             if word.as_str() == "dir" {
                 Ok(PoolType::Dir)
             } else {
-                Err(fault_at(alloc, "/pool", DefKind::BadValue))
+                Err(fault_at_path(alloc, "/pool", DefKind::BadValue))
             }
         }
     }

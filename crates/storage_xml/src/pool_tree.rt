@@ -3,12 +3,11 @@ ghost use Rattle.std.specs.Prelude.{◌≡◌, IfOk};
 ghost use Rattle.text_spec.specs.Tree.{seen};
 ghost use Rattle.storage_xml.specs.PoolText as spec;
 
-use definition_print::tree_fits;
 use std::alloc::Global;
-use text_rows::{add_uuid, size_tree};
 use text_spec::{PairList, Tree};
-use tree_words::{add, push_worth, spelled, worded};
-use virt_types::{NoMemory, PoolDef, Uuid};
+use types_base::{NoMemory, PoolDef, Uuid};
+use xml_print::tree_fits;
+use xml_tables::{add, add_uuid, push_worth, size_tree, spelled, worded};
 
 fn target_tree(alloc: Global, path: &str) -> Result<Tree, NoMemory>
     ensures { IfOk result (λ t. seen t ≡ spec.target_tree path.now) }

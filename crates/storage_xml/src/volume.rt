@@ -2,20 +2,21 @@
 ghost use Rattle.std.specs.Prelude.{◌≡◌, IfOk, codes, option_map, unwrap_or};
 ghost use Rattle.text_spec.specs.Tree.{seen};
 ghost use Rattle.text_spec.specs.Written.{written};
-ghost use Rattle.virt_types.specs.Memory.{UnlessNoMemory};
+ghost use Rattle.types_base.specs.Memory.{UnlessNoMemory};
 ghost use Rattle.storage_xml.specs.ReadsAs.{IsSoundVolume, ReadsAsVolume};
 ghost use Rattle.storage_xml.specs.VolumeText as spec;
 
 use crate::laws::printed_volume_reads_back;
 use crate::volume_tree::volume_tree;
-use definition_print::tree_fits;
-use element_table::fault_of_root;
 use markup::write_tree;
 use std::alloc::Global;
-use text_rows::{needed_name, needed_size, optional_size};
 use text_spec::{DefFault, DefKind, Tree};
-use tree_words::{first_called, is_called, text_called, value_called};
-use virt_types::{NoMemory, OrNoMemory, Text, TryCopy, VolDef};
+use types_base::{NoMemory, OrNoMemory, Text, TryCopy, VolDef};
+use xml_print::tree_fits;
+use xml_tables::{
+    fault_of_root, first_called, is_called, needed_name, needed_size, optional_size, text_called,
+    value_called,
+};
 
 #[tactic(auto, unfolding(crate::specs::VolumeText::format_in))]
 fn format_value(tree: &Tree) -> Option<&Text>

@@ -4,10 +4,9 @@ ghost use Rattle.text_spec.specs.Tree.{seen};
 ghost use Rattle.storage_xml.specs.VolumeText as spec;
 
 use std::alloc::Global;
-use text_rows::size_tree;
 use text_spec::{PairList, Tree};
-use tree_words::{add, push_worth, spelled, worded};
-use virt_types::{NoMemory, VolDef};
+use types_base::{NoMemory, VolDef};
+use xml_tables::{add, push_worth, size_tree, spelled, worded};
 
 fn format_tree(alloc: Global, format: &str) -> Result<Tree, NoMemory>
     ensures { IfOk result (λ t. seen t ≡ spec.format_tree format.now) }

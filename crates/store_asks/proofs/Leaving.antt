@@ -15,12 +15,12 @@ use Rattle.virt_types.specs.declared.answer.AnswerValue.TheVariants as given
 use Rattle.virt_types.specs.declared.ask.Ask.{Ask}
 use Rattle.virt_types.specs.declared.ask.Ask.TheVariants as ask
 use Rattle.virt_types.specs.declared.ask.ImageKind.{ImageKind}
-use Rattle.virt_types.specs.declared.domain_def.DomainDef.{DomainDef}
-use Rattle.virt_types.specs.declared.caller.Front.{Front}
-use Rattle.virt_types.specs.declared.memory.Fault.{Fault}
-use Rattle.virt_types.specs.declared.memory.Fault.TheVariants as fault
-use Rattle.virt_types.specs.declared.memory.OrNoMemory.{OrNoMemory}
-use Rattle.virt_types.specs.declared.memory.OrNoMemory.TheVariants as or
+use Rattle.virt_types.specs.Below.types_base.declared.domain_def.DomainDef.{DomainDef}
+use Rattle.virt_types.specs.Below.types_base.declared.caller.Front.{Front}
+use Rattle.virt_types.specs.Below.types_base.declared.memory.Fault.{Fault}
+use Rattle.virt_types.specs.Below.types_base.declared.memory.Fault.TheVariants as fault
+use Rattle.virt_types.specs.Below.types_base.declared.memory.OrNoMemory.{OrNoMemory}
+use Rattle.virt_types.specs.Below.types_base.declared.memory.OrNoMemory.TheVariants as or
 use Rattle.def_keeper.specs.declared.mark.DefKey.{DefKey}
 use Rattle.def_keeper.specs.declared.mark.StoreBase.{StoreBase}
 use Rattle.def_keeper.specs.declared.mark.StoreAction.TheVariants as action

@@ -4,10 +4,10 @@ use Rattle.virt_types.specs.declared.answer.Answer.{Answer}
 use Rattle.virt_types.specs.declared.answer.Answer.TheVariants as answer
 use Rattle.virt_types.specs.declared.answer.AnswerValue.TheVariants as given
 use Rattle.virt_types.specs.declared.ask.Ask.TheVariants as ask
-use Rattle.virt_types.specs.declared.caller.Front.{Front}
-use Rattle.virt_types.specs.declared.domain_def.DomainDef.{DomainDef}
-use Rattle.virt_types.specs.declared.memory.OrNoMemory.{OrNoMemory}
-use Rattle.virt_types.specs.declared.memory.OrNoMemory.TheVariants as or
+use Rattle.virt_types.specs.Below.types_base.declared.caller.Front.{Front}
+use Rattle.virt_types.specs.Below.types_base.declared.domain_def.DomainDef.{DomainDef}
+use Rattle.virt_types.specs.Below.types_base.declared.memory.OrNoMemory.{OrNoMemory}
+use Rattle.virt_types.specs.Below.types_base.declared.memory.OrNoMemory.TheVariants as or
 use Rattle.store_spec.specs.declared.change.Change.{Change}
 use Rattle.store_spec.specs.Changes.{Definitions}
 use Rattle.def_keeper.specs.declared.mark.DefKey.{DefKey}

@@ -4,9 +4,9 @@ use Rattle.virt_types.specs.declared.answer.Answer.{Answer}
 use Rattle.virt_types.specs.declared.answer.Answer.TheVariants as answer
 use Rattle.virt_types.specs.declared.ask.Ask.{Ask}
 use Rattle.virt_types.specs.declared.ask.Ask.TheVariants as ask
-use Rattle.virt_types.specs.declared.caller.Front.{Front}
-use Rattle.virt_types.specs.declared.memory.Fault.{Fault}
-use Rattle.virt_types.specs.declared.memory.OrNoMemory.{OrNoMemory}
+use Rattle.virt_types.specs.Below.types_base.declared.caller.Front.{Front}
+use Rattle.virt_types.specs.Below.types_base.declared.memory.Fault.{Fault}
+use Rattle.virt_types.specs.Below.types_base.declared.memory.OrNoMemory.{OrNoMemory}
 use Rattle.files_disk.specs.Telling.{Told}
 use Rattle.store_spec.specs.declared.change.Change.{Change}
 use Rattle.def_keeper.specs.declared.mark.StoreFault.{StoreFault}

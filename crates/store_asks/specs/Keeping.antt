@@ -1,10 +1,10 @@
 -- What a turn of the keeper does, in the keeper's own words: a change was made, an image was written, or was read.
 use Rattle.std.specs.Prelude.{◌≡◌, ◌≤◌, ℕ, List, IfOk, OnOk, OnErr, IsErrOf, Result, length}
 use Rattle.outside_spec.specs.Faults.{Rose}
-use Rattle.virt_types.specs.declared.caller.Front.{Front}
-use Rattle.virt_types.specs.declared.memory.Fault.{Fault}
-use Rattle.virt_types.specs.declared.memory.Fault.TheVariants as fault
-use Rattle.virt_types.specs.declared.memory.OrNoMemory.{OrNoMemory}
+use Rattle.virt_types.specs.Below.types_base.declared.caller.Front.{Front}
+use Rattle.virt_types.specs.Below.types_base.declared.memory.Fault.{Fault}
+use Rattle.virt_types.specs.Below.types_base.declared.memory.Fault.TheVariants as fault
+use Rattle.virt_types.specs.Below.types_base.declared.memory.OrNoMemory.{OrNoMemory}
 use Rattle.files_disk.specs.Telling.{Told}
 use Rattle.def_keeper.specs.Below.image_store.Storing.{ReadsImage, WritesImage}
 use Rattle.def_keeper.specs.Below.image_store.Storing.{HasDevice as HasImageDevice}

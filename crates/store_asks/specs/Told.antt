@@ -5,8 +5,8 @@ use Rattle.virt_types.specs.declared.answer.Answer.TheVariants as answer
 use Rattle.virt_types.specs.declared.answer.AnswerValue.TheVariants as given
 use Rattle.virt_types.specs.declared.ask.Ask.{Ask}
 use Rattle.virt_types.specs.declared.ask.Ask.TheVariants as ask
-use Rattle.virt_types.specs.declared.caller.Front.{Front}
-use Rattle.virt_types.specs.declared.memory.Failed.{Failed}
+use Rattle.virt_types.specs.Below.types_base.declared.caller.Front.{Front}
+use Rattle.virt_types.specs.Below.types_base.declared.memory.Failed.{Failed}
 use Rattle.store_spec.specs.declared.change.Change.{Change}
 use Rattle.def_keeper.specs.declared.mark.StoreAction.{StoreAction}
 use Rattle.def_keeper.specs.declared.mark.StoreAction.TheVariants as action

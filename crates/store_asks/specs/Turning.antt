@@ -4,12 +4,12 @@ use Rattle.virt_types.specs.declared.answer.Answer.{Answer}
 use Rattle.virt_types.specs.declared.answer.Answer.TheVariants as answer
 use Rattle.virt_types.specs.declared.ask.Ask.{Ask}
 use Rattle.virt_types.specs.declared.ask.Ask.TheVariants as ask
-use Rattle.virt_types.specs.declared.caller.Front.{Front}
-use Rattle.virt_types.specs.declared.memory.OrNoMemory.{OrNoMemory}
-use Rattle.virt_types.specs.declared.memory.OrNoMemory.TheVariants as or
+use Rattle.virt_types.specs.Below.types_base.declared.caller.Front.{Front}
+use Rattle.virt_types.specs.Below.types_base.declared.memory.OrNoMemory.{OrNoMemory}
+use Rattle.virt_types.specs.Below.types_base.declared.memory.OrNoMemory.TheVariants as or
 use Rattle.store_spec.specs.declared.image.Image.{Image}
 use Rattle.store_spec.specs.declared.image.ImageFault.{ImageFault}
-use Rattle.virt_types.specs.declared.refusal.Refusal.{Refusal}
+use Rattle.virt_types.specs.Below.types_base.declared.refusal.Refusal.{Refusal}
 use Rattle.history_spec.specs.Chapter.{tagged}
 use Rattle.files_disk.specs.Telling.{Told}
 use Rattle.turn_cell.specs.Passes.{Passed}

@@ -2,8 +2,8 @@
 use Rattle.std.specs.Prelude.{◌≡◌, List, ℕ, Option, None, Some, Result, Ok, Err}
 use Rattle.files_disk.specs.Telling.{Told}
 use Rattle.store_spec.specs.Directory.{Directory, directory}
-use Rattle.virt_types.specs.declared.memory.Fault.{Fault}
-use Rattle.virt_types.specs.declared.memory.Fault.TheVariants.{Failed, NoMemory}
+use Rattle.types_base.specs.declared.memory.Fault.{Fault}
+use Rattle.types_base.specs.declared.memory.Fault.TheVariants.{Failed, NoMemory}
 use Rattle.def_keeper.specs.declared.report.Report.{Report}
 use Rattle.def_keeper.specs.Examining.{IsExamined}
 use Rattle.store_check.specs.declared.checked.Checked.{Checked}

@@ -1,7 +1,7 @@
 // A store is checked.
 ghost use Rattle.std.specs.Prelude.{◌≡◌, ◌≤◌, IfOk, IsErrOf, OnOk};
 ghost use Rattle.outside_spec.specs.Faults.{Rose};
-ghost use Rattle.virt_types.specs.declared.memory.Fault.TheVariants as fault;
+ghost use Rattle.types_base.specs.declared.memory.Fault.TheVariants as fault;
 ghost use Rattle.def_keeper.specs.Examining.{IsExaminedAt};
 ghost use Rattle.store_check.specs.Adding.{HasSaid, JudgesMore, SaysVerdict};
 ghost use Rattle.store_check.specs.Checking.{HasChecked};
@@ -12,7 +12,7 @@ use crate::lines::{Lines, say};
 use def_keeper::{Finding, Report, examine};
 use files_disk::Files;
 use std::alloc::Global;
-use virt_types::{Fault, NoMemory, Text};
+use types_base::{Fault, NoMemory, Text};
 
 // Says what a file is by its verdict. One that is gone is passed over.
 fn say_verdict(

@@ -2,7 +2,7 @@
 ghost use Rattle.std.specs.Prelude.{◌≡◌};
 ghost use Rattle.store_check.specs.Checking.{status};
 
-use virt_types::{Fault, Text};
+use types_base::{Fault, Text};
 
 /// What a check of a store says.
 #[derive(Debug, Drop)]

@@ -2,7 +2,7 @@
 ghost use Rattle.std.specs.Prelude.{◌≡◌, ◌≤◌, ℕ, List, IfOk, IsErrOf};
 ghost use Rattle.std.specs.Bool.{Decides};
 ghost use Rattle.outside_spec.specs.Faults.{Rose};
-ghost use Rattle.virt_types.specs.declared.memory.Fault.TheVariants as fault;
+ghost use Rattle.types_base.specs.declared.memory.Fault.TheVariants as fault;
 ghost use Rattle.store_check.specs.Adding.{IsOfDefinition, IsOfFinding, IsOfText};
 ghost use Rattle.store_check.specs.Judging.{IsOwnText};
 
@@ -12,7 +12,7 @@ use files_disk::Files;
 use std::alloc::Global;
 use store_reading::read_definition;
 use store_spec::BookKind;
-use virt_types::{Fault, NoMemory, Text, Uuid};
+use types_base::{Fault, NoMemory, Text, Uuid};
 
 /// What a file is once its text is read.
 #[derive(Clone, Copy)]

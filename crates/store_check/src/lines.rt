@@ -10,7 +10,7 @@ use def_keeper::Finding;
 use itoa::Buffer;
 use std::alloc::Global;
 use store_spec::BookKind;
-use virt_types::{Name, NoMemory, Text, TryCopy, Uuid};
+use types_base::{Name, NoMemory, Text, TryCopy, Uuid};
 
 /// What is said so far.
 #[derive(Drop)]

@@ -3,9 +3,9 @@ use Rattle.std.proofs.Common.{◌≡◌, ◌≤◌, ◌<◌, ◌++◌, ◌||◌,
 use Rattle.std.proofs.lemmas.List.{append_cancel_left}
 use Rattle.std.proofs.lemmas.List.Sums.{prefix_len_is}
 use Rattle.virt_types.specs.Limits.{most_text_bytes}
-use Rattle.virt_types.specs.declared.memory.OrNoMemory.{OrNoMemory}
-use Rattle.virt_types.specs.declared.memory.OrNoMemory.TheVariants as or
-use Rattle.virt_types.specs.declared.name.BadName.{BadName}
+use Rattle.virt_types.specs.Below.types_base.declared.memory.OrNoMemory.{OrNoMemory}
+use Rattle.virt_types.specs.Below.types_base.declared.memory.OrNoMemory.TheVariants as or
+use Rattle.virt_types.specs.Below.types_base.declared.name.BadName.{BadName}
 use Rattle.virt_types.specs.Name.{IsName, IsRefused, bad_place, first_forbidden, is_dots, is_forbidden}
 use Rattle.virt_types.proofs.Names.{place_none}
 use Rattle.store_spec.specs.declared.entry.Entry.{Entry}

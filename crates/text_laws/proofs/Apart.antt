@@ -3,11 +3,11 @@ use Rattle.std.proofs.Common.{◌≡◌, ℕ, ◌<◌, List, [], ◌∷◌, ◌+
 use Rattle.std.specs.Prelude.{◌||◌, bytes_eq}
 use Rattle.std.specs.List.{AllByRecursion}
 use Rattle.std.proofs.lemmas.Slice.Eq.{bytes_eq-Decides}
-use Rattle.virt_types.specs.declared.device_def.Interface.{Interface}
-use Rattle.virt_types.specs.declared.mac.Mac.{Mac}
+use Rattle.types_base.specs.declared.device_def.Interface.{Interface}
+use Rattle.types_base.specs.declared.mac.Mac.{Mac}
 use Rattle.text_spec.specs.Fill.{tails, has_mac, is_taken, mac_among, IsMacFilled, AreMacsFilled}
 use Rattle.text_spec.specs.MacText.{mac_of}
-use Rattle.virt_types.specs.Mac.{mac_text}
+use Rattle.types_base.specs.Mac.{mac_text}
 use Rattle.text_spec.specs.Tag.{is_among}
 use Rattle.text_laws.specs.Given.{IsMac, IsMacOf, IsInterface, mac_key, IsApart, with_mac_key, AreInterfacesApart}
 use Rattle.text_laws.proofs.Allowed.{both_all, front_of_all}

@@ -8,8 +8,8 @@ use Rattle.std.proofs.lemmas.Bool.Decides.{nat_tests}
 use Rattle.std.proofs.lemmas.Str.{chars-IsAscii, encode_ascii}
 use Rattle.uuid.specs.Text.{by_index, hex_digit, nibble, hyphenated_text, lower, is_hyphen_place, digit_place}
 use Rattle.uuid.proofs.TextLemmas.{by_index_length, nibble_small}
-use Rattle.virt_types.specs.declared.mac.Mac.{Mac}
-use Rattle.virt_types.specs.Mac.{byte_text, colon, mac_text}
+use Rattle.types_base.specs.declared.mac.Mac.{Mac}
+use Rattle.types_base.specs.Mac.{byte_text, colon, mac_text}
 use Rattle.text_spec.specs.Written.{in_text, in_value}
 use Rattle.text_laws.specs.Given.{AreBytes, IsMac}
 use Rattle.text_laws.proofs.Allowed.{both_all}

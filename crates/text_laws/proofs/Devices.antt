@@ -1,11 +1,11 @@
 -- Devices that were printed are read, by their tables.
 use Rattle.std.proofs.Common.{◌≡◌, List, [], ◌∷◌, true, false, Option, Some, None, Ok, refl}
 use Rattle.std.specs.Prelude.{option_map}
-use Rattle.virt_types.specs.declared.device_def.DeviceDef.{DeviceDef}
-use Rattle.virt_types.specs.declared.device_def.DeviceDef.TheVariants as device
-use Rattle.virt_types.specs.declared.device_def.Disk.{Disk}
-use Rattle.virt_types.specs.declared.device_def.Interface.{Interface}
-use Rattle.virt_types.specs.declared.mac.Mac.{Mac}
+use Rattle.types_base.specs.declared.device_def.DeviceDef.{DeviceDef}
+use Rattle.types_base.specs.declared.device_def.DeviceDef.TheVariants as device
+use Rattle.types_base.specs.declared.device_def.Disk.{Disk}
+use Rattle.types_base.specs.declared.device_def.Interface.{Interface}
+use Rattle.types_base.specs.declared.mac.Mac.{Mac}
 use Rattle.text_spec.specs.declared.row.Content.TheVariants as content
 use Rattle.text_spec.specs.declared.row.Place.TheVariants as place
 use Rattle.text_spec.specs.declared.row.Source.TheVariants as source
@@ -17,7 +17,7 @@ use Rattle.text_spec.specs.DeviceList.{device_in}
 use Rattle.text_spec.specs.DevicePrinted.{target_tree, mac_tree, disk_tree, interface_tree, device_tree}
 use Rattle.text_spec.specs.DeviceText.{disk_rows, interface_rows}
 use Rattle.text_spec.specs.Look.{is_element, first_of}
-use Rattle.virt_types.specs.Mac.{mac_text}
+use Rattle.types_base.specs.Mac.{mac_text}
 use Rattle.text_spec.specs.Table.{rows_fault, wrong_at, optional}
 use Rattle.text_spec.specs.Words.{disk_type_word, disk_device_word, interface_type_word}
 use Rattle.text_laws.proofs.Rows.{clean, none_left, text_row, optional_row, needed_row, absent_row}

@@ -1,14 +1,14 @@
 -- Disks that were printed are read.
 use Rattle.std.proofs.Common.{◌≡◌, [], ◌∷◌, ◌++◌, Option, Some, None, refl, ◌∙◌, ap}
 use Rattle.std.specs.Prelude.{option_map, is_some}
-use Rattle.virt_types.specs.declared.device_def.Disk.{Disk}
-use Rattle.virt_types.specs.declared.device_def.DiskDevice.{DiskDevice}
-use Rattle.virt_types.specs.declared.device_def.DiskDevice.TheVariants as device
-use Rattle.virt_types.specs.declared.device_def.DiskDriver.{DiskDriver}
-use Rattle.virt_types.specs.declared.device_def.DiskSource.{DiskSource}
-use Rattle.virt_types.specs.declared.device_def.DiskTarget.{DiskTarget}
-use Rattle.virt_types.specs.declared.device_def.DiskType.{DiskType}
-use Rattle.virt_types.specs.declared.device_def.DiskType.TheVariants as type
+use Rattle.types_base.specs.declared.device_def.Disk.{Disk}
+use Rattle.types_base.specs.declared.device_def.DiskDevice.{DiskDevice}
+use Rattle.types_base.specs.declared.device_def.DiskDevice.TheVariants as device
+use Rattle.types_base.specs.declared.device_def.DiskDriver.{DiskDriver}
+use Rattle.types_base.specs.declared.device_def.DiskSource.{DiskSource}
+use Rattle.types_base.specs.declared.device_def.DiskTarget.{DiskTarget}
+use Rattle.types_base.specs.declared.device_def.DiskType.{DiskType}
+use Rattle.types_base.specs.declared.device_def.DiskType.TheVariants as type
 use Rattle.text_spec.specs.declared.vocabulary.AttributeName.TheVariants as attribute
 use Rattle.text_spec.specs.declared.vocabulary.ElementName.TheVariants as element
 use Rattle.text_spec.specs.DevicePrinted.{driver_tree, disk_source_tree, target_tree, disk_attributes, disk_children, disk_tree}

@@ -7,14 +7,14 @@ use Rattle.std.specs.Char.{to_ascii_lowercase}
 use Rattle.std.proofs.lemmas.Bool.Decides.{nat_tests}
 use Rattle.std.proofs.lemmas.List.{length-map}
 use Rattle.uuid.specs.Text.{hyphenated_text, lower}
-use Rattle.virt_types.specs.Name.{bad_place}
-use Rattle.virt_types.specs.declared.device_def.Disk.{Disk}
-use Rattle.virt_types.specs.declared.device_def.Interface.{Interface}
-use Rattle.virt_types.specs.declared.domain_def.BootDevice.{BootDevice}
-use Rattle.virt_types.specs.declared.domain_def.DomainDef.{DomainDef}
-use Rattle.virt_types.specs.declared.domain_def.LifecycleAction.{LifecycleAction}
-use Rattle.virt_types.specs.declared.mac.Mac.{Mac}
-use Rattle.virt_types.specs.declared.script.Script.{Script}
+use Rattle.types_base.specs.Name.{bad_place}
+use Rattle.types_base.specs.declared.device_def.Disk.{Disk}
+use Rattle.types_base.specs.declared.device_def.Interface.{Interface}
+use Rattle.types_base.specs.declared.domain_def.BootDevice.{BootDevice}
+use Rattle.types_base.specs.declared.domain_def.DomainDef.{DomainDef}
+use Rattle.types_base.specs.declared.domain_def.LifecycleAction.{LifecycleAction}
+use Rattle.types_base.specs.declared.mac.Mac.{Mac}
+use Rattle.types_base.specs.declared.script.Script.{Script}
 use Rattle.text_spec.specs.declared.device_kind.DeviceKind.TheVariants as of
 use Rattle.text_spec.specs.declared.row.Content.{Content}
 use Rattle.text_spec.specs.declared.row.Content.TheVariants as content
@@ -33,7 +33,7 @@ use Rattle.text_spec.specs.DomainText.{domain_rows, devices_at, domain_fault, do
 use Rattle.text_spec.specs.GuestScript.{entries_of}
 use Rattle.text_spec.specs.Look.{is_element, attribute_of, first_of, element_at, value_in}
 use Rattle.text_spec.specs.Spelling.{worded}
-use Rattle.virt_types.specs.Mac.{mac_text}
+use Rattle.types_base.specs.Mac.{mac_text}
 use Rattle.text_spec.specs.Table.{needed, optional, each, wrong_in_each, wrong_at, rows_fault}
 use Rattle.text_spec.specs.Tree.{Tree}
 use Rattle.text_spec.specs.Words.{domain_type_word, lifecycle_action_word, crash_action_word}

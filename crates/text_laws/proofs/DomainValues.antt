@@ -5,15 +5,15 @@ use Rattle.std.specs.Fmt.{decimal}
 use Rattle.std.specs.List.{filter_map, AllByRecursion}
 use Rattle.std.proofs.lemmas.Bool.Decides.{nat_tests}
 use Rattle.uuid.specs.Text.{parsed}
-use Rattle.virt_types.specs.declared.domain_def.BootDevice.{BootDevice}
-use Rattle.virt_types.specs.declared.domain_def.CharacterDevice.{CharacterDevice}
-use Rattle.virt_types.specs.declared.domain_def.DomainDef.{DomainDef}
-use Rattle.virt_types.specs.declared.domain_def.Graphics.{Graphics}
-use Rattle.virt_types.specs.declared.domain_def.LifecycleAction.{LifecycleAction}
-use Rattle.virt_types.specs.declared.domain_def.LifecycleAction.TheVariants as action
-use Rattle.virt_types.specs.declared.domain_def.Memballoon.{Memballoon}
-use Rattle.virt_types.specs.declared.domain_def.Os.{Os}
-use Rattle.virt_types.specs.declared.script.Script.{Script}
+use Rattle.types_base.specs.declared.domain_def.BootDevice.{BootDevice}
+use Rattle.types_base.specs.declared.domain_def.CharacterDevice.{CharacterDevice}
+use Rattle.types_base.specs.declared.domain_def.DomainDef.{DomainDef}
+use Rattle.types_base.specs.declared.domain_def.Graphics.{Graphics}
+use Rattle.types_base.specs.declared.domain_def.LifecycleAction.{LifecycleAction}
+use Rattle.types_base.specs.declared.domain_def.LifecycleAction.TheVariants as action
+use Rattle.types_base.specs.declared.domain_def.Memballoon.{Memballoon}
+use Rattle.types_base.specs.declared.domain_def.Os.{Os}
+use Rattle.types_base.specs.declared.script.Script.{Script}
 use Rattle.text_spec.specs.declared.row.Source.TheVariants as source
 use Rattle.text_spec.specs.declared.vocabulary.AttributeName.TheVariants as attribute
 use Rattle.text_spec.specs.declared.vocabulary.ElementName.{ElementName}

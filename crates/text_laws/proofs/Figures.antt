@@ -11,14 +11,14 @@ use Rattle.std.proofs.lemmas.Fmt.{decimal_is_IsNumeral, length-decimal-le}
 use Rattle.std.proofs.lemmas.List.Elements.{All-from_recursion}
 use Rattle.uuid.specs.Text.{parsed, hyphenated_text, lower}
 use Rattle.uuid.proofs.RoundTrips.{parses_hyphenated}
-use Rattle.virt_types.specs.declared.domain_def.BootDevice.{BootDevice}
-use Rattle.virt_types.specs.declared.domain_def.BootDevice.TheVariants as boot
-use Rattle.virt_types.specs.declared.domain_def.CrashAction.{CrashAction}
-use Rattle.virt_types.specs.declared.domain_def.CrashAction.TheVariants as crash
-use Rattle.virt_types.specs.declared.domain_def.DomainType.{DomainType}
-use Rattle.virt_types.specs.declared.domain_def.DomainType.TheVariants as domain
-use Rattle.virt_types.specs.declared.domain_def.LifecycleAction.{LifecycleAction}
-use Rattle.virt_types.specs.declared.domain_def.LifecycleAction.TheVariants as action
+use Rattle.types_base.specs.declared.domain_def.BootDevice.{BootDevice}
+use Rattle.types_base.specs.declared.domain_def.BootDevice.TheVariants as boot
+use Rattle.types_base.specs.declared.domain_def.CrashAction.{CrashAction}
+use Rattle.types_base.specs.declared.domain_def.CrashAction.TheVariants as crash
+use Rattle.types_base.specs.declared.domain_def.DomainType.{DomainType}
+use Rattle.types_base.specs.declared.domain_def.DomainType.TheVariants as domain
+use Rattle.types_base.specs.declared.domain_def.LifecycleAction.{LifecycleAction}
+use Rattle.types_base.specs.declared.domain_def.LifecycleAction.TheVariants as action
 use Rattle.text_spec.specs.GuestScript.{number_within}
 use Rattle.text_spec.specs.Units.{is_number, number_of, unit_of, base_of, power_of, size_of, kibibytes_of}
 use Rattle.text_spec.specs.Words.{domain_type_word, domain_type_of, boot_device_word, boot_device_of, lifecycle_action_word, lifecycle_action_of, crash_action_word, crash_action_of}

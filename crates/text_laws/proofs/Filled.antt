@@ -3,11 +3,11 @@ use Rattle.std.proofs.Common.{◌≡◌, ℕ, zero, suc, ◌+◌, ◌%◌, ◌<�
 use Rattle.std.specs.Prelude.{map, codes, chars, unwrap_or, if◌then◌else◌}
 use Rattle.std.specs.List.{flat_map}
 use Rattle.uuid.specs.Text.{hyphenated_text, lower}
-use Rattle.virt_types.specs.declared.device_def.DeviceDef.{DeviceDef}
-use Rattle.virt_types.specs.declared.device_def.DeviceDef.TheVariants as device
-use Rattle.virt_types.specs.declared.device_def.Interface.{Interface}
-use Rattle.virt_types.specs.declared.domain_def.DomainDef.{DomainDef}
-use Rattle.virt_types.specs.declared.mac.Mac.{Mac}
+use Rattle.types_base.specs.declared.device_def.DeviceDef.{DeviceDef}
+use Rattle.types_base.specs.declared.device_def.DeviceDef.TheVariants as device
+use Rattle.types_base.specs.declared.device_def.Interface.{Interface}
+use Rattle.types_base.specs.declared.domain_def.DomainDef.{DomainDef}
+use Rattle.types_base.specs.declared.mac.Mac.{Mac}
 use Rattle.text_spec.specs.declared.vocabulary.AttributeName.TheVariants as attribute
 use Rattle.text_spec.specs.declared.vocabulary.ElementName.{ElementName}
 use Rattle.text_spec.specs.declared.vocabulary.ElementName.TheVariants as element
@@ -15,7 +15,7 @@ use Rattle.text_spec.specs.DevicePrinted.{any_mac, with_mac, mac_tree, interface
 use Rattle.text_spec.specs.DomainPrinted.{any_uuid, uuid_tree, script_trees, other_device_trees, device_trees, gathered, front_trees, middle_trees, domain_children, domain_tree, stood_in, domain_fits}
 use Rattle.text_spec.specs.Fill.{tails, local_mac, is_taken, next_tail, raised, mac_among, with_own, IsUuidFilled, IsMacFilled, AreMacsFilled, IsFilled, IsAloneFilled, IsDeviceFilled}
 use Rattle.text_spec.specs.Spelling.{pair, worded, present, fits}
-use Rattle.virt_types.specs.Mac.{mac_text}
+use Rattle.types_base.specs.Mac.{mac_text}
 use Rattle.text_spec.specs.Tree.{Tree}
 use Rattle.text_spec.specs.Vocabulary.{attribute_word}
 use Rattle.text_spec.specs.Words.{interface_type_word, domain_type_word}

@@ -1,12 +1,12 @@
 -- Interfaces that were printed are read.
 use Rattle.std.proofs.Common.{◌≡◌, [], ◌∷◌, ◌++◌, Option, Some, None, refl, ◌∙◌, ap}
 use Rattle.std.specs.Prelude.{option_map, option_and_then}
-use Rattle.virt_types.specs.declared.device_def.Interface.{Interface}
-use Rattle.virt_types.specs.declared.device_def.InterfaceModel.{InterfaceModel}
-use Rattle.virt_types.specs.declared.device_def.InterfaceSource.{InterfaceSource}
-use Rattle.virt_types.specs.declared.device_def.InterfaceType.{InterfaceType}
-use Rattle.virt_types.specs.declared.device_def.InterfaceType.TheVariants as type
-use Rattle.virt_types.specs.declared.mac.Mac.{Mac}
+use Rattle.types_base.specs.declared.device_def.Interface.{Interface}
+use Rattle.types_base.specs.declared.device_def.InterfaceModel.{InterfaceModel}
+use Rattle.types_base.specs.declared.device_def.InterfaceSource.{InterfaceSource}
+use Rattle.types_base.specs.declared.device_def.InterfaceType.{InterfaceType}
+use Rattle.types_base.specs.declared.device_def.InterfaceType.TheVariants as type
+use Rattle.types_base.specs.declared.mac.Mac.{Mac}
 use Rattle.text_spec.specs.declared.vocabulary.AttributeName.TheVariants as attribute
 use Rattle.text_spec.specs.declared.vocabulary.ElementName.TheVariants as element
 use Rattle.text_spec.specs.DevicePrinted.{mac_tree, interface_source_tree, interface_model_tree, interface_children, interface_tree}
@@ -14,7 +14,7 @@ use Rattle.text_spec.specs.DeviceText.{interface_source_of, interface_model_of, 
 use Rattle.text_spec.specs.Look.{is_element, is_attribute, attribute_of, first_of}
 use Rattle.text_spec.specs.MacText.{mac_of}
 use Rattle.text_spec.specs.Spelling.{pair, pairs, present}
-use Rattle.virt_types.specs.Mac.{mac_text}
+use Rattle.types_base.specs.Mac.{mac_text}
 use Rattle.text_spec.specs.Tree.{Tree}
 use Rattle.text_spec.specs.Words.{interface_type_word, interface_type_of}
 use Rattle.text_laws.proofs.Lookups.{here, past, alone, other, first_in, found, passed, found_last, passed_last}

@@ -5,43 +5,43 @@ use Rattle.std.specs.Fmt.{decimal}
 use Rattle.std.specs.List.{AllByRecursion}
 use Rattle.std.specs.Str.{chars}
 use Rattle.uuid.specs.Text.{hyphenated_text, lower}
-use Rattle.virt_types.specs.declared.device_def.DeviceDef.{DeviceDef}
-use Rattle.virt_types.specs.declared.device_def.DeviceDef.TheVariants as device
-use Rattle.virt_types.specs.declared.device_def.Disk.{Disk}
-use Rattle.virt_types.specs.declared.device_def.DiskDevice.{DiskDevice}
-use Rattle.virt_types.specs.declared.device_def.DiskDevice.TheVariants as disk_device
-use Rattle.virt_types.specs.declared.device_def.DiskDriver.{DiskDriver}
-use Rattle.virt_types.specs.declared.device_def.DiskSource.{DiskSource}
-use Rattle.virt_types.specs.declared.device_def.DiskTarget.{DiskTarget}
-use Rattle.virt_types.specs.declared.device_def.DiskType.{DiskType}
-use Rattle.virt_types.specs.declared.device_def.DiskType.TheVariants as disk_type
-use Rattle.virt_types.specs.declared.device_def.Interface.{Interface}
-use Rattle.virt_types.specs.declared.device_def.InterfaceModel.{InterfaceModel}
-use Rattle.virt_types.specs.declared.device_def.InterfaceSource.{InterfaceSource}
-use Rattle.virt_types.specs.declared.device_def.InterfaceType.{InterfaceType}
-use Rattle.virt_types.specs.declared.device_def.InterfaceType.TheVariants as interface_type
-use Rattle.virt_types.specs.declared.domain_def.BootDevice.{BootDevice}
-use Rattle.virt_types.specs.declared.domain_def.BootDevice.TheVariants as boot
-use Rattle.virt_types.specs.declared.domain_def.CharacterDevice.{CharacterDevice}
-use Rattle.virt_types.specs.declared.domain_def.CrashAction.{CrashAction}
-use Rattle.virt_types.specs.declared.domain_def.CrashAction.TheVariants as crash
-use Rattle.virt_types.specs.declared.domain_def.DomainDef.{DomainDef}
-use Rattle.virt_types.specs.declared.domain_def.DomainType.{DomainType}
-use Rattle.virt_types.specs.declared.domain_def.DomainType.TheVariants as domain_type
-use Rattle.virt_types.specs.declared.domain_def.Graphics.{Graphics}
-use Rattle.virt_types.specs.declared.domain_def.LifecycleAction.{LifecycleAction}
-use Rattle.virt_types.specs.declared.domain_def.LifecycleAction.TheVariants as action
-use Rattle.virt_types.specs.declared.domain_def.Memballoon.{Memballoon}
-use Rattle.virt_types.specs.declared.domain_def.Os.{Os}
-use Rattle.virt_types.specs.declared.mac.Mac.{Mac}
-use Rattle.virt_types.specs.declared.script.Script.{Script}
+use Rattle.types_base.specs.declared.device_def.DeviceDef.{DeviceDef}
+use Rattle.types_base.specs.declared.device_def.DeviceDef.TheVariants as device
+use Rattle.types_base.specs.declared.device_def.Disk.{Disk}
+use Rattle.types_base.specs.declared.device_def.DiskDevice.{DiskDevice}
+use Rattle.types_base.specs.declared.device_def.DiskDevice.TheVariants as disk_device
+use Rattle.types_base.specs.declared.device_def.DiskDriver.{DiskDriver}
+use Rattle.types_base.specs.declared.device_def.DiskSource.{DiskSource}
+use Rattle.types_base.specs.declared.device_def.DiskTarget.{DiskTarget}
+use Rattle.types_base.specs.declared.device_def.DiskType.{DiskType}
+use Rattle.types_base.specs.declared.device_def.DiskType.TheVariants as disk_type
+use Rattle.types_base.specs.declared.device_def.Interface.{Interface}
+use Rattle.types_base.specs.declared.device_def.InterfaceModel.{InterfaceModel}
+use Rattle.types_base.specs.declared.device_def.InterfaceSource.{InterfaceSource}
+use Rattle.types_base.specs.declared.device_def.InterfaceType.{InterfaceType}
+use Rattle.types_base.specs.declared.device_def.InterfaceType.TheVariants as interface_type
+use Rattle.types_base.specs.declared.domain_def.BootDevice.{BootDevice}
+use Rattle.types_base.specs.declared.domain_def.BootDevice.TheVariants as boot
+use Rattle.types_base.specs.declared.domain_def.CharacterDevice.{CharacterDevice}
+use Rattle.types_base.specs.declared.domain_def.CrashAction.{CrashAction}
+use Rattle.types_base.specs.declared.domain_def.CrashAction.TheVariants as crash
+use Rattle.types_base.specs.declared.domain_def.DomainDef.{DomainDef}
+use Rattle.types_base.specs.declared.domain_def.DomainType.{DomainType}
+use Rattle.types_base.specs.declared.domain_def.DomainType.TheVariants as domain_type
+use Rattle.types_base.specs.declared.domain_def.Graphics.{Graphics}
+use Rattle.types_base.specs.declared.domain_def.LifecycleAction.{LifecycleAction}
+use Rattle.types_base.specs.declared.domain_def.LifecycleAction.TheVariants as action
+use Rattle.types_base.specs.declared.domain_def.Memballoon.{Memballoon}
+use Rattle.types_base.specs.declared.domain_def.Os.{Os}
+use Rattle.types_base.specs.declared.mac.Mac.{Mac}
+use Rattle.types_base.specs.declared.script.Script.{Script}
 use Rattle.text_spec.specs.declared.vocabulary.AttributeName.TheVariants as attribute
 use Rattle.text_spec.specs.declared.vocabulary.ElementName.{ElementName}
 use Rattle.text_spec.specs.declared.vocabulary.ElementName.TheVariants as element
 use Rattle.text_spec.specs.DevicePrinted.{driver_tree, disk_source_tree, target_tree, disk_attributes, disk_children, disk_tree, mac_tree, interface_source_tree, interface_model_tree, interface_children, interface_tree, device_tree}
 use Rattle.text_spec.specs.DomainPrinted.{uuid_tree, script_tree, script_trees, memory_tree, current_attribute, vcpu_tree, boot_tree, os_type_tree, os_tree, character_tree, graphics_tree, memballoon_tree, device_trees, gathered, front_trees, middle_trees, domain_children, domain_tree}
 use Rattle.text_spec.specs.Spelling.{pair, pairs, worded, present, flagged}
-use Rattle.virt_types.specs.Mac.{mac_text}
+use Rattle.types_base.specs.Mac.{mac_text}
 use Rattle.text_spec.specs.Tree.{Tree}
 use Rattle.text_spec.specs.Words.{domain_type_word, boot_device_word, lifecycle_action_word, crash_action_word, disk_type_word, disk_device_word, interface_type_word}
 use Rattle.text_spec.specs.Writable.{AreAttributes, IsText, IsTree}

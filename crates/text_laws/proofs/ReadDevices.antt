@@ -3,7 +3,7 @@ use Rattle.std.proofs.Common.{◌≡◌, ℕ, List, [], ◌∷◌, length, Bool,
 use Rattle.std.specs.Prelude.{◌==◌, not, map, option_map, option_and_then, unwrap_or, if◌then◌else◌}
 use Rattle.std.specs.Char.{to_ascii_lowercase}
 use Rattle.std.specs.List.{AllByRecursion}
-use Rattle.virt_types.specs.declared.mac.Mac.{Mac}
+use Rattle.types_base.specs.declared.mac.Mac.{Mac}
 use Rattle.text_spec.specs.declared.definition.DefFault.{DefFault}
 use Rattle.text_spec.specs.declared.device_kind.DeviceKind.TheVariants as of
 use Rattle.text_spec.specs.declared.row.Content.TheVariants as content

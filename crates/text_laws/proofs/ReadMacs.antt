@@ -5,9 +5,9 @@ use Rattle.std.specs.Char.{digit_char, to_ascii_lowercase}
 use Rattle.std.specs.List.{join_with_byte}
 use Rattle.std.proofs.lemmas.Bool.Decides.{nat_tests}
 use Rattle.std.proofs.lemmas.List.{drop_more, drop_all}
-use Rattle.virt_types.specs.declared.mac.Mac.{Mac}
+use Rattle.types_base.specs.declared.mac.Mac.{Mac}
 use Rattle.text_spec.specs.MacText.{hex_value, byte_at, is_colon_at, has_colons, mac_with, six_bytes, mac_of}
-use Rattle.virt_types.specs.Mac.{colon, byte_text, mac_text}
+use Rattle.types_base.specs.Mac.{colon, byte_text, mac_text}
 use Rattle.text_laws.specs.Given.{AreBytes, IsMac, mac_key}
 use Rattle.text_laws.specs.Texts.{Of}
 use Rattle.text_laws.proofs.Parts.{both_of}

@@ -2,8 +2,8 @@
 use Rattle.std.proofs.Common.{◌≡◌, length, true, Ok, arith}
 use Rattle.std.specs.Prelude.{nat_le}
 use Rattle.std.proofs.lemmas.Bool.Decides.{nat_tests}
-use Rattle.virt_types.specs.declared.device_def.DeviceDef.{DeviceDef}
-use Rattle.virt_types.specs.declared.domain_def.DomainDef.{DomainDef}
+use Rattle.types_base.specs.declared.device_def.DeviceDef.{DeviceDef}
+use Rattle.types_base.specs.declared.domain_def.DomainDef.{DomainDef}
 use Rattle.text_spec.specs.DevicePrinted.{device_tree}
 use Rattle.text_spec.specs.DomainPrinted.{domain_tree}
 use Rattle.text_spec.specs.Spelling.{fits}

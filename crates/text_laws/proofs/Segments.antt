@@ -3,7 +3,7 @@ use Rattle.std.proofs.Common.{◌≡◌, ℕ, List, [], ◌∷◌, ◌++◌, Boo
 use Rattle.std.specs.Prelude.{filter, map, option_map}
 use Rattle.std.specs.List.{AllByRecursion}
 use Rattle.std.proofs.lemmas.List.Elements.{filter-append}
-use Rattle.virt_types.specs.declared.domain_def.DomainDef.{DomainDef}
+use Rattle.types_base.specs.declared.domain_def.DomainDef.{DomainDef}
 use Rattle.text_spec.specs.declared.vocabulary.ElementName.{ElementName}
 use Rattle.text_spec.specs.declared.vocabulary.ElementName.TheVariants as element
 use Rattle.text_spec.specs.DevicePrinted.{disk_tree, interface_tree}

@@ -2,16 +2,16 @@
 use Rattle.std.specs.Prelude.{◌≡◌, ℕ, ◌+◌, ◌^◌, ◌<◌, ◌≤◌, List, [], ◌∷◌, length, map, chars, IsUtf8, false, Option, Some, None, ◌==◌}
 use Rattle.std.specs.List.{AllByRecursion}
 use Rattle.std.specs.Char.{to_ascii_lowercase}
-use Rattle.virt_types.specs.Name.{bad_place}
-use Rattle.virt_types.specs.declared.device_def.DeviceDef.{DeviceDef}
-use Rattle.virt_types.specs.declared.device_def.DeviceDef.TheVariants as device
-use Rattle.virt_types.specs.declared.device_def.Disk.{Disk}
-use Rattle.virt_types.specs.declared.device_def.Interface.{Interface}
-use Rattle.virt_types.specs.declared.domain_def.DomainDef.{DomainDef}
-use Rattle.virt_types.specs.declared.mac.Mac.{Mac}
+use Rattle.types_base.specs.Name.{bad_place}
+use Rattle.types_base.specs.declared.device_def.DeviceDef.{DeviceDef}
+use Rattle.types_base.specs.declared.device_def.DeviceDef.TheVariants as device
+use Rattle.types_base.specs.declared.device_def.Disk.{Disk}
+use Rattle.types_base.specs.declared.device_def.Interface.{Interface}
+use Rattle.types_base.specs.declared.domain_def.DomainDef.{DomainDef}
+use Rattle.types_base.specs.declared.mac.Mac.{Mac}
 use Rattle.text_spec.specs.DomainText.{most_devices}
 use Rattle.text_spec.specs.GuestScript.{entries_of}
-use Rattle.virt_types.specs.Mac.{mac_text}
+use Rattle.types_base.specs.Mac.{mac_text}
 use Rattle.text_spec.specs.Tag.{is_among}
 use Rattle.text_spec.specs.Writable.{AreChars}
 

@@ -1,7 +1,7 @@
 -- The definition that a whole text reads as, and the definitions that reading can give.
 use Rattle.std.specs.Prelude.{◌≡◌, ℕ, List, true, Ok}
-use Rattle.virt_types.specs.declared.device_def.DeviceDef.{DeviceDef}
-use Rattle.virt_types.specs.declared.domain_def.DomainDef.{DomainDef}
+use Rattle.types_base.specs.declared.device_def.DeviceDef.{DeviceDef}
+use Rattle.types_base.specs.declared.domain_def.DomainDef.{DomainDef}
 use Rattle.text_spec.specs.Definition.{device_read, domain_read}
 use Rattle.text_spec.specs.DevicePrinted.{device_fits}
 use Rattle.text_spec.specs.DomainPrinted.{domain_fits}

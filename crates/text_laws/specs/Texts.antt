@@ -2,18 +2,18 @@
 -- an end where they are between tags.
 use Rattle.std.specs.Prelude.{Option, Some, None}
 use Rattle.std.specs.List.{AllByRecursion}
-use Rattle.virt_types.specs.declared.device_def.DeviceDef.{DeviceDef}
-use Rattle.virt_types.specs.declared.device_def.DeviceDef.TheVariants as device
-use Rattle.virt_types.specs.declared.device_def.Disk.{Disk}
-use Rattle.virt_types.specs.declared.device_def.DiskDriver.{DiskDriver}
-use Rattle.virt_types.specs.declared.device_def.DiskSource.{DiskSource}
-use Rattle.virt_types.specs.declared.device_def.Interface.{Interface}
-use Rattle.virt_types.specs.declared.device_def.InterfaceModel.{InterfaceModel}
-use Rattle.virt_types.specs.declared.device_def.InterfaceSource.{InterfaceSource}
-use Rattle.virt_types.specs.declared.domain_def.CharacterDevice.{CharacterDevice}
-use Rattle.virt_types.specs.declared.domain_def.DomainDef.{DomainDef}
-use Rattle.virt_types.specs.declared.domain_def.Graphics.{Graphics}
-use Rattle.virt_types.specs.declared.domain_def.Memballoon.{Memballoon}
+use Rattle.types_base.specs.declared.device_def.DeviceDef.{DeviceDef}
+use Rattle.types_base.specs.declared.device_def.DeviceDef.TheVariants as device
+use Rattle.types_base.specs.declared.device_def.Disk.{Disk}
+use Rattle.types_base.specs.declared.device_def.DiskDriver.{DiskDriver}
+use Rattle.types_base.specs.declared.device_def.DiskSource.{DiskSource}
+use Rattle.types_base.specs.declared.device_def.Interface.{Interface}
+use Rattle.types_base.specs.declared.device_def.InterfaceModel.{InterfaceModel}
+use Rattle.types_base.specs.declared.device_def.InterfaceSource.{InterfaceSource}
+use Rattle.types_base.specs.declared.domain_def.CharacterDevice.{CharacterDevice}
+use Rattle.types_base.specs.declared.domain_def.DomainDef.{DomainDef}
+use Rattle.types_base.specs.declared.domain_def.Graphics.{Graphics}
+use Rattle.types_base.specs.declared.domain_def.Memballoon.{Memballoon}
 use Rattle.text_spec.specs.Writable.{IsText}
 use Rattle.text_laws.specs.Given.{IsValue}
 

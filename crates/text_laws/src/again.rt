@@ -1,6 +1,6 @@
 // What is printed reads back, as a text.
-ghost use Rattle.virt_types.specs.declared.device_def.DeviceDef.{DeviceDef};
-ghost use Rattle.virt_types.specs.declared.domain_def.DomainDef.{DomainDef};
+ghost use Rattle.types_base.specs.declared.device_def.DeviceDef.{DeviceDef};
+ghost use Rattle.types_base.specs.declared.domain_def.DomainDef.{DomainDef};
 ghost use Rattle.text_spec.specs.DevicePrinted.{device_tree};
 ghost use Rattle.text_spec.specs.DomainPrinted.{domain_tree};
 ghost use Rattle.text_spec.specs.Written.{written};

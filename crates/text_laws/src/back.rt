@@ -1,7 +1,7 @@
 // What is printed is read as what was printed.
 ghost use Rattle.std.specs.Prelude.{◌≡◌, Ok};
-ghost use Rattle.virt_types.specs.declared.device_def.DeviceDef.{DeviceDef};
-ghost use Rattle.virt_types.specs.declared.domain_def.DomainDef.{DomainDef};
+ghost use Rattle.types_base.specs.declared.device_def.DeviceDef.{DeviceDef};
+ghost use Rattle.types_base.specs.declared.domain_def.DomainDef.{DomainDef};
 ghost use Rattle.text_spec.specs.DeviceList.{device_in};
 ghost use Rattle.text_spec.specs.DevicePrinted.{device_tree};
 ghost use Rattle.text_spec.specs.DomainPrinted.{domain_tree};

@@ -1,7 +1,7 @@
 // What a definition is filled in to has a text within the limits of a text.
 ghost use Rattle.std.specs.Prelude.{◌≡◌, true};
-ghost use Rattle.virt_types.specs.declared.device_def.DeviceDef.{DeviceDef};
-ghost use Rattle.virt_types.specs.declared.domain_def.DomainDef.{DomainDef};
+ghost use Rattle.types_base.specs.declared.device_def.DeviceDef.{DeviceDef};
+ghost use Rattle.types_base.specs.declared.domain_def.DomainDef.{DomainDef};
 ghost use Rattle.text_spec.specs.DevicePrinted.{device_tree, device_fits};
 ghost use Rattle.text_spec.specs.DomainPrinted.{domain_tree, domain_fits};
 ghost use Rattle.text_spec.specs.Fill.{IsFilled, IsDeviceFilled};

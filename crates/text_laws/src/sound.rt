@@ -1,7 +1,7 @@
 // What is read is sound, and stays so once it is filled in.
 ghost use Rattle.std.specs.Prelude.{ℕ, List};
-ghost use Rattle.virt_types.specs.declared.device_def.DeviceDef.{DeviceDef};
-ghost use Rattle.virt_types.specs.declared.domain_def.DomainDef.{DomainDef};
+ghost use Rattle.types_base.specs.declared.device_def.DeviceDef.{DeviceDef};
+ghost use Rattle.types_base.specs.declared.domain_def.DomainDef.{DomainDef};
 ghost use Rattle.text_spec.specs.Fill.{IsFilled, IsDeviceFilled};
 ghost use Rattle.text_laws.specs.ReadsAs.{ReadsAsDomain, ReadsAsDevice, IsSound, IsSoundDevice};
 

@@ -1,7 +1,7 @@
 -- What a value may be, and in what way one that may not be is at fault.
 use Rattle.std.specs.Prelude.{ℕ, List, length, Bool, not, is_some, is_none, ◌==◌, nat_le, ◌&&◌, Option, Some, None, Result, Ok, Err, unwrap_or, if◌then◌else◌}
 use Rattle.uuid.specs.Text.{parsed}
-use Rattle.virt_types.specs.Name.{bad_place}
+use Rattle.types_base.specs.Name.{bad_place}
 use Rattle.text_spec.specs.declared.definition.DefKind.{DefKind}
 use Rattle.text_spec.specs.declared.definition.DefKind.TheVariants as kind
 use Rattle.text_spec.specs.declared.limits.TheConstants.{MOST_VCPUS}

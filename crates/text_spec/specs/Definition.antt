@@ -1,8 +1,8 @@
 -- The definition that a tree is: by the tables, and where its own text, once it is filled in, is
 -- within the limits of a text.
 use Rattle.std.specs.Prelude.{Bool, Result, Ok, Err, if◌then◌else◌}
-use Rattle.virt_types.specs.declared.device_def.DeviceDef.{DeviceDef}
-use Rattle.virt_types.specs.declared.domain_def.DomainDef.{DomainDef}
+use Rattle.types_base.specs.declared.device_def.DeviceDef.{DeviceDef}
+use Rattle.types_base.specs.declared.domain_def.DomainDef.{DomainDef}
 use Rattle.text_spec.specs.declared.definition.DefFault.{DefFault}
 use Rattle.text_spec.specs.declared.definition.DefKind.TheVariants as kind
 use Rattle.text_spec.specs.DeviceList.{device_in}

@@ -2,8 +2,8 @@
 use Rattle.std.specs.Prelude.{ℕ, List, [], ◌∷◌, ◌++◌, Option, Some, None, Result, Err, map, option_map, if◌then◌else◌}
 use Rattle.std.specs.Char.{to_ascii_lowercase}
 use Rattle.std.specs.Option.{option_or}
-use Rattle.virt_types.specs.declared.device_def.DeviceDef.{DeviceDef}
-use Rattle.virt_types.specs.declared.device_def.DeviceDef.TheVariants as device
+use Rattle.types_base.specs.declared.device_def.DeviceDef.{DeviceDef}
+use Rattle.types_base.specs.declared.device_def.DeviceDef.TheVariants as device
 use Rattle.text_spec.specs.declared.definition.DefFault.{DefFault}
 use Rattle.text_spec.specs.declared.definition.DefKind.TheVariants as kind
 use Rattle.text_spec.specs.declared.device_kind.DeviceKind.{DeviceKind}

@@ -1,21 +1,21 @@
 -- The trees that disks and interfaces stand for: attributes and elements in the order of their
 -- tables, each value that has a default with it.
 use Rattle.std.specs.Prelude.{ℕ, List, [], ◌∷◌, ◌++◌, length, Bool, Some, unwrap_or}
-use Rattle.virt_types.specs.declared.device_def.DeviceDef.{DeviceDef}
-use Rattle.virt_types.specs.declared.device_def.DeviceDef.TheVariants as device
-use Rattle.virt_types.specs.declared.device_def.Disk.{Disk}
-use Rattle.virt_types.specs.declared.device_def.DiskDriver.{DiskDriver}
-use Rattle.virt_types.specs.declared.device_def.DiskSource.{DiskSource}
-use Rattle.virt_types.specs.declared.device_def.DiskTarget.{DiskTarget}
-use Rattle.virt_types.specs.declared.device_def.Interface.{Interface}
-use Rattle.virt_types.specs.declared.device_def.InterfaceModel.{InterfaceModel}
-use Rattle.virt_types.specs.declared.device_def.InterfaceSource.{InterfaceSource}
-use Rattle.virt_types.specs.declared.mac.Mac.{Mac}
+use Rattle.types_base.specs.declared.device_def.DeviceDef.{DeviceDef}
+use Rattle.types_base.specs.declared.device_def.DeviceDef.TheVariants as device
+use Rattle.types_base.specs.declared.device_def.Disk.{Disk}
+use Rattle.types_base.specs.declared.device_def.DiskDriver.{DiskDriver}
+use Rattle.types_base.specs.declared.device_def.DiskSource.{DiskSource}
+use Rattle.types_base.specs.declared.device_def.DiskTarget.{DiskTarget}
+use Rattle.types_base.specs.declared.device_def.Interface.{Interface}
+use Rattle.types_base.specs.declared.device_def.InterfaceModel.{InterfaceModel}
+use Rattle.types_base.specs.declared.device_def.InterfaceSource.{InterfaceSource}
+use Rattle.types_base.specs.declared.mac.Mac.{Mac}
 use Rattle.text_spec.specs.declared.pair.Pair.{Pair}
 use Rattle.text_spec.specs.declared.vocabulary.AttributeName.TheVariants as attribute
 use Rattle.text_spec.specs.declared.vocabulary.ElementName.TheVariants as element
 use Rattle.text_spec.specs.Spelling.{pair, pairs, tagged, holding, present, flagged, fits}
-use Rattle.virt_types.specs.Mac.{mac_text}
+use Rattle.types_base.specs.Mac.{mac_text}
 use Rattle.text_spec.specs.Tree.{Tree}
 use Rattle.text_spec.specs.Words.{disk_type_word, disk_device_word, interface_type_word}
 use Rattle.text_spec.specs.Written.{written}

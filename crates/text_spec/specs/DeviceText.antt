@@ -1,17 +1,17 @@
 -- The tables of disks and interfaces of libvirt's domain format ("Hard drives, floppy disks,
 -- CDROMs", "Network interfaces"), and the devices that elements stand for.
 use Rattle.std.specs.Prelude.{ℕ, List, [], ◌∷◌, is_some, Option, unwrap_or, option_and_then, option_map}
-use Rattle.virt_types.specs.declared.device_def.Disk.{Disk}
-use Rattle.virt_types.specs.declared.device_def.DiskDevice.TheVariants as disk_device
-use Rattle.virt_types.specs.declared.device_def.DiskDriver.{DiskDriver}
-use Rattle.virt_types.specs.declared.device_def.DiskSource.{DiskSource}
-use Rattle.virt_types.specs.declared.device_def.DiskTarget.{DiskTarget}
-use Rattle.virt_types.specs.declared.device_def.DiskType.TheVariants as disk_type
-use Rattle.virt_types.specs.declared.device_def.Interface.{Interface}
-use Rattle.virt_types.specs.declared.device_def.InterfaceModel.{InterfaceModel}
-use Rattle.virt_types.specs.declared.device_def.InterfaceSource.{InterfaceSource}
-use Rattle.virt_types.specs.declared.device_def.InterfaceType.TheVariants as interface_type
-use Rattle.virt_types.specs.declared.mac.Mac.{Mac}
+use Rattle.types_base.specs.declared.device_def.Disk.{Disk}
+use Rattle.types_base.specs.declared.device_def.DiskDevice.TheVariants as disk_device
+use Rattle.types_base.specs.declared.device_def.DiskDriver.{DiskDriver}
+use Rattle.types_base.specs.declared.device_def.DiskSource.{DiskSource}
+use Rattle.types_base.specs.declared.device_def.DiskTarget.{DiskTarget}
+use Rattle.types_base.specs.declared.device_def.DiskType.TheVariants as disk_type
+use Rattle.types_base.specs.declared.device_def.Interface.{Interface}
+use Rattle.types_base.specs.declared.device_def.InterfaceModel.{InterfaceModel}
+use Rattle.types_base.specs.declared.device_def.InterfaceSource.{InterfaceSource}
+use Rattle.types_base.specs.declared.device_def.InterfaceType.TheVariants as interface_type
+use Rattle.types_base.specs.declared.mac.Mac.{Mac}
 use Rattle.text_spec.specs.declared.row.Content.TheVariants as content
 use Rattle.text_spec.specs.declared.row.Place.TheVariants as place
 use Rattle.text_spec.specs.declared.row.Row.{Row}

@@ -3,13 +3,13 @@
 use Rattle.std.specs.Prelude.{ℕ, List, [], ◌∷◌, ◌++◌, length, map, Bool, Option, Some, unwrap_or, ◌==◌, nat_lt, if◌then◌else◌, codes}
 use Rattle.std.specs.Fmt.{decimal}
 use Rattle.uuid.specs.Text.{hyphenated_text, lower}
-use Rattle.virt_types.specs.declared.domain_def.BootDevice.{BootDevice}
-use Rattle.virt_types.specs.declared.domain_def.CharacterDevice.{CharacterDevice}
-use Rattle.virt_types.specs.declared.domain_def.DomainDef.{DomainDef}
-use Rattle.virt_types.specs.declared.domain_def.Graphics.{Graphics}
-use Rattle.virt_types.specs.declared.domain_def.Memballoon.{Memballoon}
-use Rattle.virt_types.specs.declared.domain_def.Os.{Os}
-use Rattle.virt_types.specs.declared.script.Script.{Script}
+use Rattle.types_base.specs.declared.domain_def.BootDevice.{BootDevice}
+use Rattle.types_base.specs.declared.domain_def.CharacterDevice.{CharacterDevice}
+use Rattle.types_base.specs.declared.domain_def.DomainDef.{DomainDef}
+use Rattle.types_base.specs.declared.domain_def.Graphics.{Graphics}
+use Rattle.types_base.specs.declared.domain_def.Memballoon.{Memballoon}
+use Rattle.types_base.specs.declared.domain_def.Os.{Os}
+use Rattle.types_base.specs.declared.script.Script.{Script}
 use Rattle.text_spec.specs.declared.pair.Pair.{Pair}
 use Rattle.text_spec.specs.declared.vocabulary.AttributeName.TheVariants as attribute
 use Rattle.text_spec.specs.declared.vocabulary.ElementName.{ElementName}

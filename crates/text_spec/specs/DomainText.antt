@@ -1,7 +1,7 @@
 -- The table of domains of libvirt's domain format, in this project's profile.
 use Rattle.std.specs.Prelude.{ℕ, ◌+◌, List, [], ◌∷◌, length, nat_lt, Option, Some, None, Result, Err, if◌then◌else◌}
 use Rattle.std.specs.Option.{option_or}
-use Rattle.virt_types.specs.declared.domain_def.DomainDef.{DomainDef}
+use Rattle.types_base.specs.declared.domain_def.DomainDef.{DomainDef}
 use Rattle.text_spec.specs.declared.definition.DefFault.{DefFault}
 use Rattle.text_spec.specs.declared.definition.DefKind.TheVariants as kind
 use Rattle.text_spec.specs.declared.device_kind.DeviceKind.{DeviceKind}

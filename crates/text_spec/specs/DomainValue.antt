@@ -3,19 +3,19 @@ use Rattle.std.specs.Prelude.{ℕ, List, [], map, min, Option, unwrap_or, option
 use Rattle.std.specs.List.{filter_map}
 use Rattle.std.specs.Result.{result_ok}
 use Rattle.uuid.specs.Text.{parsed}
-use Rattle.virt_types.specs.declared.domain_def.BootDevice.{BootDevice}
-use Rattle.virt_types.specs.declared.domain_def.CharacterDevice.{CharacterDevice}
-use Rattle.virt_types.specs.declared.domain_def.CrashAction.{CrashAction}
-use Rattle.virt_types.specs.declared.domain_def.CrashAction.TheVariants as crash
-use Rattle.virt_types.specs.declared.domain_def.DomainDef.{DomainDef}
-use Rattle.virt_types.specs.declared.domain_def.DomainType.{DomainType}
-use Rattle.virt_types.specs.declared.domain_def.DomainType.TheVariants as domain_type
-use Rattle.virt_types.specs.declared.domain_def.Graphics.{Graphics}
-use Rattle.virt_types.specs.declared.domain_def.LifecycleAction.{LifecycleAction}
-use Rattle.virt_types.specs.declared.domain_def.LifecycleAction.TheVariants as action
-use Rattle.virt_types.specs.declared.domain_def.Memballoon.{Memballoon}
-use Rattle.virt_types.specs.declared.domain_def.Os.{Os}
-use Rattle.virt_types.specs.declared.script.Script.{Script}
+use Rattle.types_base.specs.declared.domain_def.BootDevice.{BootDevice}
+use Rattle.types_base.specs.declared.domain_def.CharacterDevice.{CharacterDevice}
+use Rattle.types_base.specs.declared.domain_def.CrashAction.{CrashAction}
+use Rattle.types_base.specs.declared.domain_def.CrashAction.TheVariants as crash
+use Rattle.types_base.specs.declared.domain_def.DomainDef.{DomainDef}
+use Rattle.types_base.specs.declared.domain_def.DomainType.{DomainType}
+use Rattle.types_base.specs.declared.domain_def.DomainType.TheVariants as domain_type
+use Rattle.types_base.specs.declared.domain_def.Graphics.{Graphics}
+use Rattle.types_base.specs.declared.domain_def.LifecycleAction.{LifecycleAction}
+use Rattle.types_base.specs.declared.domain_def.LifecycleAction.TheVariants as action
+use Rattle.types_base.specs.declared.domain_def.Memballoon.{Memballoon}
+use Rattle.types_base.specs.declared.domain_def.Os.{Os}
+use Rattle.types_base.specs.declared.script.Script.{Script}
 use Rattle.text_spec.specs.declared.row.Place.{Place}
 use Rattle.text_spec.specs.declared.row.Place.TheVariants as place
 use Rattle.text_spec.specs.declared.row.Source.TheVariants as source

@@ -8,11 +8,11 @@ use Rattle.std.specs.Str.{bytes_eq}
 use Rattle.uuid.specs.declared.Variant.TheVariants.{RFC4122}
 use Rattle.uuid.specs.declared.Version.TheVariants.{Random}
 use Rattle.uuid.specs.Parts.{with_variant, with_version}
-use Rattle.virt_types.specs.declared.device_def.DeviceDef.{DeviceDef}
-use Rattle.virt_types.specs.declared.device_def.DeviceDef.TheVariants as device
-use Rattle.virt_types.specs.declared.device_def.Interface.{Interface}
-use Rattle.virt_types.specs.declared.domain_def.DomainDef.{DomainDef}
-use Rattle.virt_types.specs.declared.mac.Mac.{Mac}
+use Rattle.types_base.specs.declared.device_def.DeviceDef.{DeviceDef}
+use Rattle.types_base.specs.declared.device_def.DeviceDef.TheVariants as device
+use Rattle.types_base.specs.declared.device_def.Interface.{Interface}
+use Rattle.types_base.specs.declared.domain_def.DomainDef.{DomainDef}
+use Rattle.types_base.specs.declared.mac.Mac.{Mac}
 
 -- ---- identifiers
 -- the identifier of two words, the high byte first

@@ -3,10 +3,10 @@
 use Rattle.std.specs.Prelude.{ℕ, ◌-◌, ◌^◌, List, [], ◌∷◌, take, drop, length, codes, Bool, not, ◌&&◌, ◌||◌, ◌==◌, nat_le, Option, Some, None, option_and_then, option_map, if◌then◌else◌}
 use Rattle.std.specs.List.{prefix_len}
 use Rattle.std.specs.Str.{bytes_eq}
-use Rattle.virt_types.specs.declared.script.ScriptAct.{ScriptAct}
-use Rattle.virt_types.specs.declared.script.ScriptAct.TheVariants as act
-use Rattle.virt_types.specs.declared.script.ScriptEntry.{ScriptEntry}
-use Rattle.virt_types.specs.declared.script.ScriptEntry.TheVariants as entry
+use Rattle.types_base.specs.declared.script.ScriptAct.{ScriptAct}
+use Rattle.types_base.specs.declared.script.ScriptAct.TheVariants as act
+use Rattle.types_base.specs.declared.script.ScriptEntry.{ScriptEntry}
+use Rattle.types_base.specs.declared.script.ScriptEntry.TheVariants as entry
 use Rattle.text_spec.specs.Character.{space, tab, semicolon}
 use Rattle.text_spec.specs.Units.{number_of}
 use Rattle.text_spec.specs.Words.{meant}

@@ -1,7 +1,7 @@
 -- MAC addresses as texts: six pairs of hexadecimal digits in either case, with colons between them
 -- (IEEE 802, EUI-48).
 use Rattle.std.specs.Prelude.{ℕ, ◌+◌, ◌-◌, ◌*◌, ◌∷◌, [], List, length, slice_index, Bool, ◌&&◌, ◌==◌, nat_le, Option, Some, None, option_and_then, option_map, if◌then◌else◌}
-use Rattle.virt_types.specs.declared.mac.Mac.{Mac}
+use Rattle.types_base.specs.declared.mac.Mac.{Mac}
 
 -- the value of a hexadecimal digit
 unfoldable pub hex_value : ℕ → Option ℕ

@@ -1,7 +1,7 @@
 -- What a test answers, against the fault that it looks for.
 use Rattle.std.specs.Prelude.{◌≡◌, Option, Some, None, Result, Ok, Err}
-use Rattle.virt_types.specs.declared.memory.OrNoMemory.{OrNoMemory}
-use Rattle.virt_types.specs.declared.memory.OrNoMemory.TheVariants as or
+use Rattle.types_base.specs.declared.memory.OrNoMemory.{OrNoMemory}
+use Rattle.types_base.specs.declared.memory.OrNoMemory.TheVariants as or
 
 -- the fault is this one, unless there was no memory
 abbrev pub FaultUnlessNoMemory : {F : Type 0} → OrNoMemory F → Option F → Type 0

@@ -9,7 +9,7 @@ use Rattle.text_spec.specs.declared.fault.TextFault.{TextFault}
 use Rattle.text_spec.specs.declared.fault.TextKind.{TextKind}
 use Rattle.text_spec.specs.declared.fault.TextKind.TheVariants as kind
 use Rattle.text_spec.specs.declared.limits.TheConstants.{MOST_LEVELS, MOST_ELEMENTS}
-use Rattle.virt_types.specs.Limits.{most_text_bytes}
+use Rattle.types_base.specs.Limits.{most_text_bytes}
 use Rattle.text_spec.specs.Reading.{◌>>=◌, flaw, ended}
 use Rattle.text_spec.specs.Character.{byte_order_mark, less, after_blanks}
 use Rattle.text_spec.specs.Aside.{aside_at}

@@ -1,20 +1,20 @@
 -- The words for the values of the domain format's lists, for reading and for printing.
 use Rattle.std.specs.Prelude.{ℕ, List, [], ◌∷◌, codes, find, Option}
 use Rattle.std.specs.Str.{bytes_eq}
-use Rattle.virt_types.specs.declared.domain_def.DomainType.{DomainType}
-use Rattle.virt_types.specs.declared.domain_def.DomainType.TheVariants as domain
-use Rattle.virt_types.specs.declared.domain_def.BootDevice.{BootDevice}
-use Rattle.virt_types.specs.declared.domain_def.BootDevice.TheVariants as boot
-use Rattle.virt_types.specs.declared.domain_def.LifecycleAction.{LifecycleAction}
-use Rattle.virt_types.specs.declared.domain_def.LifecycleAction.TheVariants as action
-use Rattle.virt_types.specs.declared.domain_def.CrashAction.{CrashAction}
-use Rattle.virt_types.specs.declared.domain_def.CrashAction.TheVariants as crash
-use Rattle.virt_types.specs.declared.device_def.DiskType.{DiskType}
-use Rattle.virt_types.specs.declared.device_def.DiskType.TheVariants as disk
-use Rattle.virt_types.specs.declared.device_def.DiskDevice.{DiskDevice}
-use Rattle.virt_types.specs.declared.device_def.DiskDevice.TheVariants as device
-use Rattle.virt_types.specs.declared.device_def.InterfaceType.{InterfaceType}
-use Rattle.virt_types.specs.declared.device_def.InterfaceType.TheVariants as interface
+use Rattle.types_base.specs.declared.domain_def.DomainType.{DomainType}
+use Rattle.types_base.specs.declared.domain_def.DomainType.TheVariants as domain
+use Rattle.types_base.specs.declared.domain_def.BootDevice.{BootDevice}
+use Rattle.types_base.specs.declared.domain_def.BootDevice.TheVariants as boot
+use Rattle.types_base.specs.declared.domain_def.LifecycleAction.{LifecycleAction}
+use Rattle.types_base.specs.declared.domain_def.LifecycleAction.TheVariants as action
+use Rattle.types_base.specs.declared.domain_def.CrashAction.{CrashAction}
+use Rattle.types_base.specs.declared.domain_def.CrashAction.TheVariants as crash
+use Rattle.types_base.specs.declared.device_def.DiskType.{DiskType}
+use Rattle.types_base.specs.declared.device_def.DiskType.TheVariants as disk
+use Rattle.types_base.specs.declared.device_def.DiskDevice.{DiskDevice}
+use Rattle.types_base.specs.declared.device_def.DiskDevice.TheVariants as device
+use Rattle.types_base.specs.declared.device_def.InterfaceType.{InterfaceType}
+use Rattle.types_base.specs.declared.device_def.InterfaceType.TheVariants as interface
 
 -- the value of a list that a word stands for
 abbrev pub meant : {A : Type 0} → (A → List ℕ) → List A → List ℕ → Option A

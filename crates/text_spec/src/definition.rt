@@ -1,6 +1,6 @@
 // Where a tree is no definition, and in what way.
 use thiserror::Error;
-use virt_types::{OrNoMemory, Text};
+use types_base::{OrNoMemory, Text};
 
 /// In what way a tree is no definition.
 #[derive(Clone, Copy, Debug, PartialEq, Eq, Error)]
@@ -38,7 +38,7 @@ pub struct DefFault {
 
 impl From<DefFault> for OrNoMemory<DefFault> {
     ghost use Rattle.std.specs.Prelude.{◌≡◌};
-    ghost use Rattle.virt_types.specs.declared.memory.OrNoMemory.TheVariants as or;
+    ghost use Rattle.types_base.specs.declared.memory.OrNoMemory.TheVariants as or;
 
     ghost from_gives = { λ fault e. e ≡ or.Fault fault };
 

@@ -1,6 +1,6 @@
 // Where a text leaves the grammar, and in what way.
 use thiserror::Error;
-use virt_types::OrNoMemory;
+use types_base::OrNoMemory;
 
 /// In what way a text leaves the grammar.
 #[derive(Clone, Copy, Debug, PartialEq, Eq, Error)]
@@ -49,7 +49,7 @@ pub struct TextFault {
 
 impl From<TextFault> for OrNoMemory<TextFault> {
     ghost use Rattle.std.specs.Prelude.{◌≡◌};
-    ghost use Rattle.virt_types.specs.declared.memory.OrNoMemory.TheVariants as or;
+    ghost use Rattle.types_base.specs.declared.memory.OrNoMemory.TheVariants as or;
 
     ghost from_gives = { λ fault e. e ≡ or.Fault fault };
 
@@ -69,7 +69,7 @@ pub struct Flaw {
 
 impl From<Flaw> for OrNoMemory<Flaw> {
     ghost use Rattle.std.specs.Prelude.{◌≡◌};
-    ghost use Rattle.virt_types.specs.declared.memory.OrNoMemory.TheVariants as or;
+    ghost use Rattle.types_base.specs.declared.memory.OrNoMemory.TheVariants as or;
 
     ghost from_gives = { λ fault e. e ≡ or.Fault fault };
 

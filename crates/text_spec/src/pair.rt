@@ -4,7 +4,7 @@ ghost use Rattle.text_spec.specs.declared.pair.Pair.{Pair};
 
 use std::alloc::Global;
 use std::marker::Model;
-use virt_types::{NoMemory, Text};
+use types_base::{NoMemory, Text};
 
 /// An attribute of an element.
 #[derive(Debug, Drop)]

@@ -40,7 +40,7 @@ pub enum Content {
     Text,
     /// Any text but the empty one.
     Filled,
-    /// A name, as `virt_types::Name` is one.
+    /// A name, as `types_base::Name` is one.
     Name,
     /// An identifier in one of the forms of a UUID.
     Uuid,

@@ -1,6 +1,6 @@
 // The tree that a text is.
 use crate::pair::PairList;
-use virt_types::Text;
+use types_base::Text;
 
 /// An element with all that is in it.
 #[derive(Debug, Drop)]

@@ -4,7 +4,7 @@ use network_xml::{print, read};
 use std::alloc::Global;
 use std::test::Fail;
 use text_spec::{DefFault, DefKind};
-use virt_types::{OrNoMemory, Text};
+use types_base::{OrNoMemory, Text};
 
 // The networks of libvirt's page on its network format: behind an address translation, routed, isolated.
 const NAT: &str = "<network>

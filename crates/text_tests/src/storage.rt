@@ -4,7 +4,7 @@ use std::alloc::Global;
 use std::test::Fail;
 use storage_xml::{print, print_volume, read, read_volume};
 use text_spec::{DefFault, DefKind};
-use virt_types::{OrNoMemory, Text};
+use types_base::{OrNoMemory, Text};
 
 // The directory pool of libvirt's page on storage.
 const IMAGES: &str = "<pool type='dir'>

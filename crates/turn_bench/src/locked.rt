@@ -1,8 +1,8 @@
-use counter_tenant::Counter;
 use std::alloc::Global;
 use std::sync::{Mutex, Wait};
 use std::thread;
 use std::thread::Threads;
+use turn_examples::Counter;
 
 /// Counts under a lock, in so many threads.
 pub fn count<R: Threads + Wait + Sync>(

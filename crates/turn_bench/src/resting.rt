@@ -1,11 +1,11 @@
 ghost use Rattle.std.specs.Prelude.{◌≡◌};
 
-use counter_tenant::{Counter, CounterPass, cut_off};
 use std::alloc::Global;
 use std::sync::Wait;
 use std::thread;
 use std::thread::Threads;
 use turn_cell::TurnCell;
+use turn_examples::{Counter, CounterPass, cut_off};
 
 /// So many passes rest so often, each in a thread of its own, while nobody leaves a mark.
 pub fn rest<R: Threads + Wait + Sync>(

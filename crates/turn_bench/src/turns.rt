@@ -1,6 +1,5 @@
 ghost use Rattle.std.specs.Prelude.{◌≡◌};
 
-use counter_tenant::{Counter, CounterPass, add_by_many, add_many};
 use std::alloc::Global;
 use std::io;
 use std::rt::Clock;
@@ -8,6 +7,7 @@ use std::sync::Wait;
 use std::thread::Threads;
 use std::time::Instant;
 use turn_cell::TurnCell;
+use turn_examples::{Counter, CounterPass, add_by_many, add_many};
 
 /// Counts in turns, in so many threads.
 pub fn count<R: Threads + Wait + Sync>(

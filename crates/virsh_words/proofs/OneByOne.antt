@@ -2,8 +2,8 @@
 use Rattle.std.proofs.Common.{◌≡◌, ℕ, suc, Bool, true, false, List, [], ◌∷◌, ◌++◌, length, Result, Ok, Err, refl, sym, ap, ◌∙◌, append_assoc}
 use Rattle.std.specs.Prelude.{◌==◌}
 use Rattle.std.proofs.lemmas.List.{append-nil}
-use Rattle.virt_types.specs.declared.memory.OrNoMemory.{OrNoMemory}
-use Rattle.virt_types.specs.declared.memory.OrNoMemory.TheVariants.{Fault, NoMemory}
+use Rattle.types_base.specs.declared.memory.OrNoMemory.{OrNoMemory}
+use Rattle.types_base.specs.declared.memory.OrNoMemory.TheVariants.{Fault, NoMemory}
 use Rattle.command_spec.specs.Reading.{Left, ◌>>=◌, first_listen, first_listens}
 use Rattle.command_spec.specs.declared.command.Listen.{Listen}
 use Rattle.command_spec.specs.declared.fault.WordFault.{WordFault}

@@ -7,7 +7,7 @@ use crate::rest::Rest;
 use crate::text::two_texts;
 use command_spec::{Listen, ListenList, WordFault};
 use std::alloc::Global;
-use virt_types::{ListOf, OrNoMemory};
+use types_base::{ListOf, OrNoMemory};
 
 /// An address and a domain.
 #[tactic(auto, unfolding(command_spec::specs::Reading::first_listen))]

@@ -1,7 +1,7 @@
 // A whole command line.
 ghost use Rattle.std.specs.Prelude.{◌≡◌, IfOk, map, option_map};
 ghost use Rattle.std.specs.String.{string_bytes};
-ghost use Rattle.virt_types.specs.Memory.{UnlessNoMemory};
+ghost use Rattle.types_base.specs.Memory.{UnlessNoMemory};
 ghost use Rattle.command_spec.specs.Lines as spec;
 ghost use Rattle.command_spec.specs.Reading.{first_number as number_first};
 ghost use Rattle.virsh_words.specs.Rest.{StepsOrNoMemory, seen};
@@ -14,7 +14,7 @@ use command_spec::{
     Command, Flag, Form, Job, MOST_DIGITS, MOST_LISTENS, MOST_MEMORY_DIGITS, NumberVerb, WordFault,
 };
 use std::alloc::Global;
-use virt_types::{ListOf, NoMemory, OrNoMemory, Text};
+use types_base::{ListOf, NoMemory, OrNoMemory, Text};
 
 // A number of at most 9 digits.
 fn small_number(rest: Rest<'_>) -> Result<(u32, Rest<'_>), OrNoMemory<WordFault>>

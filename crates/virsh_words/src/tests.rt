@@ -3,7 +3,7 @@ use crate::{Command, Flag, Form, Job, WordFault, read_words};
 use std::alloc::{AllocError, Global};
 use std::process::Abort;
 use std::test::Fail;
-use virt_types::{OrNoMemory, Text};
+use types_base::{OrNoMemory, Text};
 
 fn words_of(alloc: Global, line: &'static str) -> Result<Vec<String>, AllocError> {
     let mut words = Vec::new(alloc);

@@ -6,7 +6,7 @@ use crate::line::{two_words, word};
 use crate::rest::Rest;
 use command_spec::WordFault;
 use std::alloc::Global;
-use virt_types::{OrNoMemory, Text, both};
+use types_base::{OrNoMemory, Text, both};
 
 /// The next word that is no option.
 pub(crate) fn text(alloc: Global, rest: Rest<'_>) -> Result<(Text, Rest<'_>), OrNoMemory<WordFault>>

@@ -1,6 +1,7 @@
-pub mod Fronts
-pub mod Kept
+pub mod Below
 pub mod KeptSnaps
-pub mod Names
 pub mod RisingSnaps
 pub mod SnapAt
+pub use Rattle.types_base.proofs.Fronts
+pub use Rattle.types_base.proofs.Kept
+pub use Rattle.types_base.proofs.Names

@@ -3,12 +3,8 @@ ghost use Rattle.std.specs.Prelude.{◌≡◌};
 ghost use Rattle.virt_types.specs.Numbers.{job_word};
 
 use crate::ask::Ask;
-use crate::bytes::Bytes;
-use crate::caller::{Front, Who};
-use crate::copy::TryCopy;
-use crate::list::ListOf;
-use crate::memory::NoMemory;
 use crate::run_state::EndReason;
+use types_base::{Bytes, Front, ListOf, NoMemory, TryCopy, Who};
 
 /// What an ask gives that was done.
 pub enum AnswerValue {

@@ -3,15 +3,7 @@ ghost use Rattle.std.specs.Prelude.{◌≡◌, ◌≢◌, IfNone, IfSome};
 ghost use Rattle.virt_types.specs.declared.ask.ImageKind.{ImageKind as TheImageKind};
 ghost use Rattle.virt_types.specs.Numbers.{image_number};
 
-use crate::boxed::Boxed;
-use crate::bytes::Bytes;
-use crate::copy::{TryCopy, both};
-use crate::device_def::DeviceDef;
-use crate::domain_def::DomainDef;
-use crate::mac::Mac;
-use crate::memory::NoMemory;
-use crate::name::Name;
-use crate::text::Text;
+use types_base::{Boxed, Bytes, DeviceDef, DomainDef, Mac, Name, NoMemory, Text, TryCopy, both};
 use uuid::Uuid;
 
 /// A command to a guest's monitor (after QEMU's QMP).

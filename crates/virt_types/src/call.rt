@@ -1,12 +1,6 @@
 // What is asked of a domain's cell: calls, which leave marks, and queries, which read.
-use crate::boxed::Boxed;
-use crate::bytes::Bytes;
-use crate::copy::{TryCopy, both};
-use crate::device_def::DeviceDef;
 use crate::domain::SnapInfo;
-use crate::domain_def::DomainDef;
-use crate::memory::NoMemory;
-use crate::name::Name;
+use types_base::{Boxed, Bytes, DeviceDef, DomainDef, Name, NoMemory, TryCopy, both};
 
 /// A call on a domain's cell. The last nine begin an operation, and `Confirm` and `Finish` take up one
 /// that rests. What is large is boxed, so that a call takes 32 bytes.

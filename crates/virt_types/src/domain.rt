@@ -1,14 +1,8 @@
 // What a cell of a domain holds: the domain's definitions, its live guest, its snapshots.
-use crate::bytes::Bytes;
-use crate::copy::{TryCopy, both};
-use crate::domain_def::DomainDef;
-use crate::list::ListOf;
-use crate::memory::NoMemory;
-use crate::name::Name;
 use crate::operation::Op;
 use crate::run_state::{EndReason, RunState};
 use crate::snap_list::SnapList;
-use crate::text::Text;
+use types_base::{Bytes, DomainDef, ListOf, Name, NoMemory, Text, TryCopy, both};
 use uuid::Uuid;
 
 /// Slots of devices in order.

@@ -1,7 +1,5 @@
 // Procedures that are for one domain, network or pool.
-use crate::copy::TryCopy;
-use crate::memory::NoMemory;
-use crate::text::Text;
+use types_base::{NoMemory, Text, TryCopy};
 
 /// What is asked of a domain: the procedures of the first program, as in libvirt's
 /// `remote_protocol.x`, and those of this project's own program.

@@ -4,10 +4,7 @@ ghost use Rattle.virt_types.specs.declared.operation.OpKind.{OpKind as TheOpKind
 ghost use Rattle.virt_types.specs.declared.operation.Phase.{Phase as ThePhase};
 ghost use Rattle.virt_types.specs.Numbers.{op_number, op_word, phase_number};
 
-use crate::caller::Who;
-use crate::copy::TryCopy;
-use crate::memory::NoMemory;
-use crate::refusal::Refusal;
+use types_base::{NoMemory, Refusal, TryCopy, Who};
 
 /// What kind of operation it is. Its arguments are in its call. The numbers are those by which
 /// the wire and status files name it; 0 is none.

@@ -1,8 +1,5 @@
 // How the wire refers to domains, networks and pools.
-use crate::copy::TryCopy;
-use crate::memory::NoMemory;
-use crate::name::Name;
-use crate::text::Text;
+use types_base::{Name, NoMemory, Text, TryCopy};
 use uuid::Uuid;
 
 /// A domain as replies and messages name it (`remote_nonnull_domain` of libvirt's

@@ -1,11 +1,7 @@
 // Requests: what a session is asked, one variant for each procedure of the two programs' tables.
-use crate::bytes::Bytes;
-use crate::copy::{TryCopy, both};
-use crate::list::ListOf;
-use crate::memory::NoMemory;
 use crate::object_request::{DomainRequest, NetworkRequest, PoolRequest};
 use crate::reference::{DomainTarget, NetworkTarget, PoolTarget};
-use crate::text::Text;
+use types_base::{Bytes, ListOf, NoMemory, Text, TryCopy, both};
 use uuid::Uuid;
 
 /// What a session is asked. The procedures that are for one domain, network or pool are in an enum

@@ -2,14 +2,11 @@
 ghost use Rattle.std.specs.Prelude.{◌≡◌, ◌==◌, ◌+◌, ◌<◌, ◌≤◌, ◌^◌, [], All, IfOk, OnOk, OnErr, count_by, filter, length, map, not, option_map, slice_get};
 ghost use Rattle.virt_types.specs.Snapshots.{IsRising, is_child, is_named, kept_by, snapshot_named, with_parent, with_snapshot};
 
-use crate::copy::TryCopy;
 use crate::domain::Snap;
-use crate::list::ListOf;
-use crate::memory::NoMemory;
-use crate::name::Name;
 use crate::snap_tree::{NewSnap, SnapTree};
 use std::alloc::Global;
 use std::marker::Model;
+use types_base::{ListOf, Name, NoMemory, TryCopy};
 
 /// Snapshots by rising name, as a tree of boxes. Contracts see their list.
 #[derive(Drop)]

@@ -6,16 +6,12 @@ ghost use Rattle.virt_types.specs.Snapshots.{IsRising, is_before, is_named, snap
 mod family;
 mod new_snap;
 
-use crate::boxed::Boxed;
-use crate::copy::{TryCopy, both};
 use crate::domain::Snap;
-use crate::list::ListOf;
-use crate::memory::NoMemory;
-use crate::name::Name;
 pub use new_snap::NewSnap;
 use std::alloc::Global;
 use std::marker::Model;
 use std::mem;
+use types_base::{Boxed, ListOf, Name, NoMemory, TryCopy, both};
 
 // The tree, or a part of it.
 #[cycle(snapshots)]

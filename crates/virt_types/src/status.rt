@@ -1,9 +1,7 @@
 // What a status file says of a boot that was live when it was written.
-use crate::copy::TryCopy;
-use crate::memory::NoMemory;
-use crate::name::Name;
 use crate::operation::{OpKind, Phase};
 use crate::run_state::DomainState;
+use types_base::{Name, NoMemory, TryCopy};
 use uuid::Uuid;
 
 /// A live boot, as its status file reports it after a restart of the daemon.

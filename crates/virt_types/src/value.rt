@@ -1,20 +1,12 @@
 // What is answered: values, replies and notes.
-use crate::boxed::Boxed;
-use crate::bytes::Bytes;
-use crate::copy::TryCopy;
 use crate::domain::{Live, Snap};
-use crate::domain_def::DomainDef;
-use crate::list::ListOf;
-use crate::mac::Mac;
-use crate::memory::NoMemory;
-use crate::name::Name;
 use crate::operation::{OpKind, Phase};
 use crate::reference::{DomainRef, NetworkRef, PoolRef};
-use crate::refusal::Refusal;
-use crate::room::RoomyList;
 use crate::run_state::DomainState;
-use crate::text::Text;
-use crate::transition::Transition;
+use types_base::{
+    Boxed, Bytes, DomainDef, ListOf, Mac, Name, NoMemory, Refusal, RoomyList, Text, Transition,
+    TryCopy,
+};
 use uuid::Uuid;
 
 /// Names in order.

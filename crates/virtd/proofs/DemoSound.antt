@@ -16,7 +16,7 @@ use Rattle.text_spec.specs.Spelling.{fits}
 use Rattle.text_spec.specs.Writable.{IsText}
 use Rattle.text_spec.specs.Written.{in_text, in_value, tree_written, trees_written}
 use Rattle.virt_types.proofs.Names.{place_none}
-use Rattle.virt_types.specs.declared.domain_def.DomainDef.{DomainDef}
+use Rattle.virt_types.specs.Below.types_base.declared.domain_def.DomainDef.{DomainDef}
 use Rattle.virtd.specs.Demo.{demo_def}
 
 name_utf8 : IsUtf8 (codes "demo")

@@ -2,7 +2,7 @@
 use Rattle.std.proofs.Common.{◌<◌, ℕ, List, Option, Result, Ok, Err, OnOk, OnErr, length, take}
 use Rattle.std.specs.Io.KnownBytes.{Appends}
 use Rattle.outside_spec.specs.Faults.{HasCause}
-use Rattle.virt_types.specs.declared.memory.Failed.{Failed}
+use Rattle.virt_types.specs.Below.types_base.declared.memory.Failed.{Failed}
 use Rattle.virtd.specs.Printing.{HasPut}
 
 pub has_put : {K : Type 0} (held : K → Option (List ℕ)) (faults : K → ℕ) (text : List ℕ) (was is : K) (result : Result (Unit {0}) Failed) → OnOk result (Appends (held was) (held is) text)

@@ -4,9 +4,9 @@ use Rattle.files_disk.specs.Telling.{Told}
 use Rattle.outside_spec.specs.Faults.{Rose}
 use Rattle.store_check.specs.Checking.{HasChecked, status}
 use Rattle.store_check.specs.declared.checked.Checked.{Checked}
-use Rattle.virt_types.specs.declared.memory.Failed.{Failed}
-use Rattle.virt_types.specs.declared.memory.Fault.{Fault}
-use Rattle.virt_types.specs.declared.memory.Fault.TheVariants as fault
+use Rattle.virt_types.specs.Below.types_base.declared.memory.Failed.{Failed}
+use Rattle.virt_types.specs.Below.types_base.declared.memory.Fault.{Fault}
+use Rattle.virt_types.specs.Below.types_base.declared.memory.Fault.TheVariants as fault
 use Rattle.virtd.specs.Outside.{HasNoFiles, Outside, with_closed, with_opened}
 use Rattle.virtd.specs.Printing.{Prints, printed}
 use Rattle.virtd.specs.declared.connection.Connection.{Connection}

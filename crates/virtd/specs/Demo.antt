@@ -1,10 +1,10 @@
 -- The one domain of `virtd demo`.
 use Rattle.std.specs.Prelude.{ℕ, List, [], ◌∷◌, codes, Some, None}
 use Rattle.session_spec.specs.DefinitionText.{text_of}
-use Rattle.virt_types.specs.declared.domain_def.CrashAction.TheVariants as crash
-use Rattle.virt_types.specs.declared.domain_def.DomainDef.{DomainDef}
-use Rattle.virt_types.specs.declared.domain_def.DomainType.TheVariants as type
-use Rattle.virt_types.specs.declared.domain_def.LifecycleAction.TheVariants as action
+use Rattle.virt_types.specs.Below.types_base.declared.domain_def.CrashAction.TheVariants as crash
+use Rattle.virt_types.specs.Below.types_base.declared.domain_def.DomainDef.{DomainDef}
+use Rattle.virt_types.specs.Below.types_base.declared.domain_def.DomainType.TheVariants as type
+use Rattle.virt_types.specs.Below.types_base.declared.domain_def.LifecycleAction.TheVariants as action
 use Rattle.virt_types.specs.declared.request.Request.{Request}
 use Rattle.virt_types.specs.declared.request.Request.TheVariants as request
 

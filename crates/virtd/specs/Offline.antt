@@ -3,7 +3,7 @@ use Rattle.std.specs.Prelude.{◌≡◌, ◌⊎◌, ℕ, List, Option, Result}
 use Rattle.daemon_words.specs.Commands.{Check, Word, Words}
 use Rattle.daemon_words.specs.Listing.{command_list}
 use Rattle.files_disk.specs.Telling.{Told}
-use Rattle.virt_types.specs.declared.memory.Failed.{Failed}
+use Rattle.virt_types.specs.Below.types_base.declared.memory.Failed.{Failed}
 use Rattle.virtd.specs.Checks.{ChecksDirectory}
 use Rattle.virtd.specs.Outside.{Outside}
 use Rattle.virtd.specs.Printing.{Prints, printed}

@@ -5,8 +5,8 @@ use Rattle.def_keeper.specs.Opened.{IsSureAt}
 use Rattle.daemon.specs.Below.driver_close.declared.books.Books.{Books}
 use Rattle.files_disk.specs.Telling.{Told}
 use Rattle.outside_spec.specs.Faults.{Rose}
-use Rattle.virt_types.specs.declared.memory.Fault.{Fault}
-use Rattle.virt_types.specs.declared.memory.Fault.TheVariants as fault
+use Rattle.virt_types.specs.Below.types_base.declared.memory.Fault.{Fault}
+use Rattle.virt_types.specs.Below.types_base.declared.memory.Fault.TheVariants as fault
 use Rattle.virtd.specs.Handed.{Handed, one_more}
 
 -- connections, the files of directories with their paths, and the histories of daemons that were closed

@@ -2,7 +2,7 @@
 use Rattle.std.specs.Prelude.{◌≡◌, ◌<◌, ℕ, List, Option, Result, Ok, Err, length, take}
 use Rattle.std.specs.Io.KnownBytes.{Appends}
 use Rattle.outside_spec.specs.Faults.{Rose}
-use Rattle.virt_types.specs.declared.memory.Failed.{Failed}
+use Rattle.virt_types.specs.Below.types_base.declared.memory.Failed.{Failed}
 use Rattle.virtd.specs.Outside.{Outside, with_back, with_made}
 use Rattle.virtd.specs.declared.connection.Connection.{Connection}
 

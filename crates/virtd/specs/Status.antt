@@ -6,8 +6,8 @@ use Rattle.driver_store.specs.declared.fault.DriverFault.{DriverFault}
 use Rattle.driver_store.specs.declared.fault.DriverFault.TheVariants as fault
 use Rattle.session_spec.specs.declared.end.End.{End}
 use Rattle.session_spec.specs.declared.end.End.TheVariants.{BadPacket, Closed, Eof, NoMemory, SinkFault, SourceFault, Truncated}
-use Rattle.virt_types.specs.declared.memory.OrNoMemory.{OrNoMemory}
-use Rattle.virt_types.specs.declared.memory.OrNoMemory.TheVariants as or
+use Rattle.virt_types.specs.Below.types_base.declared.memory.OrNoMemory.{OrNoMemory}
+use Rattle.virt_types.specs.Below.types_base.declared.memory.OrNoMemory.TheVariants as or
 
 -- the status of a session's end
 abbrev pub status : End → ℕ

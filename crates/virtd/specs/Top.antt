@@ -13,8 +13,8 @@ use Rattle.daemon.specs.Below.held_tasks.OfRows.{DriverRow}
 use Rattle.outside_spec.specs.Faults.{Rose}
 use Rattle.session_spec.specs.declared.end.End.{End}
 use Rattle.virt_types.specs.declared.ask.GuestEvent.{GuestEvent}
-use Rattle.virt_types.specs.declared.memory.OrNoMemory.{OrNoMemory}
-use Rattle.virt_types.specs.declared.memory.OrNoMemory.TheVariants as or
+use Rattle.virt_types.specs.Below.types_base.declared.memory.OrNoMemory.{OrNoMemory}
+use Rattle.virt_types.specs.Below.types_base.declared.memory.OrNoMemory.TheVariants as or
 use Rattle.virt_types.specs.declared.request.Request.{Request}
 use Rattle.virt_types.specs.declared.status.Status.{Status}
 use Rattle.virtd.specs.Demo.{demo_requests}

@@ -4,13 +4,13 @@ ghost use Rattle.session_spec.specs.DefinitionText.{definition_in, text_of};
 ghost use Rattle.virtd.specs.Demo.{demo_def, demo_requests, demo_uuid};
 
 use def_keeper::Opening;
-use definition_print::print_domain;
 use std::alloc::Global;
 use text_laws::printed_domain_reads_back;
 use virt_types::{
     CrashAction, DomainDef, DomainType, LifecycleAction, ListOf, Name, NoMemory, OrNoMemory, Os,
     Request, RequestList, Script, Text, Uuid,
 };
+use xml_print::print_domain;
 
 /// 00000000-0000-4000-8000-000000000001
 const UUID: [u8; 16] = [0, 0, 0, 0, 0, 0, 0x40, 0, 0x80, 0, 0, 0, 0, 0, 0, 1];

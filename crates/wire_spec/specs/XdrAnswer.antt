@@ -1,8 +1,8 @@
 -- What readers of XDR answer: a value exactly where one is at the front, and otherwise the first fault.
 use Rattle.std.specs.Prelude.{◌≡◌, ℕ, ◌+◌, List, ◌++◌, length, Result, Ok, Err, IfOk, IsOk}
-use Rattle.virt_types.specs.Memory.{UnlessNoMemory}
-use Rattle.virt_types.specs.declared.memory.OrNoMemory.{OrNoMemory}
-use Rattle.virt_types.specs.declared.memory.OrNoMemory.TheVariants.{Fault, NoMemory}
+use Rattle.types_base.specs.Memory.{UnlessNoMemory}
+use Rattle.types_base.specs.declared.memory.OrNoMemory.{OrNoMemory}
+use Rattle.types_base.specs.declared.memory.OrNoMemory.TheVariants.{Fault, NoMemory}
 use Rattle.wire_spec.specs.XdrReading.{Left}
 use Rattle.wire_spec.specs.declared.fault.XdrFault.{XdrFault}
 

@@ -1,7 +1,7 @@
 // Why bytes are no packet, and why a payload is none of the items wanted.
 use std::error::Error;
 use std::fmt;
-use virt_types::OrNoMemory;
+use types_base::OrNoMemory;
 
 /// Why no packet begins with some bytes: the first word that shows it, in the order of the words.
 #[derive(Clone, Copy, Debug, PartialEq, Eq)]
@@ -99,7 +99,7 @@ impl Error for XdrFault {}
 
 impl From<XdrFault> for OrNoMemory<XdrFault> {
     ghost use Rattle.std.specs.Prelude.{◌≡◌};
-    ghost use Rattle.virt_types.specs.declared.memory.OrNoMemory.TheVariants as or;
+    ghost use Rattle.types_base.specs.declared.memory.OrNoMemory.TheVariants as or;
 
     ghost from_gives = { λ fault e. e ≡ or.Fault fault };
 

@@ -1,4 +1,4 @@
-use virt_types::Bytes;
+use types_base::Bytes;
 
 /// The kind of a packet that asks for something and gets a reply (libvirt's `VIR_NET_CALL`).
 pub const CALL: u32 = 0;

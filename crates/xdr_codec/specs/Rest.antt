@@ -1,8 +1,8 @@
 -- What is left of a payload, as the private steps of a reader hand it on.
 use Rattle.std.specs.Prelude.{◌≡◌, ℕ, List, None, Some, Result, Ok, Err, IsOk}
 use Rattle.std.specs.Borrow.{Bor}
-use Rattle.virt_types.specs.declared.memory.OrNoMemory.{OrNoMemory}
-use Rattle.virt_types.specs.declared.memory.OrNoMemory.TheVariants.{Fault, NoMemory}
+use Rattle.types_base.specs.declared.memory.OrNoMemory.{OrNoMemory}
+use Rattle.types_base.specs.declared.memory.OrNoMemory.TheVariants.{Fault, NoMemory}
 use Rattle.wire_spec.specs.XdrReading.{Left, text_fault}
 use Rattle.wire_spec.specs.declared.fault.XdrFault.{XdrFault}
 use Rattle.xdr_codec.specs.declared.rest.Rest.{Rest}

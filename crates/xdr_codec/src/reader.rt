@@ -10,7 +10,7 @@ use crate::rest::Rest;
 use crate::{bytes, number};
 use std::alloc::Global;
 use std::marker::Model;
-use virt_types::{Bytes, OrNoMemory, Text};
+use types_base::{Bytes, OrNoMemory, Text};
 use wire_spec::XdrFault;
 
 /// Reads the items of a payload from its front. Contracts see the bytes that are left, and the

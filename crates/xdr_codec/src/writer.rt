@@ -5,7 +5,7 @@ ghost use Rattle.wire_spec.specs.Xdr.{double_word, fixed, integer, opaque, paddi
 use crate::bytes::padding_length;
 use std::alloc::Global;
 use std::marker::Model;
-use virt_types::{Bytes, NoMemory};
+use types_base::{Bytes, NoMemory};
 
 /// Writes items one after the other. Contracts see the bytes that were written. A call that finds
 /// no memory writes nothing.

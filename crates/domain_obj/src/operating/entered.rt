@@ -6,7 +6,7 @@ ghost use Rattle.domain_obj.specs.Entering.{Operates};
 
 use crate::operating::entering::{Entry, enter_in};
 use crate::{DomainPass, last_in, told_legal};
-use domain_cell::DomainCell;
+use domain_core::DomainCell;
 use monitor_link::{Ears, Killer, Monitor};
 use std::alloc::Global;
 use std::sync::Wait;

@@ -5,7 +5,7 @@ ghost use Rattle.domain_spec.specs.Call.{begins, takes_up};
 
 use crate::attempting::ENOUGH;
 use crate::{DomainTurn, end_long_chapter, give_up_in};
-use domain_cell::{OperationLook, takes_up};
+use domain_core::{OperationLook, takes_up};
 use history_spec::Stamp;
 use job_rules::JobRecord;
 use monitor_link::{Ears, Killer, Monitor};
@@ -30,7 +30,7 @@ pub enum Entry {
 }
 
 // A call looks whether its operation may begin, under this number.
-#[tactic(auto, using(domain_cell::proofs::Shares::free_begin))]
+#[tactic(auto, using(domain_core::proofs::Shares::free_begin))]
 fn begin_as<M: Monitor + Drop, E: Ears + Drop, Z: Killer + Drop>(
     turn: &mut DomainTurn<M, E, Z>,
     alloc: Global,
@@ -48,7 +48,7 @@ fn begin_as<M: Monitor + Drop, E: Ears + Drop, Z: Killer + Drop>(
 }
 
 // A call looks whether it may take an operation up, under this number.
-#[tactic(auto, using(domain_cell::proofs::Shares::free_take_up))]
+#[tactic(auto, using(domain_core::proofs::Shares::free_take_up))]
 fn take_up_as<M: Monitor + Drop, E: Ears + Drop, Z: Killer + Drop>(
     turn: &mut DomainTurn<M, E, Z>,
     alloc: Global,

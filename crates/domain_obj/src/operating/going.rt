@@ -1,14 +1,14 @@
 // What an operation does in one turn, under the number of its pass.
 ghost use Rattle.std.specs.Prelude.{◌≡◌, ◌<◌, ◌^◌, ℕ};
 ghost use Rattle.domain_spec.specs.CanTake.{WaitsAsNoOther};
-ghost use Rattle.domain_cell.specs.Celled.{cell_in, standing_in};
+ghost use Rattle.domain_core.specs.Celled.{cell_in, standing_in};
 ghost use Rattle.domain_obj.specs.Going.{EndsIn, GoesOnIn, IsRenewedIfCan, MayEnd, MayGoOn, PhasesIn, RenewsAndGoesOn};
-ghost use Rattle.domain_cell.specs.OfTurns.{CanEnd};
-ghost use Rattle.domain_cell.specs.OfTurns.{IsDue};
+ghost use Rattle.domain_core.specs.OfTurns.{CanEnd};
+ghost use Rattle.domain_core.specs.OfTurns.{IsDue};
 
 use crate::operating::phasing::Phasing;
 use crate::{DomainTurn, end_long_chapter, next_in};
-use domain_cell::PhaseLook;
+use domain_core::PhaseLook;
 use history_spec::Stamp;
 use monitor_link::{Ears, Killer, Monitor};
 use std::alloc::Global;

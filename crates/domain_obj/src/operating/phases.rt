@@ -7,7 +7,7 @@ ghost use Rattle.domain_spec.specs.declared.open.OpenOperation.{OpenOperation};
 
 use crate::operating::phasing::{Phasing, end_once, phase_once};
 use crate::{Desk, DomainPass, Finished, Next, finish};
-use domain_cell::{DomainCell, Ticket};
+use domain_core::{DomainCell, Ticket};
 use monitor_link::{Ears, Killer, Monitor};
 use std::alloc::Global;
 use std::sync::Wait;

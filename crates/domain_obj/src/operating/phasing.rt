@@ -6,7 +6,7 @@ ghost use Rattle.domain_spec.specs.declared.open.OpenOperation.{OpenOperation};
 
 use crate::operating::going::{end_in, phase_in};
 use crate::{DomainPass, Next, last_in, told_legal};
-use domain_cell::{DomainCell, Ticket};
+use domain_core::{DomainCell, Ticket};
 use monitor_link::{Ears, Killer, Monitor};
 use std::alloc::Global;
 use std::sync::Wait;

@@ -3,12 +3,9 @@ ghost use Rattle.std.specs.Prelude.{◌≡◌, ◌+◌, ◌<◌, ◌≤◌, ◌^
 ghost use Rattle.virt_types.specs.Snapshots.{is_child, is_parent, kept_by, with_parent};
 
 use super::{SnapNode, SnapTree};
-use crate::copy::TryCopy;
 use crate::domain::Snap;
-use crate::list::ListOf;
-use crate::memory::NoMemory;
-use crate::name::Name;
 use std::mem;
+use types_base::{ListOf, Name, NoMemory, TryCopy};
 
 fn is_parent(parent: &Option<Name>, name: &Name) -> bool
     ensures { result ≡ is_parent parent.now name.now }

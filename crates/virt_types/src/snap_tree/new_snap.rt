@@ -3,13 +3,11 @@ ghost use Rattle.std.specs.Prelude.{◌≡◌, IfOk, Some};
 ghost use Rattle.virt_types.specs.Snapshots.{with_snapshot};
 
 use super::{SnapNode, SnapTree, is_before};
-use crate::boxed::Boxed;
-use crate::bytes::Bytes;
 use crate::domain::Snap;
-use crate::memory::NoMemory;
 use crate::run_state::RunState;
 use std::alloc::Global;
 use std::marker::Model;
+use types_base::{Boxed, Bytes, NoMemory};
 
 /// A snapshot with all the memory that a list needs to hold it, which contracts see as the snapshot.
 #[derive(Drop)]

@@ -1,7 +1,7 @@
 use Rattle.std.proofs.Common.{◌∙◌, subst}
 use Rattle.domain_spec.specs.Fold.{at_base}
 use Rattle.domain_spec.specs.Legal.{IsLegal}
-use Rattle.domain_cell.specs.Celled.{cell_in}
+use Rattle.domain_core.specs.Celled.{cell_in}
 use Rattle.domain_obj.specs.InTurn.{DomainTurn}
 use Rattle.domain_obj.proofs.LendingTurns.{lent_may_leave, lent_once, lent_turn}
 use Rattle.domain_obj.proofs.SilentTurns.{seen_at}

@@ -1,6 +1,6 @@
 use Rattle.std.proofs.Common.{ap, arith, subst, sym}
 use Rattle.std.specs.Vec.Iter.{into_iter_items}
-use Rattle.virt_types.specs.declared.caller.Front.{Front}
+use Rattle.virt_types.specs.Below.types_base.declared.caller.Front.{Front}
 use Rattle.def_keeper.specs.Chapters.{moment_of}
 use Rattle.def_keeper.specs.Marks.{StoreHistory}
 use Rattle.driver_store.specs.Again.{IsNotPut}

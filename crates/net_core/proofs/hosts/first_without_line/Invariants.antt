@@ -1,5 +1,5 @@
 use Rattle.std.proofs.Common.{◌≡◌, ◌≤◌, ◌<◌, true, ℕ}
-use Rattle.network_spec.specs.Leases.{is_hosted}
+use Rattle.book_spec.specs.Leases.{is_hosted}
 use Rattle.net_core.proofs.hosts.first_without_line.Given as goal
 
 abbrev pub invariant-loop-address : goal.invariant-loop-address

@@ -1,5 +1,5 @@
 use Rattle.std.proofs.Common.{refl, sym}
-use Rattle.network_spec.specs.Networks.{name_of}
+use Rattle.book_spec.specs.Networks.{name_of}
 use Rattle.net_core.proofs.Tabling.{network_seen, no_network_seen}
 use Rattle.net_core.proofs.table.entry_of_name.Goals as goal
 

@@ -1,5 +1,5 @@
 use Rattle.std.proofs.Common.{◌≡◌, take, map}
-use Rattle.network_spec.specs.NetReads.{row_of}
+use Rattle.book_spec.specs.NetReads.{row_of}
 use Rattle.net_core.proofs.table.rows_of.Given as goal
 
 abbrev pub invariant-loop-entry : goal.invariant-loop-entry

@@ -1,7 +1,7 @@
 use Rattle.std.proofs.Common.{option_copied, sym, ap, ◌∙◌, subst, arith}
-use Rattle.network_spec.specs.Networks.{name_of, network_of, uuid_of}
-use Rattle.network_spec.specs.NetCalls.{redefined, network_exists}
-use Rattle.network_spec.specs.declared.book.NetAnswer.TheVariants.{Refused}
+use Rattle.book_spec.specs.Networks.{name_of, network_of, uuid_of}
+use Rattle.book_spec.specs.NetCalls.{redefined, network_exists}
+use Rattle.book_spec.specs.declared.book.NetAnswer.TheVariants.{Refused}
 use Rattle.net_core.specs.Answers.{Tells}
 use Rattle.net_core.proofs.Tabling.{define-named, define-other, define-room, define-full}
 use Rattle.net_core.proofs.table.test_define.Goals as goal

@@ -1,5 +1,5 @@
-use Rattle.network_spec.specs.declared.book.NetCall.TheVariants as call
-use Rattle.network_spec.specs.NetHistory.{told}
+use Rattle.book_spec.specs.declared.book.NetCall.TheVariants as call
+use Rattle.book_spec.specs.NetHistory.{told}
 use Rattle.net_core.proofs.Turning.{asked, asked_leaves}
 use Rattle.net_core.proofs.turns.start.Goals as goal
 

@@ -1,5 +1,5 @@
 use Rattle.std.proofs.Common.{sym, ◌∙◌, ap, subst}
-use Rattle.virt_types.specs.Memory.{UnlessNoMemory}
+use Rattle.types_base.specs.Memory.{UnlessNoMemory}
 use Rattle.book_spec.specs.Slots.{slot_of, name_of}
 use Rattle.book_spec.specs.ListCalls.{claim_new}
 use Rattle.object_list.specs.Table.{MayLackMemory}

@@ -1,5 +1,5 @@
-use Rattle.pool_spec.specs.declared.book.PoolCall.TheVariants as call
-use Rattle.pool_spec.specs.PoolHistory.{told}
+use Rattle.book_spec.specs.declared.pool_book.PoolCall.TheVariants as call
+use Rattle.book_spec.specs.PoolHistory.{told}
 use Rattle.pool_core.proofs.Turning.{asked, asked_leaves}
 use Rattle.pool_core.proofs.turns.drop_volume.Goals as goal
 

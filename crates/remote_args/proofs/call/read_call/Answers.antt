@@ -1,7 +1,7 @@
 use Rattle.std.proofs.Common.{arith, subst}
 use Rattle.std.specs.Prelude.{IsErrOf, IsOk}
 use Rattle.virt_types.specs.Memory.{UnlessNoMemory}
-use Rattle.virt_types.specs.declared.memory.OrNoMemory.TheVariants.{NoMemory}
+use Rattle.virt_types.specs.Below.types_base.declared.memory.OrNoMemory.TheVariants.{NoMemory}
 use Rattle.procedure_spec.specs.Calls.{IsCall, call_of, in_line, line_of}
 use Rattle.procedure_spec.proofs.Called.{call_again, call_found, call_in}
 use Rattle.procedure_spec.proofs.Found.{found_by, only_by}

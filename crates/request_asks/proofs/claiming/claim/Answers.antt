@@ -2,8 +2,8 @@ use Rattle.std.proofs.Common.{◌≡◌, ◌∙◌, List, ℕ, Result, ap, subst
 use Rattle.std.specs.Result.{IfOk}
 use Rattle.outcome_spec.specs.Below.store_asks.Asks.{identifier}
 use Rattle.text_spec.specs.Fill.{IsFilledBy}
-use Rattle.virt_types.specs.declared.domain_def.DomainDef.{DomainDef}
-use Rattle.virt_types.specs.declared.memory.NoMemory.{NoMemory}
+use Rattle.virt_types.specs.Below.types_base.declared.domain_def.DomainDef.{DomainDef}
+use Rattle.virt_types.specs.Below.types_base.declared.memory.NoMemory.{NoMemory}
 use Rattle.request_asks.proofs.OwnClaims.{claims}
 use Rattle.request_asks.proofs.claiming.claim.Goals as goal
 

@@ -4,7 +4,7 @@ use Rattle.std.proofs.lemmas.Int.{to_z-of_z}
 use Rattle.outcome_spec.specs.Below.domain_requests.Requests.{Fails}
 use Rattle.session_spec.specs.Refused.{refusal}
 use Rattle.session_spec.specs.Bounds.{passed}
-use Rattle.virt_types.specs.declared.refusal.RefusalCode.TheVariants as code
+use Rattle.virt_types.specs.Below.types_base.declared.refusal.RefusalCode.TheVariants as code
 use Rattle.virt_types.specs.declared.request.Request.TheVariants as request
 use Rattle.request_asks.specs.Said.{IsSaid}
 use Rattle.request_asks.specs.declared.asked.Asked.TheVariants as asked

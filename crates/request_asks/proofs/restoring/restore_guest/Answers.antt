@@ -2,7 +2,7 @@ use Rattle.std.proofs.Common.{◌∙◌, Bool, ℕ, List, ap, inl, inr, refl, su
 use Rattle.outcome_spec.specs.Below.domain_requests.declared.task.Task.TheVariants as task
 use Rattle.text_spec.specs.Fill.{IsFilledBy}
 use Rattle.virt_types.specs.declared.call.Call.TheVariants as call
-use Rattle.virt_types.specs.declared.domain_def.DomainDef.{DomainDef}
+use Rattle.virt_types.specs.Below.types_base.declared.domain_def.DomainDef.{DomainDef}
 use Rattle.request_asks.specs.Turns.{IsRestoredGuest}
 use Rattle.request_asks.specs.declared.asked.Asked.TheVariants as asked
 use Rattle.request_asks.proofs.Drawn.{made_of_none}

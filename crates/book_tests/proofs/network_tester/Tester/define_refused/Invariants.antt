@@ -1,4 +1,4 @@
-use Rattle.network_spec.specs.declared.book.NetCall.TheVariants as call
+use Rattle.book_spec.specs.declared.book.NetCall.TheVariants as call
 use Rattle.book_tests.proofs.network_tester.Tester.define_refused.Given as goal
 
 abbrev pub ghost-may_define : goal.ghost-may_define

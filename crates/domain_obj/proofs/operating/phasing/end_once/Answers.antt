@@ -3,7 +3,7 @@ use Rattle.domain_spec.specs.Fold.{at_base}
 use Rattle.domain_spec.specs.Laws.{IsCounted}
 use Rattle.domain_spec.specs.Legal.{IsLegal}
 use Rattle.domain_obj.specs.InTurn.{DomainTurn}
-use Rattle.domain_cell.specs.Celled.{cell_in}
+use Rattle.domain_core.specs.Celled.{cell_in}
 use Rattle.domain_obj.proofs.Stepped.{end_leaves, ended_once, may_end}
 use Rattle.domain_obj.proofs.operating.phasing.end_once.Goals as goal
 

@@ -3,7 +3,7 @@ use Rattle.domain_spec.specs.Fold.{at_base}
 use Rattle.domain_spec.specs.Laws.{IsCounted}
 use Rattle.domain_spec.specs.Legal.{IsLegal}
 use Rattle.domain_obj.specs.InTurn.{DomainTurn}
-use Rattle.domain_cell.specs.Celled.{cell_in}
+use Rattle.domain_core.specs.Celled.{cell_in}
 use Rattle.domain_obj.proofs.Stepped.{may_go_on, step_leaves, stepped_once}
 use Rattle.domain_obj.proofs.Turned.{chapter_below}
 use Rattle.domain_obj.proofs.operating.phasing.phase_once.Goals as goal

@@ -1,5 +1,5 @@
-use Rattle.network_spec.specs.declared.book.NetCall.TheVariants as call
-use Rattle.network_spec.specs.declared.book.NetAnswer.TheVariants.{Done}
+use Rattle.book_spec.specs.declared.book.NetCall.TheVariants as call
+use Rattle.book_spec.specs.declared.book.NetAnswer.TheVariants.{Done}
 use Rattle.net_core.proofs.book.NetBook.autostart.Given as goal
 
 abbrev pub ghost-mark_autostart_done : goal.ghost-mark_autostart_done

@@ -1,6 +1,6 @@
 use Rattle.std.proofs.Common.{sym, subst, ◌∙◌, ◌<◌, length}
-use Rattle.network_spec.specs.declared.book.NetCall.TheVariants as call
-use Rattle.network_spec.specs.declared.book.NetAnswer.TheVariants.{Done}
+use Rattle.book_spec.specs.declared.book.NetCall.TheVariants as call
+use Rattle.book_spec.specs.declared.book.NetAnswer.TheVariants.{Done}
 use Rattle.net_core.proofs.Calling.{kept-done, book-done, book-answer, after-define}
 use Rattle.net_core.proofs.book.NetBook.define.Goals as goal
 

@@ -1,5 +1,5 @@
-use Rattle.network_spec.specs.declared.book.NetCall.TheVariants as call
-use Rattle.network_spec.specs.NetHistory.{told_lease}
+use Rattle.book_spec.specs.declared.book.NetCall.TheVariants as call
+use Rattle.book_spec.specs.NetHistory.{told_lease}
 use Rattle.net_core.proofs.book.NetBook.lease.Given as goal
 
 abbrev pub ghost-mark_lease : goal.ghost-mark_lease

@@ -1,5 +1,5 @@
-use Rattle.network_spec.specs.Networks.{network_of, uuid_of}
-use Rattle.network_spec.specs.NetReads.{AreLeases}
+use Rattle.book_spec.specs.Networks.{network_of, uuid_of}
+use Rattle.book_spec.specs.NetReads.{AreLeases}
 use Rattle.net_core.proofs.Calling.{book-read}
 use Rattle.net_core.proofs.book.NetBook.leases.Goals as goal
 

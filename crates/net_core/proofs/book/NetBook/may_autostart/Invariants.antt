@@ -1,4 +1,4 @@
-use Rattle.network_spec.specs.declared.book.NetCall.TheVariants as call
+use Rattle.book_spec.specs.declared.book.NetCall.TheVariants as call
 use Rattle.net_core.specs.Answers.{tested}
 use Rattle.net_core.proofs.book.NetBook.may_autostart.Given as goal
 

@@ -1,5 +1,5 @@
 use Rattle.std.proofs.Common.{sym, subst, ◌<◌, length}
-use Rattle.network_spec.specs.declared.book.NetAnswer.TheVariants.{Refused}
+use Rattle.book_spec.specs.declared.book.NetAnswer.TheVariants.{Refused}
 use Rattle.net_core.proofs.Calling.{kept-done, refused-same}
 use Rattle.net_core.proofs.book.NetBook.refuse.Goals as goal
 

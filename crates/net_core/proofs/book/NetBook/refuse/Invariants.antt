@@ -1,4 +1,4 @@
-use Rattle.network_spec.specs.declared.book.NetAnswer.TheVariants.{Refused}
+use Rattle.book_spec.specs.declared.book.NetAnswer.TheVariants.{Refused}
 use Rattle.net_core.proofs.book.NetBook.refuse.Given as goal
 
 abbrev pub ghost-mark_refused : goal.ghost-mark_refused

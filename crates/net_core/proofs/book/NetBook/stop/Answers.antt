@@ -1,4 +1,4 @@
-use Rattle.network_spec.specs.declared.book.NetCall.TheVariants as call
+use Rattle.book_spec.specs.declared.book.NetCall.TheVariants as call
 use Rattle.net_core.proofs.Calling.{kept-called, book-called}
 use Rattle.net_core.proofs.book.NetBook.stop.Goals as goal
 

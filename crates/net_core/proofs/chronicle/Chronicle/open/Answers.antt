@@ -1,5 +1,5 @@
 use Rattle.std.proofs.Common.{sym, ◌∙◌, ap, subst, ◌≤◌, ◌<◌}
-use Rattle.network_spec.specs.NetHistory.{open_chapter}
+use Rattle.book_spec.specs.NetHistory.{open_chapter}
 use Rattle.net_core.proofs.Chronicles.{opens_next, opens_same}
 use Rattle.net_core.proofs.chronicle.Chronicle.open.Goals as goal
 

@@ -1,5 +1,5 @@
 use Rattle.std.proofs.Common.{[], ◌+◌}
-use Rattle.network_spec.specs.NetHistory.{networks_of}
+use Rattle.book_spec.specs.NetHistory.{networks_of}
 use Rattle.net_core.proofs.chronicle.Chronicle.open.Given as goal
 
 abbrev pub ghost-next_chapter : goal.ghost-next_chapter

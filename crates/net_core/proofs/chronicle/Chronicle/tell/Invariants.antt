@@ -1,4 +1,4 @@
-use Rattle.network_spec.specs.NetHistory.{with_mark}
+use Rattle.book_spec.specs.NetHistory.{with_mark}
 use Rattle.net_core.proofs.chronicle.Chronicle.tell.Given as goal
 
 abbrev pub ghost-told_more : goal.ghost-told_more

@@ -1,6 +1,6 @@
 use Rattle.std.proofs.Common.{◌≡◌, Some, sym, ◌∙◌, subst}
-use Rattle.network_spec.specs.declared.book.Network.{Network}
-use Rattle.network_spec.specs.Leases.{address_for}
+use Rattle.book_spec.specs.declared.book.Network.{Network}
+use Rattle.book_spec.specs.Leases.{address_for}
 use Rattle.net_core.proofs.Leasing.{address-leased}
 use Rattle.net_core.proofs.entry.Entry.lease.Goals as goal
 

@@ -1,7 +1,7 @@
 use Rattle.std.proofs.Common.{◌≡◌, ◌+◌, ℕ, List, None, Some, true, false, sym, ap, ◌∙◌, subst}
 use Rattle.virt_types.specs.declared.value.LeaseRow.{LeaseRow}
-use Rattle.network_spec.specs.declared.book.Network.{Network}
-use Rattle.network_spec.specs.Leases.{address_for, bounds_of, dhcp_of, leased_to, lines_of, is_hosted}
+use Rattle.book_spec.specs.declared.book.Network.{Network}
+use Rattle.book_spec.specs.Leases.{address_for, bounds_of, dhcp_of, leased_to, lines_of, is_hosted}
 use Rattle.net_core.specs.Entries.{KeepsNext}
 use Rattle.net_core.proofs.Leasing.{keeps-free, keeps-hosted, address-free}
 use Rattle.net_core.proofs.entry.Entry.lease_new.Goals as goal

@@ -1,6 +1,6 @@
 use Rattle.std.proofs.Common.{◌≡◌, None, subst}
-use Rattle.network_spec.specs.declared.book.Network.{Network}
-use Rattle.network_spec.specs.Leases.{least_free, range_of, hosts_of}
+use Rattle.book_spec.specs.declared.book.Network.{Network}
+use Rattle.book_spec.specs.Leases.{least_free, range_of, hosts_of}
 use Rattle.net_core.proofs.Leasing.{least-none, least-some}
 use Rattle.net_core.proofs.entry.Entry.least_free.Goals as goal
 

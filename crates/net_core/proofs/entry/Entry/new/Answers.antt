@@ -1,4 +1,4 @@
-use Rattle.network_spec.specs.Leases.{bounds_of, dhcp_of, lines_of}
+use Rattle.book_spec.specs.Leases.{bounds_of, dhcp_of, lines_of}
 use Rattle.net_core.proofs.Leasing.{keeps-new}
 use Rattle.net_core.proofs.entry.Entry.new.Goals as goal
 

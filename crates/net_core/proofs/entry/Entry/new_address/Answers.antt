@@ -1,6 +1,6 @@
 use Rattle.std.proofs.Common.{◌≡◌, Some, None, sym, ap, ◌∙◌, subst}
-use Rattle.network_spec.specs.declared.book.Network.{Network}
-use Rattle.network_spec.specs.Leases.{address_for, hosted_for, hosts_of, leased_to, least_free, range_of}
+use Rattle.book_spec.specs.declared.book.Network.{Network}
+use Rattle.book_spec.specs.Leases.{address_for, hosted_for, hosts_of, leased_to, least_free, range_of}
 use Rattle.net_core.proofs.Leasing.{address-hosted}
 use Rattle.net_core.proofs.entry.Entry.new_address.Goals as goal
 

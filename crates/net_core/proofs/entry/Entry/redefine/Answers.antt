@@ -1,6 +1,6 @@
 use Rattle.std.proofs.Common.{sym, subst}
-use Rattle.virt_types.specs.declared.network_def.NetDef.{NetDef}
-use Rattle.network_spec.specs.Leases.{bounds_of, dhcp_of, lines_of}
+use Rattle.virt_types.specs.Below.types_base.declared.network_def.NetDef.{NetDef}
+use Rattle.book_spec.specs.Leases.{bounds_of, dhcp_of, lines_of}
 use Rattle.net_core.specs.Entries.{KeepsNext}
 use Rattle.net_core.proofs.Leasing.{keeps-new}
 use Rattle.net_core.proofs.entry.Entry.redefine.Goals as goal

@@ -1,6 +1,6 @@
 use Rattle.std.proofs.Common.{◌≡◌, ◌++◌, ◌∷◌, [], None, ◌<◌, length, sym, ◌∙◌, subst, arith}
-use Rattle.network_spec.specs.Networks.{Networks, network_of, uuid_of}
-use Rattle.network_spec.specs.NetCalls.{with_def}
+use Rattle.book_spec.specs.Networks.{Networks, network_of, uuid_of}
+use Rattle.book_spec.specs.NetCalls.{with_def}
 use Rattle.net_core.proofs.Tabling.{change_seen, network_seen, no_network_seen, with_network-some, with_network-none, has-room}
 use Rattle.net_core.proofs.table.Table.define.Goals as goal
 

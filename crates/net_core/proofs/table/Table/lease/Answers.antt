@@ -1,7 +1,7 @@
 use Rattle.std.proofs.Common.{◌≡◌, ℕ, Option, None, Some, sym, ap, ◌∙◌}
-use Rattle.network_spec.specs.declared.book.Network.{Network}
-use Rattle.network_spec.specs.Leases.{with_lease}
-use Rattle.network_spec.specs.Networks.{name_of, network_of}
+use Rattle.book_spec.specs.declared.book.Network.{Network}
+use Rattle.book_spec.specs.Leases.{with_lease}
+use Rattle.book_spec.specs.Networks.{name_of, network_of}
 use Rattle.net_core.specs.Entries.{with_address}
 use Rattle.net_core.proofs.Tabling.{after-lease, change_seen, lease-absent, lease-given, lease-inactive, network_seen, no_network_seen, same_one}
 use Rattle.net_core.proofs.table.Table.lease.Goals as goal

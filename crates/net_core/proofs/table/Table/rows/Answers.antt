@@ -3,8 +3,8 @@ use Rattle.std.specs.Cmp.Lexicographic.{nat_list_cmp_total, slice_cmp}
 use Rattle.std.specs.List.Sorted.{IsPermutation, IsSortedBy}
 use Rattle.std.specs.Ordering.{is_lt, nat_cmp}
 use Rattle.std.proofs.lemmas.List.Sorted.{answers_always, ranks_by}
-use Rattle.network_spec.specs.declared.rows.NetRow.{NetRow}
-use Rattle.network_spec.specs.NetReads.{row_of}
+use Rattle.book_spec.specs.declared.rows.NetRow.{NetRow}
+use Rattle.book_spec.specs.NetReads.{row_of}
 use Rattle.net_core.proofs.table.Table.rows.Goals as goal
 
 pub returns : goal.returns

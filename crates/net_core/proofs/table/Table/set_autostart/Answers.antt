@@ -1,5 +1,5 @@
-use Rattle.network_spec.specs.Networks.{uuid_of}
-use Rattle.network_spec.specs.NetCalls.{with_autostart}
+use Rattle.book_spec.specs.Networks.{uuid_of}
+use Rattle.book_spec.specs.NetCalls.{with_autostart}
 use Rattle.net_core.proofs.Tabling.{change_seen, none_seen}
 use Rattle.net_core.proofs.table.Table.set_autostart.Goals as goal
 

@@ -1,5 +1,5 @@
 use Rattle.std.proofs.Common.{subst, ◌∙◌, ap}
-use Rattle.virt_types.specs.Memory.{UnlessNoMemory}
+use Rattle.types_base.specs.Memory.{UnlessNoMemory}
 use Rattle.book_spec.specs.declared.list.ListCall.TheVariants as call
 use Rattle.book_spec.specs.ListCalls.{answer}
 use Rattle.book_spec.specs.ListHistory.{slots_of}

@@ -1,5 +1,5 @@
 use Rattle.std.proofs.Common.{refl, sym, ap, ◌∙◌, List}
-use Rattle.virt_types.specs.Room.{Roomy}
+use Rattle.types_base.specs.Room.{Roomy}
 use Rattle.pass_rows.specs.Rows.{PassRow, IsIdleRow}
 use Rattle.pass_rows.proofs.Idle.{one_more, all_are}
 use Rattle.pass_rows.proofs.row_list.RowListOf.is_idle.Goals as goal

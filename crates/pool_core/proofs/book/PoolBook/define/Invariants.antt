@@ -1,5 +1,5 @@
-use Rattle.pool_spec.specs.declared.book.PoolCall.TheVariants as call
-use Rattle.pool_spec.specs.declared.book.PoolAnswer.TheVariants.{Done}
+use Rattle.book_spec.specs.declared.pool_book.PoolCall.TheVariants as call
+use Rattle.book_spec.specs.declared.pool_book.PoolAnswer.TheVariants.{Done}
 use Rattle.pool_core.proofs.book.PoolBook.define.Given as goal
 
 abbrev pub ghost-mark_def_done : goal.ghost-mark_def_done

@@ -1,6 +1,6 @@
-use Rattle.pool_spec.specs.Pools.{pool_of, uuid_of}
-use Rattle.pool_spec.specs.PoolReads.{described}
-use Rattle.pool_table.specs.Answers.{IsSame}
+use Rattle.book_spec.specs.Pools.{pool_of, uuid_of}
+use Rattle.book_spec.specs.PoolReads.{described}
+use Rattle.pool_core.specs.Answers.{IsSame}
 use Rattle.pool_core.proofs.Calling.{book-read}
 use Rattle.pool_core.proofs.book.PoolBook.desc.Goals as goal
 

@@ -1,6 +1,6 @@
 use Rattle.std.proofs.Common.{subst}
-use Rattle.virt_types.specs.declared.storage_def.VolDef.{VolDef}
-use Rattle.pool_spec.specs.declared.book.PoolCall.TheVariants as call
+use Rattle.virt_types.specs.Below.types_base.declared.storage_def.VolDef.{VolDef}
+use Rattle.book_spec.specs.declared.pool_book.PoolCall.TheVariants as call
 use Rattle.pool_core.specs.Marks.{Leaves, tested}
 use Rattle.pool_core.proofs.Calling.{kept-called, book-called}
 use Rattle.pool_core.proofs.book.PoolBook.make_volume.Goals as goal

@@ -1,4 +1,4 @@
-use Rattle.pool_spec.specs.declared.book.PoolCall.TheVariants as call
+use Rattle.book_spec.specs.declared.pool_book.PoolCall.TheVariants as call
 use Rattle.pool_core.specs.Marks.{tested}
 use Rattle.pool_core.proofs.book.PoolBook.may_autostart.Given as goal
 

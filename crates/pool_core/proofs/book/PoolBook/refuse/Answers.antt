@@ -1,5 +1,5 @@
 use Rattle.std.proofs.Common.{sym, subst, ◌<◌, length}
-use Rattle.pool_spec.specs.declared.book.PoolAnswer.TheVariants.{Refused}
+use Rattle.book_spec.specs.declared.pool_book.PoolAnswer.TheVariants.{Refused}
 use Rattle.pool_core.proofs.Calling.{kept-done, refused-same}
 use Rattle.pool_core.proofs.book.PoolBook.refuse.Goals as goal
 

@@ -1,4 +1,4 @@
-use Rattle.pool_spec.specs.declared.book.PoolAnswer.TheVariants.{Refused}
+use Rattle.book_spec.specs.declared.pool_book.PoolAnswer.TheVariants.{Refused}
 use Rattle.pool_core.proofs.book.PoolBook.refuse.Given as goal
 
 abbrev pub ghost-mark_refused : goal.ghost-mark_refused

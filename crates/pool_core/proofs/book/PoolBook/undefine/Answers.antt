@@ -1,6 +1,6 @@
 use Rattle.std.proofs.Common.{sym, subst, ◌∙◌, ◌<◌, length}
-use Rattle.pool_spec.specs.declared.book.PoolCall.TheVariants as call
-use Rattle.pool_spec.specs.declared.book.PoolAnswer.TheVariants.{Done}
+use Rattle.book_spec.specs.declared.pool_book.PoolCall.TheVariants as call
+use Rattle.book_spec.specs.declared.pool_book.PoolAnswer.TheVariants.{Done}
 use Rattle.pool_core.proofs.Calling.{kept-done, book-done, after-undefine}
 use Rattle.pool_core.proofs.book.PoolBook.undefine.Goals as goal
 

@@ -1,6 +1,6 @@
-use Rattle.pool_spec.specs.Pools.{pool_of, uuid_of}
-use Rattle.pool_spec.specs.PoolReads.{volume_in, volumes_in}
-use Rattle.pool_table.specs.Answers.{IsSame}
+use Rattle.book_spec.specs.Pools.{pool_of, uuid_of}
+use Rattle.book_spec.specs.PoolReads.{volume_in, volumes_in}
+use Rattle.pool_core.specs.Answers.{IsSame}
 use Rattle.pool_core.proofs.Calling.{book-read}
 use Rattle.pool_core.proofs.book.PoolBook.volume.Goals as goal
 

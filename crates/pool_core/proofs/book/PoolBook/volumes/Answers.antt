@@ -1,5 +1,5 @@
-use Rattle.pool_spec.specs.Pools.{pool_of, uuid_of}
-use Rattle.pool_spec.specs.PoolReads.{AreNames, volumes_in}
+use Rattle.book_spec.specs.Pools.{pool_of, uuid_of}
+use Rattle.book_spec.specs.PoolReads.{AreNames, volumes_in}
 use Rattle.pool_core.proofs.Calling.{book-read}
 use Rattle.pool_core.proofs.book.PoolBook.volumes.Goals as goal
 

@@ -1,5 +1,5 @@
 use Rattle.std.proofs.Common.{sym, ◌∙◌, ap, subst, ◌≤◌, ◌<◌}
-use Rattle.pool_spec.specs.PoolHistory.{open_chapter}
+use Rattle.book_spec.specs.PoolHistory.{open_chapter}
 use Rattle.pool_core.proofs.Chronicles.{opens_next, opens_same}
 use Rattle.pool_core.proofs.chronicle.Chronicle.open.Goals as goal
 

@@ -1,5 +1,5 @@
 use Rattle.std.proofs.Common.{[], ◌+◌}
-use Rattle.pool_spec.specs.PoolHistory.{pools_of}
+use Rattle.book_spec.specs.PoolHistory.{pools_of}
 use Rattle.pool_core.proofs.chronicle.Chronicle.open.Given as goal
 
 abbrev pub ghost-next_chapter : goal.ghost-next_chapter

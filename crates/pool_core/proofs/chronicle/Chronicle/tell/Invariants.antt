@@ -1,4 +1,4 @@
-use Rattle.pool_spec.specs.PoolHistory.{with_mark}
+use Rattle.book_spec.specs.PoolHistory.{with_mark}
 use Rattle.pool_core.proofs.chronicle.Chronicle.tell.Given as goal
 
 abbrev pub ghost-told_more : goal.ghost-told_more

@@ -1,0 +1,4 @@
+-- Libraries below this one that are passed on: crates above name them here.
+pub use Rattle.core_flight.proofs.Below.core_plan as core_plan
+pub use Rattle.core_flight.proofs.Below.core_chapter as core_chapter
+pub use Rattle.core_flight.proofs as core_flight

@@ -1,0 +1,15 @@
+pub mod Along
+pub mod Away
+pub mod AwayLaws
+pub mod Below
+pub mod Copying
+pub mod Going
+pub mod PhaseAway
+pub mod PhaseCopying
+pub mod PhaseGoing
+pub mod PhaseLaws
+pub mod PhaseProbing
+pub mod Probing
+pub mod Starving
+pub use Rattle.core_mark_laws.specs.Guests
+pub use Rattle.core_mark_laws.specs.Tidy

@@ -1,4 +1,0 @@
-use Rattle.counter_tenant.proofs.turns.add_as.Given as goal
-
-abbrev pub ghost-add : goal.ghost-add
-ghost-add g a = g.number

@@ -1,6 +1,0 @@
-use Rattle.std.proofs.Common.{arith}
-use Rattle.definition_print.proofs.Pieces.{spelled}
-use Rattle.definition_print.proofs.bytes.after_name.Goals as goal
-
-pub returns : goal.returns
-returns c = omega (arith, spelled c.args.name.now c.utf8.name, c.saturating_sub.ensures)

@@ -1,5 +1,0 @@
-use Rattle.domain_asks.proofs.Staying.{end_keeps}
-use Rattle.domain_asks.proofs.call_laws.ends_of_operations_keep.Goals as goal
-
-pub returns : goal.returns
-returns c = end_keeps

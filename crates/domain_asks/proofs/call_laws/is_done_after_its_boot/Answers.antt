@@ -1,5 +1,0 @@
-use Rattle.domain_asks.proofs.Finishing.{is_done_ended}
-use Rattle.domain_asks.proofs.call_laws.is_done_after_its_boot.Goals as goal
-
-pub returns : goal.returns
-returns c = is_done_ended

@@ -1,5 +1,0 @@
-use Rattle.domain_asks.proofs.Finishing.{done_at_once}
-use Rattle.domain_asks.proofs.call_laws.is_done_at_once.Goals as goal
-
-pub returns : goal.returns
-returns c = done_at_once

@@ -1,5 +1,0 @@
-use Rattle.domain_asks.proofs.Planning.{one_planned}
-use Rattle.domain_asks.proofs.call_laws.is_planned_by_one.Goals as goal
-
-pub returns : goal.returns
-returns c = one_planned

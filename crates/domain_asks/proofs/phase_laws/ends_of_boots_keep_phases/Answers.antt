@@ -1,5 +1,0 @@
-use Rattle.domain_asks.proofs.Keeping.{phase_exit_keeps}
-use Rattle.domain_asks.proofs.phase_laws.ends_of_boots_keep_phases.Goals as goal
-
-pub returns : goal.returns
-returns c = phase_exit_keeps

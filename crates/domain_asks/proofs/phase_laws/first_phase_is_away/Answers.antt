@@ -1,5 +1,0 @@
-use Rattle.domain_asks.proofs.PhaseGoing.{first_phase_is_away}
-use Rattle.domain_asks.proofs.phase_laws.first_phase_is_away.Goals as goal
-
-pub returns : goal.returns
-returns c = first_phase_is_away

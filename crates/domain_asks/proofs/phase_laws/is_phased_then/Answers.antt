@@ -1,5 +1,0 @@
-use Rattle.domain_asks.proofs.PhaseGoing.{is_phased_then}
-use Rattle.domain_asks.proofs.phase_laws.is_phased_then.Goals as goal
-
-pub returns : goal.returns
-returns c = is_phased_then

@@ -1,5 +1,0 @@
-use Rattle.domain_asks.proofs.Phasing.{is_phased_live}
-use Rattle.domain_asks.proofs.phase_laws.is_phased_while_live.Goals as goal
-
-pub returns : goal.returns
-returns c = is_phased_live

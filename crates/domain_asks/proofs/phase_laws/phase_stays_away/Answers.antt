@@ -1,5 +1,0 @@
-use Rattle.domain_asks.proofs.PhaseGoing.{phase_stays_away}
-use Rattle.domain_asks.proofs.phase_laws.phase_stays_away.Goals as goal
-
-pub returns : goal.returns
-returns c = phase_stays_away

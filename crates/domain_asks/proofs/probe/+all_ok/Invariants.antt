@@ -1,4 +1,0 @@
-use Rattle.domain_asks.proofs.probe.+all_ok.Given as goal
-
-abbrev pub decreases-all_ok : goal.decreases-all_ok
-decreases-all_ok l = l.count

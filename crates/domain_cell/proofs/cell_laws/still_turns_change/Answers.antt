@@ -1,5 +1,0 @@
-use Rattle.domain_cell.proofs.Changing.{still_turns_change}
-use Rattle.domain_cell.proofs.cell_laws.still_turns_change.Goals as goal
-
-pub returns : goal.returns
-returns c = still_turns_change

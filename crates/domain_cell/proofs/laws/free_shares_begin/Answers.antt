@@ -1,5 +1,0 @@
-use Rattle.domain_cell.proofs.Shares.{free_begin}
-use Rattle.domain_cell.proofs.laws.free_shares_begin.Goals as goal
-
-pub returns : goal.returns
-returns c = free_begin

@@ -1,5 +1,0 @@
-use Rattle.domain_cell.proofs.Shares.{free_look}
-use Rattle.domain_cell.proofs.laws.free_shares_look.Goals as goal
-
-pub returns : goal.returns
-returns c = free_look

@@ -1,5 +1,0 @@
-use Rattle.domain_cell.proofs.Shares.{free_take_up}
-use Rattle.domain_cell.proofs.laws.free_shares_take_up.Goals as goal
-
-pub returns : goal.returns
-returns c = free_take_up

@@ -1,5 +1,0 @@
-use Rattle.domain_cell.proofs.Shares.{open_back}
-use Rattle.domain_cell.proofs.laws.open_shares_go_back.Goals as goal
-
-pub returns : goal.returns
-returns c = open_back

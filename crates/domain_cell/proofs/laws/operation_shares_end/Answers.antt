@@ -1,5 +1,0 @@
-use Rattle.domain_cell.proofs.Shares.{share_end}
-use Rattle.domain_cell.proofs.laws.operation_shares_end.Goals as goal
-
-pub returns : goal.returns
-returns c = share_end

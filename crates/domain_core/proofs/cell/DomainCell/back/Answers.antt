@@ -1,0 +1,32 @@
+use Rattle.std.proofs.Common.{is_some, sym, ap, ◌∙◌, subst}
+use Rattle.domain_core.specs.Celled.{Celled, cell_in}
+use Rattle.domain_core.specs.Linked.{has_monitor}
+use Rattle.domain_core.specs.Tickets.{IsAnswered, back_ticket}
+use Rattle.domain_core.proofs.Handing.{back_handed, may_go_back, ticket_has}
+use Rattle.domain_core.proofs.cell.DomainCell.back.Goals as goal
+
+pub back-left-requires-clause-may : goal.back-left-requires-clause-may
+back-left-requires-clause-may g c =
+    let a = c.args in
+    let i = c.self.inside in
+    may_go_back i.turns.turning i.out i.link (is_some a.ticket.monitor) a.answer (is_some a.made) c.self.invariant (c.requires.ticket ∙ ap (λ (v : Celled). is_some v.out) (sym c.self.view_is))
+    (subst (λ (v : Celled). IsAnswered (cell_in v) (is_some a.ticket.monitor) a.answer (is_some a.made)) (sym c.self.view_is) c.requires.answered)
+
+pub invariant_of-self : goal.invariant_of-self
+invariant_of-self g c =
+    let a = c.args in
+    let i = c.self.inside in
+    let l = c.back-left in
+    let h = c.hand_back in
+    (back_handed i.turns.turning l.new.self.turning a.by.number a.answer (is_some a.ticket.monitor) (is_some a.made) l.result h.result i.out h.new.out c.made-now.result c.heard.result i.link c.put_monitor.new.link c.keep_or_take.new.link h.new.link
+    (subst (λ (v : Celled). IsAnswered (cell_in v) (is_some a.ticket.monitor) a.answer (is_some a.made)) (sym c.self.view_is) c.requires.answered) c.self.invariant l.ensures.back h.ensures.same c.made-now.ensures c.heard.ensures c.put_monitor.ensures c.keep_or_take.ensures h.ensures.link h.ensures.out).cell
+
+pub returns-clause-ticket : goal.returns-clause-ticket
+returns-clause-ticket g c =
+    let a = c.args in
+    let i = c.self.inside in
+    let l = c.back-left in
+    let h = c.hand_back in
+    ticket_has (back_ticket h.result) (has_monitor c.keep_or_take.new.link) (is_some h.new.out) h.ensures.ticket
+    (back_handed i.turns.turning l.new.self.turning a.by.number a.answer (is_some a.ticket.monitor) (is_some a.made) l.result h.result i.out h.new.out c.made-now.result c.heard.result i.link c.put_monitor.new.link c.keep_or_take.new.link h.new.link
+    (subst (λ (v : Celled). IsAnswered (cell_in v) (is_some a.ticket.monitor) a.answer (is_some a.made)) (sym c.self.view_is) c.requires.answered) c.self.invariant l.ensures.back h.ensures.same c.made-now.ensures c.heard.ensures c.put_monitor.ensures c.keep_or_take.ensures h.ensures.link h.ensures.out).monitor

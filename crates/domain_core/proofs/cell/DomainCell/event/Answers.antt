@@ -1,0 +1,10 @@
+use Rattle.domain_spec.specs.declared.core_step.CoreStep.TheVariants as step
+use Rattle.domain_core.proofs.Handing.{aside_kept}
+use Rattle.domain_core.proofs.cell.DomainCell.event.Goals as goal
+
+pub invariant_of-self : goal.invariant_of-self
+invariant_of-self g c =
+    let a = c.args in
+    let i = c.self.inside in
+    let takes = c.event-can_hold.ensures.happens in
+    aside_kept i.turns.turning c.event-can_hold.new.self.turning (step.Event a.boot a.event) takes.0 i.out c.made.result i.link c.keep.new.link tt takes.1 c.self.invariant c.made.ensures c.keep.ensures

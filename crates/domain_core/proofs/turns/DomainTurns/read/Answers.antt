@@ -1,0 +1,13 @@
+use Rattle.std.proofs.Common.{◌≡◌, IfOk, ap, ◌∙◌, subst}
+use Rattle.domain_spec.specs.Read.{read}
+use Rattle.domain_spec.specs.Types.{State}
+use Rattle.domain_spec.specs.declared.standing.Standing.{Standing}
+use Rattle.domain_core.proofs.Shown.{force_shown}
+use Rattle.domain_core.proofs.turns.DomainTurns.read.Goals as goal
+
+pub returns : goal.returns
+returns c =
+    let i = c.self.inside in
+    subst (λ (s : State). IfOk c.read.result (λ it. it ≡ read s c.args.query.now))
+    (c.state.ensures.state ∙ ap (λ (s : Standing). s.state) (force_shown c.args.self.now i.kept i.queue i.held.items i.ears i.excluded c.self.view_is))
+    c.read.ensures

@@ -1,0 +1,141 @@
+// A domain's cell: a domain between two turns, with the link of its guest.
+ghost use Rattle.std.specs.Prelude.{◌≡◌, IfOk, is_some, length};
+ghost use Rattle.core_steps.specs.Resting.{rested_in};
+ghost use Rattle.core_steps.specs.OfLedger.{IsToldAtEnd};
+ghost use Rattle.domain_spec.specs.Fold.{at_base};
+ghost use Rattle.domain_spec.specs.Laws.{IsCounted};
+ghost use Rattle.domain_spec.specs.Legal.{IsLegal};
+ghost use Rattle.domain_spec.specs.Read.{read};
+ghost use Rattle.core_steps.specs.Places.{last_place};
+ghost use Rattle.domain_core.specs.Core.{is_occupied};
+ghost use Rattle.domain_core.specs.Celled.{cell_in, new_cell, standing_in};
+ghost use Rattle.domain_core.specs.Meaning.{history_of};
+ghost use Rattle.domain_core.specs.Held.{IsOutWith};
+ghost use Rattle.core_step_laws.specs.Steady.{IsSteady};
+
+use crate::{DomainTurns, Here};
+use core_steps::Chronicle;
+use monitor_link::{Ears, Killer, Monitor};
+use std::alloc::Global;
+use std::marker::Model;
+use virt_types::{DomainDef, Front, NoMemory, Query, Reply, State};
+
+/// A domain between two turns, with the link of the guest that is there: each turn of a call, an operation, the guest
+/// or a client is one step of it. The guest's monitor goes out with the ticket of the open call; its ears with a pass
+/// that hears.
+#[derive(Drop)]
+pub struct DomainCell<M, E, Z> {
+    pub(crate) turns: DomainTurns,
+    pub(crate) link: Option<Here<M, E, Z>>,
+    pub(crate) out: Option<u64>,
+}
+
+impl<M, E, Z> Model for DomainCell<M, E, Z> {
+    ghost use Rattle.domain_core.specs.Celled.{Celled, IsCell};
+
+    ghost Value = { Celled };
+
+    ghost view = { λ c. record { core = c.turns; out = c.out } };
+
+    ghost invariant = { λ c. IsCell c.turns.turning c.out c.link };
+}
+
+impl<M: Monitor + Drop, E: Ears + Drop, Z: Killer + Drop> DomainCell<M, E, Z> {
+    /// A domain as the store was opened: with this stored definition and its autostart, or vacant. Nobody waits
+    /// or is registered.
+    pub fn new(
+        alloc: Global,
+        stored: Option<DomainDef>,
+        autostart: bool,
+    ) -> Result<DomainCell<M, E, Z>, NoMemory>
+        ensures { IfOk result (λ c. c ≡ new_cell stored autostart) }
+    {
+        Ok(DomainCell {
+            turns: DomainTurns::new(alloc, stored, autostart)?,
+            link: None,
+            out: None,
+        })
+    }
+
+    /// The number of the chapter.
+    pub fn chapter(&self) -> u64
+        ensures { result ≡ self.now.core.turning.chapter }
+    {
+        self.turns.chapter()
+    }
+
+    /// How many marks the chapter has.
+    pub fn len(&self) -> usize
+        ensures { result ≡ length (cell_in self.now).marks }
+    {
+        self.turns.len()
+    }
+
+    /// The state of the domain.
+    pub fn state(&self) -> &State
+        ensures { result.now ≡ (standing_in self.now).state }
+    {
+        self.turns.state()
+    }
+
+    /// What a query reads of the domain, as its state has it.
+    pub fn read(&self, alloc: Global, query: &Query) -> Result<Reply, NoMemory>
+        ensures { IfOk result (λ it. it ≡ read (standing_in self.now).state query.now) }
+    {
+        self.turns.read(alloc, query)
+    }
+
+    /// Whether there is a domain, or an operation rests.
+    pub fn occupied(&self) -> bool
+        ensures { result ≡ is_occupied (standing_in self.now) }
+    {
+        self.turns.occupied()
+    }
+
+    /// Whether a normal job is open: a call, or a phase, waits for an answer.
+    pub fn has_job(&self) -> bool
+        ensures { result ≡ is_some (standing_in self.now).job }
+    {
+        self.turns.has_job()
+    }
+
+    /// The reply of the phase that led the operation to rest: what the call is told that came so far, or, where there
+    /// is no memory for one more copy of it, that.
+    pub fn rest_reply(&self, alloc: Global) -> Reply
+        ensures { IsToldAtEnd (rested_in (standing_in self.now).operation) result }
+    {
+        self.turns.rest_reply(alloc)
+    }
+
+    /// The place of the chapter's last mark that is no boot's end, no guest's event and no cut; before all marks
+    /// where there is none.
+    pub fn last(&self) -> Front
+        ensures chapter { result.chapter ≡ self.now.core.turning.chapter }
+        ensures marks { result.marks ≡ last_place (cell_in self.now).marks }
+    {
+        self.turns.last()
+    }
+
+    /// The history of the chapter by itself, once nothing more happens.
+    pub fn into_history(self) -> Chronicle
+        ensures { result ≡ history_of self }
+    {
+        let DomainCell {
+            turns,
+            link: _,
+            out: _,
+        } = self;
+        turns.into_history()
+    }
+
+    /// The history is legal and its boots are counted, what was asked stays what is asked, and a monitor is out only
+    /// while a call is open. It does nothing.
+    pub fn holds(&self)
+        ensures legal { IsLegal (at_base (cell_in self.now).base) (cell_in self.now).marks }
+        ensures counted { IsCounted (at_base (cell_in self.now).base) }
+        ensures steady { IsSteady (standing_in self.now) }
+        ensures out { IsOutWith (standing_in self.now) self.now.out }
+    {
+        let _out = self.out;
+    }
+}

@@ -1,0 +1,114 @@
+// What guests do by themselves, and the parts of their links.
+ghost use Rattle.std.specs.Prelude.{◌≡◌, IfOk, None, OnErr, length, nat_lt, true};
+ghost use Rattle.domain_spec.specs.Cell.{standing_of};
+ghost use Rattle.domain_spec.specs.Reading.{is_live};
+ghost use Rattle.domain_spec.specs.declared.core_step.CoreStep.TheVariants as step;
+ghost use Rattle.domain_core.specs.Core.{HasOut, with_ears};
+ghost use Rattle.domain_core.specs.Celled.{KeepsOtherShares, boot_to_lend, cell_in, standing_in};
+ghost use Rattle.domain_core.specs.Linked.{has_ears, link_lent};
+ghost use Rattle.domain_core.specs.Tickets.{IsHeardCounted, lent_boot};
+ghost use Rattle.core_steps.specs.Turning.{Takes};
+ghost use Rattle.core_step_laws.specs.Shares.{KeepsOthers};
+ghost use Rattle.core_steps.specs.Guests.{AreUntold, applies_now, boot_to_hear, ears_lent, event_marks, exit_marks};
+
+use crate::cell::DomainCell;
+use crate::{DomainTurns, Here, keep, kill, put_ears, take_ears};
+use history_spec::Stamp;
+use monitor_link::{Ears, Killer, Monitor};
+use std::alloc::Global;
+use virt_types::{EndReason, GuestEvent, NoMemory};
+
+// Lends the ears of the guest that is there.
+fn lend<M, E, Z>(
+    turns: &mut DomainTurns,
+    link: &mut Option<Here<M, E, Z>>,
+    alloc: Global,
+    by: Stamp,
+) -> Result<Option<(u64, E)>, NoMemory>
+    requires ears { turns.old.turning.cell.ears ≡ None → has_ears link.old ≡ true }
+    ensures boot { IfOk result (λ lent. lent_boot lent ≡ boot_to_hear (standing_of turns.old.turning.cell).state turns.old.turning.cell.held turns.old.turning.cell.ears) }
+    ensures lent { IfOk result (λ lent. turns.new.turning ≡ with_ears turns.old.turning (ears_lent by.number (lent_boot lent) turns.old.turning.cell.ears)) }
+    ensures link { IfOk result (λ lent. link.new ≡ link_lent (lent_boot lent) link.old) }
+    ensures err { OnErr result (turns.new.turning ≡ turns.old.turning) }
+    ensures stays { OnErr result (link.new ≡ link.old) }
+    ensures others { KeepsOthers by.number turns.old.turning.cell turns.new.turning.cell }
+{
+    match turns.lend_ears(alloc, by) {
+        Ok(Some(boot)) => match take_ears(link) {
+            Some(ears) => Ok(Some((boot, ears))),
+            None => unreachable!(),
+        },
+        Ok(None) => Ok(None),
+        Err(NoMemory) => Err(NoMemory),
+    }
+}
+
+impl<M: Monitor + Drop, E: Ears + Drop, Z: Killer + Drop> DomainCell<M, E, Z> {
+    /// Ends the guest that is there, without asking it; nothing where none is. It may wait for the guest.
+    pub fn kill(&mut self)
+        ensures { self.new ≡ self.old }
+    {
+        kill(&mut self.link);
+    }
+
+    /// A boot ended so, as the ears told that are out: where it is live that is marked, and its listeners hear it.
+    /// It takes no memory.
+    pub fn exit(&mut self, by: Stamp, boot: u64, why: EndReason, ears: &E)
+        requires own { HasOut by.number boot (cell_in self.old).ears }
+        requires untold { AreUntold (cell_in self.old).ears boot }
+        requires counted { IsHeardCounted (E.ends ears.now) (E.faults ears.now) why }
+        ensures exits { Takes self.old.core.turning self.new.core.turning (step.Exit boot why) (λ left. left ≡ exit_marks (is_live (standing_in self.old).state boot) boot why self.old.core.turning.listeners) }
+        ensures excluded { self.new.core.excluded ≡ None }
+        ensures out { self.new.out ≡ self.old.out }
+        ensures others { KeepsOtherShares by.number self.old self.new }
+    {
+        self.turns.exit(by, boot, why);
+        keep(&mut self.link, self.turns.made());
+    }
+
+    /// A guest did this, as the ears told that are out. An event of a boot that is not live is dropped; another
+    /// applies where no call is open, and else is held until none is. The answer is false where 64 are held. It
+    /// takes no memory.
+    pub fn event(&mut self, by: Stamp, boot: u64, event: GuestEvent) -> bool
+        requires own { HasOut by.number boot (cell_in self.old).ears }
+        requires untold { AreUntold (cell_in self.old).ears boot }
+        ensures result { result ≡ nat_lt (length (cell_in self.old).held) 64 }
+        ensures happens { Takes self.old.core.turning self.new.core.turning (step.Event boot event) (λ left. left ≡ event_marks (applies_now (standing_in self.old) (standing_in self.old).job boot) (record { boot = boot; event = event }) (standing_in self.old).state self.old.core.turning.listeners) }
+        ensures excluded { self.new.core.excluded ≡ None }
+        ensures out { self.new.out ≡ self.old.out }
+        ensures others { KeepsOtherShares by.number self.old self.new }
+    {
+        let can_hold = self.turns.event(by, boot, event);
+        keep(&mut self.link, self.turns.made());
+        can_hold
+    }
+
+    /// Lends the ears of the guest that is there to the pass of this stamp, with room for one thing that they tell.
+    /// None where no guest is there, its ears are out, or 64 events are held. It leaves no mark; where there is no
+    /// memory the ears stay.
+    pub fn lend_ears(&mut self, alloc: Global, by: Stamp) -> Result<Option<(u64, E)>, NoMemory>
+        ensures boot { IfOk result (λ lent. lent_boot lent ≡ boot_to_lend self.old) }
+        ensures lent { IfOk result (λ lent. self.new.core.turning ≡ with_ears self.old.core.turning (ears_lent by.number (lent_boot lent) (cell_in self.old).ears)) }
+        ensures err { OnErr result (self.new.core.turning ≡ self.old.core.turning) }
+        ensures out { self.new.out ≡ self.old.out }
+        ensures others { KeepsOtherShares by.number self.old self.new }
+    {
+        match self.turns.made() {
+            Some(_) => lend(&mut self.turns, &mut self.link, alloc, by),
+            None => Ok(None),
+        }
+    }
+
+    /// Takes the ears back, which were lent to the pass of this stamp; they are let go where their boot is not live
+    /// any more. It leaves no mark.
+    pub fn return_ears(&mut self, by: Stamp, boot: u64, ears: E)
+        requires own { HasOut by.number boot (cell_in self.old).ears }
+        ensures back { self.new.core.turning ≡ with_ears self.old.core.turning None }
+        ensures excluded { self.new.core.excluded ≡ None }
+        ensures out { self.new.out ≡ self.old.out }
+        ensures others { KeepsOtherShares by.number self.old self.new }
+    {
+        self.turns.return_ears(by, boot);
+        put_ears(&mut self.link, boot, ears);
+    }
+}

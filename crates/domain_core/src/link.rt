@@ -1,0 +1,152 @@
+// The link of the guest that is there.
+ghost use Rattle.std.specs.Prelude.{◌≡◌, None, Some, is_some, true};
+ghost use Rattle.domain_core.specs.Linked.{has_ears, has_monitor, kept_link, link_made, new_link, with_ears_of, with_monitor, without_ears, without_monitor};
+
+use monitor_link::{Killer, Link};
+use std::marker::Model;
+
+/// The link of a guest: its monitor goes out with the ticket of the open call, its ears with a pass that hears. Contracts
+/// see its boot, and which of the two are here.
+#[derive(Drop)]
+pub struct Here<M, E, Z> {
+    boot: u64,
+    monitor: Option<M>,
+    ears: Option<E>,
+    killer: Z,
+}
+
+impl<M, E, Z> Model for Here<M, E, Z> {
+    ghost use Rattle.std.specs.Prelude.{is_some};
+    ghost use Rattle.domain_core.specs.Linked.{Linked};
+
+    ghost Value = { Linked };
+
+    ghost view = { λ h. record { boot = h.boot; monitor = is_some h.monitor; ears = is_some h.ears } };
+}
+
+impl<M: Drop, E: Drop, Z: Drop> Here<M, E, Z> {
+    // The link of a guest that was made now. Ears of its boot can't be out already; were they, they would be the ones.
+    fn new(boot: u64, link: Link<M, E, Z>, heard: Option<u64>) -> Here<M, E, Z>
+        ensures { Some result ≡ new_link true heard boot }
+    {
+        let Link {
+            monitor,
+            ears,
+            killer,
+        } = link;
+        let ears = if heard == Some(boot) {
+            None
+        } else {
+            Some(ears)
+        };
+        Here {
+            boot,
+            monitor: Some(monitor),
+            ears,
+            killer,
+        }
+    }
+}
+
+/// The link is let go unless its guest is the one that is there.
+pub fn keep<M: Drop, E: Drop, Z: Drop>(link: &mut Option<Here<M, E, Z>>, made: Option<u64>)
+    ensures { link.new ≡ kept_link made link.old }
+{
+    let is_made = match &*link {
+        Some(here) => made == Some(here.boot),
+        None => true,
+    };
+    if !is_made {
+        *link = None;
+    }
+}
+
+// The link of a guest that was made now, if one was, where no link is here.
+fn take_new<M: Drop, E: Drop, Z: Drop>(
+    link: &mut Option<Here<M, E, Z>>,
+    boot: u64,
+    fresh: Option<Link<M, E, Z>>,
+    heard: Option<u64>,
+)
+    requires { link.old ≡ None }
+    ensures { link.new ≡ new_link (is_some fresh) heard boot }
+{
+    match fresh {
+        Some(fresh) => *link = Some(Here::new(boot, fresh, heard)),
+        None => {}
+    }
+}
+
+/// The link of the guest that is there after an answer: the one that is here, or else the one that was made now.
+pub fn keep_or_take<M: Drop, E: Drop, Z: Drop>(
+    link: &mut Option<Here<M, E, Z>>,
+    made: Option<u64>,
+    fresh: Option<Link<M, E, Z>>,
+    heard: Option<u64>,
+)
+    ensures { link.new ≡ link_made (is_some fresh) heard made link.old }
+{
+    keep(link, made);
+    match made {
+        Some(boot) if link.is_none() => take_new(link, boot, fresh, heard),
+        _ => {}
+    }
+}
+
+/// The monitor goes out.
+pub fn take_monitor<M, E, Z>(link: &mut Option<Here<M, E, Z>>) -> Option<M>
+    ensures monitor { is_some result ≡ has_monitor link.old }
+    ensures link { link.new ≡ without_monitor link.old }
+{
+    match link {
+        Some(here) => here.monitor.take(),
+        None => None,
+    }
+}
+
+/// A monitor that was out comes back, where its guest is there still.
+pub fn put_monitor<M: Drop, E, Z>(
+    link: &mut Option<Here<M, E, Z>>,
+    out: Option<u64>,
+    monitor: Option<M>,
+)
+    requires { is_some monitor ≡ is_some out }
+    ensures { link.new ≡ with_monitor out link.old }
+{
+    if let (Some(here), Some(boot)) = (link, out) {
+        if here.boot == boot {
+            here.monitor = monitor;
+        }
+    }
+}
+
+/// The ears go out.
+pub fn take_ears<M, E, Z>(link: &mut Option<Here<M, E, Z>>) -> Option<E>
+    ensures ears { is_some result ≡ has_ears link.old }
+    ensures link { link.new ≡ without_ears link.old }
+{
+    match link {
+        Some(here) => here.ears.take(),
+        None => None,
+    }
+}
+
+/// The ears of this boot come back, where its guest is there still.
+pub fn put_ears<M, E: Drop, Z>(link: &mut Option<Here<M, E, Z>>, boot: u64, ears: E)
+    ensures { link.new ≡ with_ears_of boot link.old }
+{
+    if let Some(here) = link {
+        if here.boot == boot {
+            here.ears = Some(ears);
+        }
+    }
+}
+
+/// The guest is ended without being asked.
+pub fn kill<M, E, Z: Killer>(link: &mut Option<Here<M, E, Z>>)
+    ensures { link.new ≡ link.old }
+{
+    if let Some(here) = link {
+        here.killer.kill();
+    }
+}

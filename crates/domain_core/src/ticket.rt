@@ -1,0 +1,140 @@
+// What a call, or a phase, takes along while it is away, and what its turns answer.
+ghost use Rattle.std.specs.Prelude.{◌≡◌, None, is_some, true};
+ghost use Rattle.domain_core.specs.Held.{out_by};
+ghost use Rattle.domain_core.specs.Linked.{has_monitor, link_by};
+ghost use Rattle.domain_core.specs.Tickets.{HasMonitor, back_of, back_ticket, look_ticket, looked_of, phase_ticket, phased_of};
+
+use crate::link::{Here, take_monitor};
+use core_steps::{Back as CoreBack, Looked, PhaseLook as CorePhase, Step};
+use job_rules::JobRecord;
+use virt_types::{Ask, Reply};
+
+/// What a call takes along that asks: the monitor of its domain's guest, where that is there. It comes back with the
+/// answer.
+#[derive(Drop)]
+pub struct Ticket<M> {
+    /// What sends commands to the guest.
+    pub monitor: Option<M>,
+}
+
+/// What became of a call that looked.
+#[derive(Drop)]
+pub enum Look<M> {
+    /// It is done; its caller is told this.
+    Done(Reply),
+    /// It asks this.
+    Away(Ticket<M>, Ask),
+    /// Its job is excluded, and it waits.
+    Excluded {
+        /// What is held.
+        held: JobRecord,
+        /// The live boot.
+        boot: Option<u64>,
+        /// How many of its looks found it so.
+        looks: u32,
+    },
+    /// Its job is excluded, and it may not wait, since so many others do.
+    WaitersFull(u32),
+    /// There was no memory for it, and nothing is left of it.
+    NoMemory,
+}
+
+/// What became of a due phase.
+#[derive(Drop)]
+pub enum PhaseLook<M> {
+    /// It asks this.
+    Away(Ticket<M>, Ask),
+    /// It is done, and led to this.
+    Phased(Step),
+    /// A normal job is open: nothing changed.
+    Excluded,
+    /// There was no memory even for the answer that there is none, and nothing is left of it.
+    NoMemory,
+}
+
+/// What became of a call, or a phase, whose ask was answered.
+#[derive(Drop)]
+pub enum Back<M> {
+    /// The call is done; its caller is told this.
+    Done(Reply),
+    /// It asks this next.
+    Away(Ticket<M>, Ask),
+    /// The phase is done, and led to this.
+    Phased(Step),
+}
+
+// The monitor of the guest that is there goes out.
+fn hand_ticket<M, E, Z>(
+    link: &mut Option<Here<M, E, Z>>,
+    out: &mut Option<u64>,
+    made: Option<u64>,
+) -> Ticket<M>
+    ensures monitor { is_some result.monitor ≡ has_monitor link.old }
+    ensures link { link.new ≡ link_by true link.old }
+    ensures out { out.new ≡ made }
+{
+    *out = made;
+    Ticket {
+        monitor: take_monitor(link),
+    }
+}
+
+// The same with a ticket, where it asks: with the monitor of the guest that is there.
+pub fn hand_look<M, E, Z>(
+    looked: Looked,
+    link: &mut Option<Here<M, E, Z>>,
+    out: &mut Option<u64>,
+    made: Option<u64>,
+) -> Look<M>
+    ensures same { looked_of result ≡ looked }
+    ensures ticket { HasMonitor (has_monitor link.old) (look_ticket result) }
+    ensures link { link.new ≡ link_by (is_some (look_ticket result)) link.old }
+    ensures out { out.new ≡ out_by (is_some (look_ticket result)) made out.old }
+{
+    match looked {
+        Looked::Away(ask) => Look::Away(hand_ticket(link, out, made), ask),
+        Looked::Done(reply) => Look::Done(reply),
+        Looked::Excluded { held, boot, looks } => Look::Excluded { held, boot, looks },
+        Looked::WaitersFull(waiting) => Look::WaitersFull(waiting),
+        Looked::NoMemory => Look::NoMemory,
+    }
+}
+
+// The same with a ticket, where it asks: with the monitor of the guest that is there.
+pub fn hand_phase<M, E, Z>(
+    looked: CorePhase,
+    link: &mut Option<Here<M, E, Z>>,
+    out: &mut Option<u64>,
+    made: Option<u64>,
+) -> PhaseLook<M>
+    ensures same { phased_of result ≡ looked }
+    ensures ticket { HasMonitor (has_monitor link.old) (phase_ticket result) }
+    ensures link { link.new ≡ link_by (is_some (phase_ticket result)) link.old }
+    ensures out { out.new ≡ out_by (is_some (phase_ticket result)) made out.old }
+{
+    match looked {
+        CorePhase::Away(ask) => PhaseLook::Away(hand_ticket(link, out, made), ask),
+        CorePhase::Phased(step) => PhaseLook::Phased(step),
+        CorePhase::Excluded => PhaseLook::Excluded,
+        CorePhase::NoMemory => PhaseLook::NoMemory,
+    }
+}
+
+// The same with a ticket, where it asks: with the monitor of the guest that is there.
+pub fn hand_back<M, E, Z>(
+    left: CoreBack,
+    link: &mut Option<Here<M, E, Z>>,
+    out: &mut Option<u64>,
+    made: Option<u64>,
+) -> Back<M>
+    ensures same { back_of result ≡ left }
+    ensures ticket { HasMonitor (has_monitor link.old) (back_ticket result) }
+    ensures link { link.new ≡ link_by (is_some (back_ticket result)) link.old }
+    ensures out { out.new ≡ out_by (is_some (back_ticket result)) made out.old }
+{
+    match left {
+        CoreBack::Away(ask) => Back::Away(hand_ticket(link, out, made), ask),
+        CoreBack::Done(reply) => Back::Done(reply),
+        CoreBack::Phased(step) => Back::Phased(step),
+    }
+}

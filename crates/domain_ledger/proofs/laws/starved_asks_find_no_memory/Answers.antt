@@ -1,5 +1,0 @@
-use Rattle.domain_ledger.proofs.Turned.{starved_find_none}
-use Rattle.domain_ledger.proofs.laws.starved_asks_find_no_memory.Goals as goal
-
-pub returns : goal.returns
-returns c = starved_find_none

@@ -1,5 +1,0 @@
-use Rattle.domain_ledger.proofs.Silent.{lost_phase_is_silent}
-use Rattle.domain_ledger.proofs.phase_laws.lost_phases_are_silent.Goals as goal
-
-pub returns : goal.returns
-returns c = lost_phase_is_silent

@@ -1,5 +1,0 @@
-use Rattle.domain_ledger.proofs.Operated.{refused_is_left}
-use Rattle.domain_ledger.proofs.phase_laws.refused_calls_are_left.Goals as goal
-
-pub returns : goal.returns
-returns c = refused_is_left

@@ -1,5 +1,0 @@
-use Rattle.domain_ledger.proofs.Operated.{taken_up_is_left}
-use Rattle.domain_ledger.proofs.phase_laws.taken_up_calls_are_left.Goals as goal
-
-pub returns : goal.returns
-returns c = taken_up_is_left

@@ -1,6 +1,0 @@
-pub mod Apart
-pub mod Cutting
-pub mod Each
-pub mod Hearing
-pub mod Lawful
-pub mod Places

@@ -1,9 +1,0 @@
-use Rattle.std.proofs.Common.{◌≡◌, ◌+◌, ◌≤◌, map, length}
-use Rattle.domain_listeners.specs.Each.{HeardTo}
-use Rattle.domain_listeners.specs.Listening.{cut_mark}
-use Rattle.domain_listeners.proofs.listeners.hear_each.Given as goal
-
-abbrev pub invariant-loop-listener : goal.invariant-loop-listener
-invariant-loop-listener l =
-    HeardTo l.events l.initial.listener-items l.listener-items (map cut_mark l.initial.cuts.items) (map cut_mark l.cuts.items) l.listener-index
-    × (l.cuts.cap ≡ l.initial.cuts.cap) × (l.cuts.len ≤ l.initial.cuts.len + l.listener-index)

@@ -1,6 +1,0 @@
--- The passes own nothing, so they may go to another thread.
-use denote.Param.Send.{IsSend, owning_send, sendable}
-use Rattle.domain_queue.specs.contracts.passes.Passes.{the_row, the_type}
-
-pub send : IsSend the_row
-send = owning_send the_type (search sendable, tt) (λ d. tt) (λ k x w. tt)

@@ -1,7 +1,0 @@
--- The passes own nothing, so threads may share them.
-use denote.Param.Send.{IsSync, part_keyless}
-use Rattle.domain_queue.specs.contracts.passes.Passes.{the_row}
-use Rattle.domain_queue.proofs.passes.Passes.TheSendSync.Send.{send}
-
-pub sync : IsSync the_row
-sync = record { shared = λ d b o κ q. part_keyless the_row send q d b o }

@@ -1,5 +1,0 @@
-use Rattle.std.proofs.Common.{[]}
-use Rattle.domain_queue.proofs.passes.Passes.none.Given as goal
-
-abbrev pub ghost-named : goal.ghost-named
-ghost-named a = []

@@ -1,4 +1,0 @@
-use Rattle.domain_queue.proofs.passes.after.Given as goal
-
-abbrev pub ghost-named : goal.ghost-named
-ghost-named g a = g.list

@@ -1,4 +1,0 @@
-use Rattle.domain_queue.proofs.queue.Queue.leave.Given as goal
-
-abbrev pub ghost-without : goal.ghost-without
-ghost-without g a = g.number

@@ -1,4 +1,0 @@
-use Rattle.domain_queue.proofs.queue.Queue.look.Given as goal
-
-abbrev pub ghost-with : goal.ghost-with
-ghost-with g a = g.number

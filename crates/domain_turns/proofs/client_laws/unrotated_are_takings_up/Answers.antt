@@ -1,5 +1,0 @@
-use Rattle.domain_turns.proofs.Rotated.{takings_up_are}
-use Rattle.domain_turns.proofs.client_laws.unrotated_are_takings_up.Goals as goal
-
-pub returns : goal.returns
-returns c = takings_up_are

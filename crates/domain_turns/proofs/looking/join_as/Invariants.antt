@@ -1,4 +1,0 @@
-use Rattle.domain_turns.proofs.looking.join_as.Given as goal
-
-abbrev pub ghost-look : goal.ghost-look
-ghost-look g a = g.number

@@ -1,4 +1,0 @@
-use Rattle.domain_turns.proofs.looking.leave.Given as goal
-
-abbrev pub ghost-leave_as : goal.ghost-leave_as
-ghost-leave_as a = a.by.now.number

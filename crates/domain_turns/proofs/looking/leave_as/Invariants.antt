@@ -1,4 +1,0 @@
-use Rattle.domain_turns.proofs.looking.leave_as.Given as goal
-
-abbrev pub ghost-leave : goal.ghost-leave
-ghost-leave g a = g.number

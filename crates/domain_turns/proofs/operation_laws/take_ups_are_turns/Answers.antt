@@ -1,5 +1,0 @@
-use Rattle.domain_turns.proofs.Begun.{take_ups_are}
-use Rattle.domain_turns.proofs.operation_laws.take_ups_are_turns.Goals as goal
-
-pub returns : goal.returns
-returns c = take_ups_are

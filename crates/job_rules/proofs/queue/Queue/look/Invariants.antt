@@ -1,0 +1,4 @@
+use Rattle.job_rules.proofs.queue.Queue.look.Given as goal
+
+abbrev pub ghost-with : goal.ghost-with
+ghost-with g a = g.number

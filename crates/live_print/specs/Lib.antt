@@ -1,2 +1,0 @@
-pub mod LiveText
-pub mod Last

@@ -1,6 +1,0 @@
-pub mod Networks
-pub mod Leases
-pub mod NetCalls
-pub mod NetHistory
-pub mod NetReads
-pub mod WorkedLeases

@@ -1,0 +1,22 @@
+use Rattle.std.proofs.Common.{◌≡◌, ◌++◌, ◌∷◌, [], None, ◌<◌, length, sym, ◌∙◌, subst, arith}
+use Rattle.book_spec.specs.Pools.{Pools, pool_of, uuid_of}
+use Rattle.book_spec.specs.PoolCalls.{with_def}
+use Rattle.pool_core.proofs.Tabling.{change_seen, pool_seen, no_pool_seen, with_pool-some, with_pool-none, has-room}
+use Rattle.pool_core.proofs.table.Table.define.Goals as goal
+
+pub push_reserved-requires : goal.push_reserved-requires
+push_reserved-requires c =
+    let none : pool_of uuid_of c.identifier.result c.args.self.now ≡ None = no_pool_seen uuid_of c.identifier.result c.self.inside.entries.items c.args.self.now c.as_slice.result.now c.place_of_uuid.result c.as_slice.ensures.value c.self.view_is c.place_of_uuid.ensures c.in-None.is in
+    omega (arith, c.self.inside.entries.ok.0, c.self.invariant, subst (λ (x : Pools). length x < 64) (sym c.self.view_is) (has-room c.args.def c.args.self.now c.identifier.result c.identifier.ensures none c.requires))
+
+pub returns-in-Some : goal.returns-in-Some
+returns-in-Some c =
+    change_seen uuid_of c.identifier.result c.self.inside.entries.items c.args.self.now c.as_slice.result.now c.place_of_uuid.result c.as_slice.ensures.value c.self.view_is c.place_of_uuid.ensures (with_def c.args.def) c.in-Some.place c.index_mut.result.now c.redefine.new.self c.in-Some.is c.index_mut.ensures.value c.redefine.ensures
+    ∙ with_pool-some c.args.def c.args.self.now c.identifier.result c.index_mut.result.now c.identifier.ensures
+    (pool_seen uuid_of c.identifier.result c.self.inside.entries.items c.args.self.now c.as_slice.result.now c.place_of_uuid.result c.as_slice.ensures.value c.self.view_is c.place_of_uuid.ensures c.in-Some.place c.index_mut.result.now c.in-Some.is c.index_mut.ensures.value)
+
+pub returns-in-None : goal.returns-in-None
+returns-in-None c =
+    c.push_reserved.ensures.items ∙ ((λ i. c.self.view_is i ++ c.new.ensures i ∷ [])
+    ∙ with_pool-none c.args.def c.args.self.now c.identifier.result c.identifier.ensures
+    (no_pool_seen uuid_of c.identifier.result c.self.inside.entries.items c.args.self.now c.as_slice.result.now c.place_of_uuid.result c.as_slice.ensures.value c.self.view_is c.place_of_uuid.ensures c.in-None.is))

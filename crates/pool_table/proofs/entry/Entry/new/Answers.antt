@@ -1,7 +1,0 @@
-use Rattle.std.proofs.Common.{sym, ap, ◌∙◌}
-use Rattle.pool_spec.specs.Volumes.{allocated}
-use Rattle.pool_table.proofs.VolumeSums.{allocated-none}
-use Rattle.pool_table.proofs.entry.Entry.new.Goals as goal
-
-pub invariant_of-result : goal.invariant_of-result
-invariant_of-result c = sym (ap allocated c.new.ensures.items ∙ allocated-none)

@@ -1,6 +1,0 @@
-use Rattle.std.specs.Fmt.{digits}
-use Rattle.pool_table.proofs.refusals.book_full.Goals as goal
-
-pub returns : goal.returns
-unfolding digits
-returns c = c.refused.ensures

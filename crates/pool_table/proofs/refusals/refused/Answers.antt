@@ -1,5 +1,0 @@
-use Rattle.pool_table.proofs.Reasons.{tells-why}
-use Rattle.pool_table.proofs.refusals.refused.Goals as goal
-
-pub returns : goal.returns
-returns c = tells-why _ c.why.result c.why.ensures

@@ -1,6 +1,0 @@
-use Rattle.std.proofs.Common.{◌≡◌, take, map}
-use Rattle.pool_spec.specs.PoolReads.{row_of}
-use Rattle.pool_table.proofs.table.rows_of.Given as goal
-
-abbrev pub invariant-loop-entry : goal.invariant-loop-entry
-invariant-loop-entry l = l.rows.items ≡ map row_of (take l.entry-index l.entries)

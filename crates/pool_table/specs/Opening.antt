@@ -1,7 +1,0 @@
--- The pools with which the book is opened: each is inactive and has no volumes.
-use Rattle.pool_spec.specs.declared.book.Pool.{Pool}
-use Rattle.pool_spec.specs.Pools.{new_pool}
-use Rattle.pool_table.specs.declared.found.FoundPool.{FoundPool}
-
-abbrev pub opened : FoundPool → Pool
-opened found = record (new_pool found.def) { autostart = found.autostart }

@@ -1,8 +1,0 @@
-use Rattle.std.proofs.Common.{◌∙◌, ap}
-use Rattle.uuid.specs.Text.{parsed}
-use Rattle.text_rows.proofs.Parsed.{nothing_read}
-use Rattle.text_rows.proofs.values.uuid_of.Goals as goal
-
-pub returns-in-Err : goal.returns-in-Err
-returns-in-Err c =
-    nothing_read c.in-Err.field-0 (parsed c.as_str.result.now) c.in-Err.ensures.ok ∙ ap parsed c.as_str.ensures.value

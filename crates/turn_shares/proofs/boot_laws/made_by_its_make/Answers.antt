@@ -1,5 +1,0 @@
-use Rattle.turn_shares.proofs.Made.{made_by_its_make}
-use Rattle.turn_shares.proofs.boot_laws.made_by_its_make.Goals as goal
-
-pub returns : goal.returns
-returns c = made_by_its_make

@@ -1,0 +1,9 @@
+pub mod Drawn
+pub mod Front
+pub mod Limits
+pub mod Mac
+pub mod Memory
+pub mod Name
+pub mod Refusal
+pub mod Room
+pub mod Transition

@@ -1,6 +1,0 @@
-use Rattle.std.proofs.Common.{◌≡◌, take}
-use Rattle.virt_types.proofs.list.ListOfTryCopy.copy.Given as goal
-
--- what was copied so far
-abbrev pub invariant-loop-entry : goal.invariant-loop-entry
-invariant-loop-entry g l = l.entries.items ≡ take l.entry-index l.entry-items

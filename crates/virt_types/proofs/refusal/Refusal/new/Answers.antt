@@ -1,7 +1,0 @@
-use Rattle.std.proofs.Common.{arith}
-use Rattle.virt_types.specs.Refusal.{kept_cut}
-use Rattle.virt_types.proofs.refusal.Refusal.new.Goals as goal
-
-pub returns-clause-kept : goal.returns-clause-kept
-unfolding kept_cut
-returns-clause-kept c = grind (arith, c.in_ok-copy_of.ensures, c.range.ensures.value, c.kept_length.ensures.place)

@@ -1,0 +1,2 @@
+-- Libraries below this one that are passed on: crates above name them here.
+pub use Rattle.xml_tables.specs.Below.text_laws as text_laws
