@@ -4,7 +4,7 @@ use Rattle.std.proofs.lemmas.List.{take-append-drop, take-append-le, take_min, l
 use Rattle.std.proofs.lemmas.Str.{utf8_valid_len-IsUtf8, utf8_valid_len_le}
 use Rattle.std.specs.Str.{IsUtf8}
 use Rattle.std.specs.Str.Lossy.{utf8_valid_len}
-use Rattle.virt_types.specs.Refusal.{kept_cut}
+use Rattle.virt_types.specs.Below.types_base.Refusal.{kept_cut}
 
 -- where all of it is text
 pub kept_all : (bs : List ℕ) → IsUtf8 (take 1024 bs) → take 1024 bs ≡ kept_cut bs

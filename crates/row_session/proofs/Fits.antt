@@ -9,7 +9,8 @@ use Rattle.procedure_spec.proofs.Answered.{has_result}
 use Rattle.procedure_spec.specs.Calls.{IsCall}
 use Rattle.row_session.specs.Replying.{CanReply}
 use Rattle.service_spec.specs.Sayable.{IsSayable}
-use Rattle.virt_types.specs.Refusal.{kept_cut, refusal_message}
+use Rattle.virt_types.specs.Below.types_base.Refusal.{kept_cut}
+use Rattle.virt_types.specs.Refusal.{refusal_message}
 use Rattle.virt_types.specs.Below.types_base.declared.refusal.Refusal.{Refusal}
 use Rattle.virt_types.specs.Below.types_base.declared.refusal.RefusalCode.{RefusalCode}
 use Rattle.virt_types.specs.Below.types_base.declared.refusal.RefusalCode.TheVariants as code

@@ -1,5 +1,5 @@
 use Rattle.std.proofs.Common.{arith}
-use Rattle.virt_types.specs.Refusal.{kept_cut}
+use Rattle.virt_types.specs.Below.types_base.Refusal.{kept_cut}
 use Rattle.driver_lists.proofs.titles.title_row.Goals as goal
 
 pub returns : goal.returns
