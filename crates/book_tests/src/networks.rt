@@ -1,0 +1,185 @@
+// Calls on a book of networks.
+ghost use Rattle.std.specs.Prelude.{◌<◌, ◌^◌};
+ghost use Rattle.book_spec.specs.declared.book.NetCall.{NetCall};
+ghost use Rattle.book_spec.specs.NetCalls.{IsStored};
+ghost use Rattle.book_spec.specs.NetHistory.{CanCall};
+
+use crate::calls::{Verb, Words, address_of, call_of, name_of, number_of, uuid_of};
+use crate::lines::Lines;
+use book_spec::{LeaseFault, NetRowList};
+use net_core::NetBook;
+use std::alloc::Global;
+use virt_types::{
+    AddressRange, Dhcp, HostLine, LeaseRowList, ListOf, Mac, NetDef, NetIp, NoMemory, OrNoMemory,
+    Refusal, RefusalCode, Text,
+};
+
+// The interface whose address ends with this byte.
+fn mac_of(word: &str) -> Mac {
+    Mac {
+        bytes: [0x52, 0x54, 0, 0, 0, (number_of(word) % 256) as u8],
+    }
+}
+
+// A line for 10.0.0.3, of the interface 1.
+fn hosts(alloc: Global) -> Result<ListOf<HostLine>, NoMemory> {
+    let mut hosts = ListOf::new(alloc);
+    hosts.push(HostLine {
+        mac: mac_of("1"),
+        address: 0x0a00_0003,
+    })?;
+    Ok(hosts)
+}
+
+// The network of the words of a `define`, at 10.0.0.1/16, with that host line.
+fn network(alloc: Global, words: Words<'_>) -> Result<NetDef, NoMemory> {
+    let hosts = hosts(alloc)?;
+    let name = name_of(alloc, words.first)?;
+    let range = AddressRange {
+        start: address_of(words.third),
+        end: address_of(words.fourth),
+    };
+    Ok(NetDef {
+        name,
+        uuid: Some(uuid_of(words.second)),
+        forward: None,
+        bridge: None,
+        ip: Some(NetIp {
+            address: 0x0a00_0001,
+            prefix: 16,
+            dhcp: Some(Dhcp {
+                range: Some(range),
+                hosts,
+            }),
+        }),
+    })
+}
+
+// What the store refuses with.
+fn full(alloc: Global) -> Refusal {
+    Refusal {
+        code: RefusalCode::NoMemory,
+        kept: Text::of(String::new(alloc)),
+    }
+}
+
+fn define(book: &mut NetBook, def: NetDef) -> Result<(), Refusal>
+    requires { book.old.chapter < 2 ^ 62 }
+{
+    book.may_define(&def)?;
+    book.define(def)
+}
+
+// The store refused the definition of this network.
+fn refuse(book: &mut NetBook, _def: &NetDef, refusal: Refusal)
+    ghost asked: { NetCall }
+    requires stored { IsStored asked }
+    requires can { CanCall asked book.old }
+{
+    book.refuse(refusal);
+}
+
+// Where the network may be defined, the store refuses.
+fn define_refused(alloc: Global, book: &mut NetBook, def: NetDef) -> Result<(), Refusal>
+    requires { book.old.chapter < 2 ^ 62 }
+{
+    book.may_define(&def)?;
+    refuse(book, &def, full(alloc));
+    Ok(())
+}
+
+fn put_lease(lines: &mut Lines, answer: Result<u32, OrNoMemory<LeaseFault>>) {
+    match answer {
+        Ok(address) => lines.put_address(address),
+        Err(OrNoMemory::Fault(LeaseFault::Class(class))) => {
+            lines.put(" class");
+            lines.put_number(class as u64);
+        }
+        Err(OrNoMemory::NoMemory) => lines.lose(),
+    }
+}
+
+fn put_leases(lines: &mut Lines, answer: Result<LeaseRowList, Refusal>) {
+    match answer {
+        Ok(rows) => {
+            for row in rows.as_slice() {
+                lines.put_number(row.mac.bytes[5] as u64);
+                lines.put_address(row.address);
+            }
+        }
+        Err(refusal) => lines.put_refusal(&refusal),
+    }
+}
+
+fn put_list(lines: &mut Lines, answer: Result<NetRowList, NoMemory>, marks: u64) {
+    match answer {
+        Ok(rows) => {
+            for row in rows.as_slice() {
+                lines.put_name(&row.name);
+            }
+            lines.put(";");
+            lines.put_number(marks);
+        }
+        Err(NoMemory) => lines.lose(),
+    }
+}
+
+// A call that changes the book.
+fn change(alloc: Global, book: &mut NetBook, verb: Verb, words: Words<'_>) -> Result<(), Refusal>
+    requires { book.old.chapter < 2 ^ 62 }
+{
+    let uuid = uuid_of(words.first);
+    match verb {
+        Verb::Define => match network(alloc, words) {
+            Ok(def) => define(book, def),
+            Err(NoMemory) => Err(full(alloc)),
+        },
+        Verb::DefineRefused => match network(alloc, words) {
+            Ok(def) => define_refused(alloc, book, def),
+            Err(NoMemory) => Err(full(alloc)),
+        },
+        Verb::Undefine => {
+            book.may_undefine(uuid)?;
+            book.undefine(uuid)
+        }
+        Verb::Autostart => {
+            book.may_autostart(uuid, true)?;
+            book.autostart(uuid, true)
+        }
+        Verb::Start => book.start(uuid),
+        _ => book.stop(uuid),
+    }
+}
+
+// A call, and what it was answered.
+fn call(lines: &mut Lines, alloc: Global, book: &mut NetBook, verb: Verb, words: Words<'_>) {
+    if book.chapter() >= 1 << 62 {
+        lines.lose();
+        return;
+    }
+    match verb {
+        Verb::Lease => match Text::copy_of(alloc, words.first) {
+            Ok(name) => put_lease(lines, book.lease(&name, mac_of(words.second))),
+            Err(NoMemory) => lines.lose(),
+        },
+        Verb::Leases => put_leases(lines, book.leases(uuid_of(words.first))),
+        Verb::List => put_list(lines, book.list(), book.marks()),
+        _ => lines.put_done(change(alloc, book, verb, words)),
+    }
+}
+
+/// Plays a story on a new book of networks.
+pub(crate) fn play(lines: &mut Lines, alloc: Global, story: &str) {
+    let Ok(mut book) = NetBook::new(alloc, ListOf::new(alloc)) else {
+        lines.lose();
+        return;
+    };
+    for line in story.lines() {
+        lines.put(line);
+        if let Some((verb, words)) = call_of(line) {
+            lines.put(":");
+            call(lines, alloc, &mut book, verb, words);
+        }
+        lines.put("\n");
+    }
+}

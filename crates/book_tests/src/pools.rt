@@ -1,0 +1,112 @@
+// Calls on a book of pools.
+ghost use Rattle.std.specs.Prelude.{◌<◌, ◌^◌};
+
+use crate::calls::{Verb, Words, call_of, name_of, number_of, uuid_of};
+use crate::lines::Lines;
+use pool_core::PoolBook;
+use std::alloc::Global;
+use virt_types::{
+    ListOf, Name, NameList, NoMemory, PoolDef, PoolType, Refusal, Text, VolDef, both,
+};
+
+// The pool of the words of a `define`.
+fn pool(alloc: Global, words: Words<'_>) -> Result<PoolDef, NoMemory> {
+    let (name, path) = both(name_of(alloc, words.first), Text::copy_of(alloc, "/p"))?;
+    Ok(PoolDef {
+        kind: PoolType::Dir,
+        name,
+        uuid: Some(uuid_of(words.second)),
+        capacity: number_of(words.third),
+        path,
+    })
+}
+
+// The volume of the words of a `make`.
+fn volume(alloc: Global, words: Words<'_>) -> Result<VolDef, NoMemory> {
+    let (name, format) = both(name_of(alloc, words.second), Text::copy_of(alloc, "raw"))?;
+    let bytes = number_of(words.third);
+    Ok(VolDef {
+        name,
+        capacity: bytes,
+        allocation: bytes,
+        format,
+    })
+}
+
+fn define(book: &mut PoolBook, def: PoolDef) -> Result<(), Refusal>
+    requires { book.old.chapter < 2 ^ 62 }
+{
+    book.may_define(&def)?;
+    book.define(def)
+}
+
+fn put_names(lines: &mut Lines, answer: Result<NameList, Refusal>) {
+    match answer {
+        Ok(names) => {
+            for name in names.as_slice() {
+                lines.put_name(name);
+            }
+        }
+        Err(refusal) => lines.put_refusal(&refusal),
+    }
+}
+
+fn put_volume(lines: &mut Lines, answer: Result<VolDef, Refusal>) {
+    match answer {
+        Ok(volume) => lines.put_number(volume.allocation),
+        Err(refusal) => lines.put_refusal(&refusal),
+    }
+}
+
+// A call about one volume.
+fn call_volume(lines: &mut Lines, book: &mut PoolBook, verb: Verb, words: Words<'_>, name: &Name)
+    requires { book.old.chapter < 2 ^ 62 }
+{
+    let uuid = uuid_of(words.first);
+    match verb {
+        Verb::Drop => lines.put_done(book.drop_volume(uuid, name)),
+        _ => put_volume(lines, book.volume(uuid, name)),
+    }
+}
+
+// A call, and what it was answered.
+fn call(lines: &mut Lines, alloc: Global, book: &mut PoolBook, verb: Verb, words: Words<'_>) {
+    if book.chapter() >= 1 << 62 {
+        lines.lose();
+        return;
+    }
+    let uuid = uuid_of(words.first);
+    match verb {
+        Verb::Define => match pool(alloc, words) {
+            Ok(def) => lines.put_done(define(book, def)),
+            Err(NoMemory) => lines.lose(),
+        },
+        Verb::Start => lines.put_done(book.start(uuid)),
+        Verb::Stop => lines.put_done(book.stop(uuid)),
+        Verb::Make => match volume(alloc, words) {
+            Ok(def) => lines.put_done(book.make_volume(uuid, def)),
+            Err(NoMemory) => lines.lose(),
+        },
+        Verb::Volumes => put_names(lines, book.volumes(uuid)),
+        _ => match name_of(alloc, words.second) {
+            Ok(name) => call_volume(lines, book, verb, words, &name),
+            Err(NoMemory) => lines.lose(),
+        },
+    }
+}
+
+/// Plays a story on a new book of pools.
+pub(crate) fn play(lines: &mut Lines, alloc: Global, story: &str) {
+    let Ok(mut book) = PoolBook::new(alloc, ListOf::new(alloc)) else {
+        lines.lose();
+        return;
+    };
+    for line in story.lines() {
+        lines.put(line);
+        if let Some((verb, words)) = call_of(line) {
+            lines.put(":");
+            call(lines, alloc, &mut book, verb, words);
+        }
+        lines.put("\n");
+    }
+}
