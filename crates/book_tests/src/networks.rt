@@ -1,111 +1,185 @@
-// Calls on the book of networks.
-use crate::network_tester::{Tester, mac, network};
-use crate::refusals::is_refused;
-use book_spec::LeaseFault;
+// Calls on a book of networks.
+ghost use Rattle.std.specs.Prelude.{◌<◌, ◌^◌};
+ghost use Rattle.book_spec.specs.declared.book.NetCall.{NetCall};
+ghost use Rattle.book_spec.specs.NetCalls.{IsStored};
+ghost use Rattle.book_spec.specs.NetHistory.{CanCall};
+
+use crate::calls::{Verb, Words, address_of, call_of, name_of, number_of, uuid_of};
+use crate::lines::Lines;
+use book_spec::{LeaseFault, NetRowList};
+use net_core::NetBook;
 use std::alloc::Global;
-use std::test::Fail;
-use virt_types::{LeaseRow, OrNoMemory, RefusalCode, Uuid};
+use virt_types::{
+    AddressRange, Dhcp, HostLine, LeaseRowList, ListOf, Mac, NetDef, NetIp, NoMemory, OrNoMemory,
+    Refusal, RefusalCode, Text,
+};
 
-// The identifier of the network `default`.
-fn one() -> Uuid {
-    Uuid::from_u128(1)
+// The interface whose address ends with this byte.
+fn mac_of(word: &str) -> Mac {
+    Mac {
+        bytes: [0x52, 0x54, 0, 0, 0, (number_of(word) % 256) as u8],
+    }
 }
 
-fn is_class(answer: &Result<u32, OrNoMemory<LeaseFault>>, wanted: u32) -> bool {
+// A line for 10.0.0.3, of the interface 1.
+fn hosts(alloc: Global) -> Result<ListOf<HostLine>, NoMemory> {
+    let mut hosts = ListOf::new(alloc);
+    hosts.push(HostLine {
+        mac: mac_of("1"),
+        address: 0x0a00_0003,
+    })?;
+    Ok(hosts)
+}
+
+// The network of the words of a `define`, at 10.0.0.1/16, with that host line.
+fn network(alloc: Global, words: Words<'_>) -> Result<NetDef, NoMemory> {
+    let hosts = hosts(alloc)?;
+    let name = name_of(alloc, words.first)?;
+    let range = AddressRange {
+        start: address_of(words.third),
+        end: address_of(words.fourth),
+    };
+    Ok(NetDef {
+        name,
+        uuid: Some(uuid_of(words.second)),
+        forward: None,
+        bridge: None,
+        ip: Some(NetIp {
+            address: 0x0a00_0001,
+            prefix: 16,
+            dhcp: Some(Dhcp {
+                range: Some(range),
+                hosts,
+            }),
+        }),
+    })
+}
+
+// What the store refuses with.
+fn full(alloc: Global) -> Refusal {
+    Refusal {
+        code: RefusalCode::NoMemory,
+        kept: Text::of(String::new(alloc)),
+    }
+}
+
+fn define(book: &mut NetBook, def: NetDef) -> Result<(), Refusal>
+    requires { book.old.chapter < 2 ^ 62 }
+{
+    book.may_define(&def)?;
+    book.define(def)
+}
+
+// The store refused the definition of this network.
+fn refuse(book: &mut NetBook, _def: &NetDef, refusal: Refusal)
+    ghost asked: { NetCall }
+    requires stored { IsStored asked }
+    requires can { CanCall asked book.old }
+{
+    book.refuse(refusal);
+}
+
+// Where the network may be defined, the store refuses.
+fn define_refused(alloc: Global, book: &mut NetBook, def: NetDef) -> Result<(), Refusal>
+    requires { book.old.chapter < 2 ^ 62 }
+{
+    book.may_define(&def)?;
+    refuse(book, &def, full(alloc));
+    Ok(())
+}
+
+fn put_lease(lines: &mut Lines, answer: Result<u32, OrNoMemory<LeaseFault>>) {
     match answer {
-        Err(OrNoMemory::Fault(LeaseFault::Class(class))) => *class == wanted,
-        _ => false,
+        Ok(address) => lines.put_address(address),
+        Err(OrNoMemory::Fault(LeaseFault::Class(class))) => {
+            lines.put(" class");
+            lines.put_number(class as u64);
+        }
+        Err(OrNoMemory::NoMemory) => lines.lose(),
     }
 }
 
-fn is_lease(row: Option<&LeaseRow>, last: u8, address: u32) -> bool {
-    match row {
-        Some(row) => row.mac == mac(last) && row.address == address,
-        None => false,
+fn put_leases(lines: &mut Lines, answer: Result<LeaseRowList, Refusal>) {
+    match answer {
+        Ok(rows) => {
+            for row in rows.as_slice() {
+                lines.put_number(row.mac.bytes[5] as u64);
+                lines.put_address(row.address);
+            }
+        }
+        Err(refusal) => lines.put_refusal(&refusal),
     }
 }
 
-// A book with the network `default`, which has these addresses and is started.
-fn started(alloc: Global, start: u32, end: u32) -> Result<Tester, Fail> {
-    let mut tester = Tester::new(alloc)?;
-    let def = network(alloc, "default", 1, start, end)?;
-    if tester.define(def).is_err() || tester.start(one()).is_err() {
-        return Err("it is not started".into());
+fn put_list(lines: &mut Lines, answer: Result<NetRowList, NoMemory>, marks: u64) {
+    match answer {
+        Ok(rows) => {
+            for row in rows.as_slice() {
+                lines.put_name(&row.name);
+            }
+            lines.put(";");
+            lines.put_number(marks);
+        }
+        Err(NoMemory) => lines.lose(),
     }
-    Ok(tester)
 }
 
-#[test]
-fn a_lease_goes_by_line_and_least_address_and_is_kept(rt: HostRuntime) -> Result<(), Fail> {
-    let mut tester = started(rt.alloc(), 0x0a00_0002, 0x0a00_0003)?;
-    assert!(rt; tester.lease("default", 1).ok() == Some(0x0a00_0003));
-    assert!(rt; tester.lease("default", 2).ok() == Some(0x0a00_0002));
-    assert!(rt; is_class(&tester.lease("default", 3), 13));
-    assert!(rt; tester.lease("default", 2).ok() == Some(0x0a00_0002));
-    assert!(rt; is_class(&tester.lease("defaul", 2), 11));
-    let rows = tester.leases(one())?;
-    assert!(rt; rows.len() == 2);
-    assert!(rt; is_lease(rows.as_slice().first(), 2, 0x0a00_0002));
-    assert!(rt; is_lease(rows.as_slice().last(), 1, 0x0a00_0003));
-    Ok(())
+// A call that changes the book.
+fn change(alloc: Global, book: &mut NetBook, verb: Verb, words: Words<'_>) -> Result<(), Refusal>
+    requires { book.old.chapter < 2 ^ 62 }
+{
+    let uuid = uuid_of(words.first);
+    match verb {
+        Verb::Define => match network(alloc, words) {
+            Ok(def) => define(book, def),
+            Err(NoMemory) => Err(full(alloc)),
+        },
+        Verb::DefineRefused => match network(alloc, words) {
+            Ok(def) => define_refused(alloc, book, def),
+            Err(NoMemory) => Err(full(alloc)),
+        },
+        Verb::Undefine => {
+            book.may_undefine(uuid)?;
+            book.undefine(uuid)
+        }
+        Verb::Autostart => {
+            book.may_autostart(uuid, true)?;
+            book.autostart(uuid, true)
+        }
+        Verb::Start => book.start(uuid),
+        _ => book.stop(uuid),
+    }
 }
 
-#[test]
-fn calls_are_refused_with_what_they_met(rt: HostRuntime) -> Result<(), Fail> {
-    let mut tester = started(rt.alloc(), 0x0a00_0002, 0x0a00_0003)?;
-    let other = network(rt.alloc(), "default", 2, 0x0a00_0002, 0x0a00_0003)?;
-    let first = "00000000-0000-0000-0000-000000000001";
-    assert!(rt; is_refused(&tester.define(other), RefusalCode::NetworkExists, first));
-    let other = network(rt.alloc(), "other", 1, 0x0a00_0002, 0x0a00_0003)?;
-    assert!(rt; is_refused(&tester.define(other), RefusalCode::NetworkExists, "default"));
-    let same = network(rt.alloc(), "default", 1, 0x0a00_0002, 0x0a00_0003)?;
-    assert!(rt;
-        is_refused(
-            &tester.define(same),
-            RefusalCode::OperationInvalid,
-            "active"
-        )
-    );
-    assert!(rt;
-        is_refused(
-            &tester.undefine(one()),
-            RefusalCode::OperationInvalid,
-            "active"
-        )
-    );
-    assert!(rt;
-        is_refused(
-            &tester.start(one()),
-            RefusalCode::OperationInvalid,
-            "active"
-        )
-    );
-    assert!(rt; tester.stop(one()).is_ok());
-    assert!(rt;
-        is_refused(
-            &tester.stop(one()),
-            RefusalCode::OperationInvalid,
-            "inactive"
-        )
-    );
-    assert!(rt; tester.undefine(one()).is_ok());
-    assert!(rt; is_refused(&tester.start(one()), RefusalCode::NoNetwork, first));
-    assert!(rt;
-        is_refused(
-            &tester.autostart(one(), true),
-            RefusalCode::NoNetwork,
-            first
-        )
-    );
-    Ok(())
+// A call, and what it was answered.
+fn call(lines: &mut Lines, alloc: Global, book: &mut NetBook, verb: Verb, words: Words<'_>) {
+    if book.chapter() >= 1 << 62 {
+        lines.lose();
+        return;
+    }
+    match verb {
+        Verb::Lease => match Text::copy_of(alloc, words.first) {
+            Ok(name) => put_lease(lines, book.lease(&name, mac_of(words.second))),
+            Err(NoMemory) => lines.lose(),
+        },
+        Verb::Leases => put_leases(lines, book.leases(uuid_of(words.first))),
+        Verb::List => put_list(lines, book.list(), book.marks()),
+        _ => lines.put_done(change(alloc, book, verb, words)),
+    }
 }
 
-#[test]
-fn what_the_store_refuses_is_not_done(rt: HostRuntime) -> Result<(), Fail> {
-    let mut tester = Tester::new(rt.alloc())?;
-    let def = network(rt.alloc(), "default", 1, 1, 2)?;
-    assert!(rt; tester.define_refused(def).is_ok());
-    assert!(rt; tester.list()?.is_empty());
-    assert!(rt; tester.marks() == 1);
-    Ok(())
+/// Plays a story on a new book of networks.
+pub(crate) fn play(lines: &mut Lines, alloc: Global, story: &str) {
+    let Ok(mut book) = NetBook::new(alloc, ListOf::new(alloc)) else {
+        lines.lose();
+        return;
+    };
+    for line in story.lines() {
+        lines.put(line);
+        if let Some((verb, words)) = call_of(line) {
+            lines.put(":");
+            call(lines, alloc, &mut book, verb, words);
+        }
+        lines.put("\n");
+    }
 }

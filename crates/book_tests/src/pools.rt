@@ -1,111 +1,112 @@
-// Calls on the book of pools.
-use crate::pool_tester::{Tester, name, pool, volume};
-use crate::refusals::is_refused;
+// Calls on a book of pools.
+ghost use Rattle.std.specs.Prelude.{◌<◌, ◌^◌};
+
+use crate::calls::{Verb, Words, call_of, name_of, number_of, uuid_of};
+use crate::lines::Lines;
+use pool_core::PoolBook;
 use std::alloc::Global;
-use std::test::Fail;
-use virt_types::{Name, RefusalCode, Uuid};
+use virt_types::{
+    ListOf, Name, NameList, NoMemory, PoolDef, PoolType, Refusal, Text, VolDef, both,
+};
 
-// The identifier of the pool `default`.
-fn one() -> Uuid {
-    Uuid::from_u128(1)
+// The pool of the words of a `define`.
+fn pool(alloc: Global, words: Words<'_>) -> Result<PoolDef, NoMemory> {
+    let (name, path) = both(name_of(alloc, words.first), Text::copy_of(alloc, "/p"))?;
+    Ok(PoolDef {
+        kind: PoolType::Dir,
+        name,
+        uuid: Some(uuid_of(words.second)),
+        capacity: number_of(words.third),
+        path,
+    })
 }
 
-fn is_named(name: Option<&Name>, text: &str) -> bool {
-    match name {
-        Some(name) => name.as_bytes() == text.as_bytes(),
-        None => false,
+// The volume of the words of a `make`.
+fn volume(alloc: Global, words: Words<'_>) -> Result<VolDef, NoMemory> {
+    let (name, format) = both(name_of(alloc, words.second), Text::copy_of(alloc, "raw"))?;
+    let bytes = number_of(words.third);
+    Ok(VolDef {
+        name,
+        capacity: bytes,
+        allocation: bytes,
+        format,
+    })
+}
+
+fn define(book: &mut PoolBook, def: PoolDef) -> Result<(), Refusal>
+    requires { book.old.chapter < 2 ^ 62 }
+{
+    book.may_define(&def)?;
+    book.define(def)
+}
+
+fn put_names(lines: &mut Lines, answer: Result<NameList, Refusal>) {
+    match answer {
+        Ok(names) => {
+            for name in names.as_slice() {
+                lines.put_name(name);
+            }
+        }
+        Err(refusal) => lines.put_refusal(&refusal),
     }
 }
 
-// A book with the pool `default` of so many bytes, which is started.
-fn started(alloc: Global, capacity: u64) -> Result<Tester, Fail> {
-    let mut tester = Tester::new(alloc)?;
-    let def = pool(alloc, "default", 1, capacity)?;
-    if tester.define(def).is_err() || tester.start(one()).is_err() {
-        return Err("it is not started".into());
+fn put_volume(lines: &mut Lines, answer: Result<VolDef, Refusal>) {
+    match answer {
+        Ok(volume) => lines.put_number(volume.allocation),
+        Err(refusal) => lines.put_refusal(&refusal),
     }
-    Ok(tester)
 }
 
-#[test]
-fn volumes_take_no_more_than_the_pool_has(rt: HostRuntime) -> Result<(), Fail> {
-    let alloc = rt.alloc();
-    let mut tester = started(alloc, 100)?;
-    assert!(rt; tester.make_volume(one(), volume(alloc, "a", 60)?).is_ok());
-    assert!(rt;
-        is_refused(
-            &tester.make_volume(one(), volume(alloc, "b", 50)?),
-            RefusalCode::InvalidArgument,
-            "110 100"
-        )
-    );
-    assert!(rt; tester.drop_volume(one(), &name(alloc, "a")?).is_ok());
-    assert!(rt; tester.make_volume(one(), volume(alloc, "b", 50)?).is_ok());
-    assert!(rt; tester.make_volume(one(), volume(alloc, "c", 50)?).is_ok());
-    assert!(rt;
-        is_refused(
-            &tester.make_volume(one(), volume(alloc, "d", 1)?),
-            RefusalCode::InvalidArgument,
-            "101 100"
-        )
-    );
-    assert!(rt; tester.make_volume(one(), volume(alloc, "d", 0)?).is_ok());
-    Ok(())
+// A call about one volume.
+fn call_volume(lines: &mut Lines, book: &mut PoolBook, verb: Verb, words: Words<'_>, name: &Name)
+    requires { book.old.chapter < 2 ^ 62 }
+{
+    let uuid = uuid_of(words.first);
+    match verb {
+        Verb::Drop => lines.put_done(book.drop_volume(uuid, name)),
+        _ => put_volume(lines, book.volume(uuid, name)),
+    }
 }
 
-#[test]
-fn sums_past_64_bits_are_told_whole(rt: HostRuntime) -> Result<(), Fail> {
-    let alloc = rt.alloc();
-    let mut tester = started(alloc, u64::MAX)?;
-    assert!(rt;
-        tester
-            .make_volume(one(), volume(alloc, "a", u64::MAX)?)
-            .is_ok()
-    );
-    assert!(rt;
-        is_refused(
-            &tester.make_volume(one(), volume(alloc, "b", 2)?),
-            RefusalCode::InvalidArgument,
-            "18446744073709551617 18446744073709551615"
-        )
-    );
-    Ok(())
+// A call, and what it was answered.
+fn call(lines: &mut Lines, alloc: Global, book: &mut PoolBook, verb: Verb, words: Words<'_>) {
+    if book.chapter() >= 1 << 62 {
+        lines.lose();
+        return;
+    }
+    let uuid = uuid_of(words.first);
+    match verb {
+        Verb::Define => match pool(alloc, words) {
+            Ok(def) => lines.put_done(define(book, def)),
+            Err(NoMemory) => lines.lose(),
+        },
+        Verb::Start => lines.put_done(book.start(uuid)),
+        Verb::Stop => lines.put_done(book.stop(uuid)),
+        Verb::Make => match volume(alloc, words) {
+            Ok(def) => lines.put_done(book.make_volume(uuid, def)),
+            Err(NoMemory) => lines.lose(),
+        },
+        Verb::Volumes => put_names(lines, book.volumes(uuid)),
+        _ => match name_of(alloc, words.second) {
+            Ok(name) => call_volume(lines, book, verb, words, &name),
+            Err(NoMemory) => lines.lose(),
+        },
+    }
 }
 
-#[test]
-fn volumes_are_those_of_active_pools(rt: HostRuntime) -> Result<(), Fail> {
-    let alloc = rt.alloc();
-    let mut tester = started(alloc, 100)?;
-    let a = name(alloc, "a")?;
-    assert!(rt; tester.make_volume(one(), volume(alloc, "b", 1)?).is_ok());
-    assert!(rt; tester.make_volume(one(), volume(alloc, "a", 2)?).is_ok());
-    assert!(rt;
-        is_refused(
-            &tester.make_volume(one(), volume(alloc, "a", 1)?),
-            RefusalCode::VolumeExists,
-            "a"
-        )
-    );
-    let names = tester.volumes(one())?;
-    assert!(rt; names.len() == 2);
-    assert!(rt; is_named(names.as_slice().first(), "a"));
-    assert!(rt; is_named(names.as_slice().last(), "b"));
-    assert!(rt; tester.volume(one(), &a)?.allocation == 2);
-    assert!(rt; tester.stop(one()).is_ok());
-    let inactive = RefusalCode::OperationInvalid;
-    assert!(rt; is_refused(&tester.volumes(one()), inactive, "inactive"));
-    assert!(rt; is_refused(&tester.volume(one(), &a), inactive, "inactive"));
-    assert!(rt; is_refused(&tester.drop_volume(one(), &a), inactive, "inactive"));
-    assert!(rt;
-        is_refused(
-            &tester.make_volume(one(), volume(alloc, "c", 1)?),
-            inactive,
-            "inactive"
-        )
-    );
-    assert!(rt; tester.start(one()).is_ok());
-    assert!(rt; tester.drop_volume(one(), &a).is_ok());
-    assert!(rt; is_refused(&tester.drop_volume(one(), &a), RefusalCode::NoVolume, "a"));
-    assert!(rt; is_refused(&tester.volume(one(), &a), RefusalCode::NoVolume, "a"));
-    Ok(())
+/// Plays a story on a new book of pools.
+pub(crate) fn play(lines: &mut Lines, alloc: Global, story: &str) {
+    let Ok(mut book) = PoolBook::new(alloc, ListOf::new(alloc)) else {
+        lines.lose();
+        return;
+    };
+    for line in story.lines() {
+        lines.put(line);
+        if let Some((verb, words)) = call_of(line) {
+            lines.put(":");
+            call(lines, alloc, &mut book, verb, words);
+        }
+        lines.put("\n");
+    }
 }

@@ -1,4 +1,0 @@
-use Rattle.book_tests.proofs.network_tester.Tester.lease.Given as goal
-
-abbrev pub ghost-lease : goal.ghost-lease
-ghost-lease a = 0

@@ -1,4 +1,0 @@
-use Rattle.book_tests.proofs.network_tester.Tester.start.Given as goal
-
-abbrev pub ghost-start : goal.ghost-start
-ghost-start a = 0

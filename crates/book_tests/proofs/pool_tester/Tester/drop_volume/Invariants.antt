@@ -1,4 +1,0 @@
-use Rattle.book_tests.proofs.pool_tester.Tester.drop_volume.Given as goal
-
-abbrev pub ghost-drop_volume : goal.ghost-drop_volume
-ghost-drop_volume a = 0
