@@ -2,8 +2,7 @@
 ghost use Rattle.domain_stories.specs.Free.{IsPartOf};
 
 use crate::asked::{Asked, call_of};
-use crate::calls::{do_call, hear, read_info};
-use crate::desk::HoldingDesk;
+use crate::calls::do_call;
 use crate::row::Row;
 use crate::scene::Scene;
 use crate::stories::Step;
@@ -12,7 +11,7 @@ use domain_obj::{Desk, DomainObj, DomainPass, Queried};
 use monitor_link::{Ears, Killer, Monitor};
 use std::sync::Wait;
 use story_guests::{MOST_RESTS, Signal};
-use virt_types::{Reply, Who};
+use virt_types::{Query, Reply, Who};
 
 /// One who acts, with what is to be done.
 #[derive(Drop)]
@@ -46,10 +45,9 @@ fn call_once<M: Monitor + Drop, E: Ears + Drop, Z: Killer + Drop, D: Desk<M, E, 
     scene: &Scene<H>,
     obj: &DomainObj<M, E, Z>,
     pass: DomainPass<M, E, Z>,
-    desk: &mut HoldingDesk<H, D>,
+    desk: &mut D,
     who: Who,
     asked: Asked,
-    held_before: Option<u64>,
     row: &mut Row,
 ) -> DomainPass<M, E, Z>
     requires { IsPartOf obj.now pass }
@@ -59,14 +57,13 @@ fn call_once<M: Monitor + Drop, E: Ears + Drop, Z: Killer + Drop, D: Desk<M, E, 
         row.lose();
         return pass;
     };
-    desk.hold_next(held_before);
     let (pass, reply) = do_call(&scene.rt, scene.alloc, obj, pass, who, &call, desk);
     put_called(scene, row, asked, &reply);
     pass
 }
 
 // Reads the state.
-fn read_once<M: Monitor + Drop, E: Ears + Drop, Z: Killer + Drop, H: Wait>(
+fn look<M: Monitor + Drop, E: Ears + Drop, Z: Killer + Drop, H: Wait>(
     scene: &Scene<H>,
     obj: &DomainObj<M, E, Z>,
     pass: DomainPass<M, E, Z>,
@@ -74,11 +71,11 @@ fn read_once<M: Monitor + Drop, E: Ears + Drop, Z: Killer + Drop, H: Wait>(
     requires { IsPartOf obj.now pass }
     ensures { IsPartOf obj.now result.0 }
 {
-    read_info(&scene.rt, scene.alloc, obj, pass)
+    obj.query(&scene.rt, scene.alloc, pass, &Query::Info)
 }
 
 // Hears the guest.
-fn hear_all<M: Monitor + Drop, E: Ears + Drop, Z: Killer + Drop, H: Wait>(
+fn hear<M: Monitor + Drop, E: Ears + Drop, Z: Killer + Drop, H: Wait>(
     scene: &Scene<H>,
     obj: &DomainObj<M, E, Z>,
     pass: DomainPass<M, E, Z>,
@@ -87,11 +84,11 @@ fn hear_all<M: Monitor + Drop, E: Ears + Drop, Z: Killer + Drop, H: Wait>(
     requires { IsPartOf obj.now pass }
     ensures { IsPartOf obj.now result }
 {
-    let (pass, hushed) = hear(&scene.rt, scene.alloc, obj, pass);
+    let (after, hushed) = obj.hear(&scene.rt, scene.alloc, pass);
     row.put("hear ");
     row.put(hushed_word(hushed));
     row.put(", ");
-    pass
+    after
 }
 
 // Reads the state until a signal, and writes it each time that it is another one than before.
@@ -108,7 +105,7 @@ fn watch<M: Monitor + Drop, E: Ears + Drop, Z: Killer + Drop, H: Wait>(
     let mut pass = pass;
     let mut last: Option<u32> = None;
     for _ in 0..MOST_RESTS {
-        let (after, queried) = read_once(scene, obj, pass);
+        let (after, queried) = look(scene, obj, pass);
         pass = after;
         let now = state_of(&queried);
         if now.is_none() || now != last {
@@ -128,7 +125,7 @@ fn take_step<M: Monitor + Drop, E: Ears + Drop, Z: Killer + Drop, D: Desk<M, E, 
     scene: &Scene<H>,
     obj: &DomainObj<M, E, Z>,
     pass: DomainPass<M, E, Z>,
-    desk: &mut HoldingDesk<H, D>,
+    desk: &mut D,
     who: Who,
     step: Step,
     row: &mut Row,
@@ -137,17 +134,14 @@ fn take_step<M: Monitor + Drop, E: Ears + Drop, Z: Killer + Drop, D: Desk<M, E, 
     ensures { IsPartOf obj.now result }
 {
     match step {
-        Step::Call(asked) => call_once(scene, obj, pass, desk, who, asked, None, row),
-        Step::Held(asked, phase) => {
-            call_once(scene, obj, pass, desk, who, asked, Some(phase), row)
-        }
+        Step::Call(asked) => call_once(scene, obj, pass, desk, who, asked, row),
         Step::Info => {
-            let (pass, queried) = read_once(scene, obj, pass);
+            let (pass, queried) = look(scene, obj, pass);
             put_info(row, &queried);
             pass
         }
         Step::Watch(until) => watch(scene, obj, pass, until, row),
-        Step::Hear => hear_all(scene, obj, pass, row),
+        Step::Hear => hear(scene, obj, pass, row),
         Step::Wait(signal, times) => {
             scene.signals.wait_for(&scene.rt, signal, times);
             pass
@@ -165,11 +159,11 @@ pub(crate) fn act<
     E: Ears + Drop,
     Z: Killer + Drop,
     D: Desk<M, E, Z> + Drop,
-    H: Wait + Copy,
+    H: Wait,
 >(
     scene: &Scene<H>,
     obj: &DomainObj<M, E, Z>,
-    actor: Actor<DomainPass<M, E, Z>, HoldingDesk<H, D>>,
+    actor: Actor<DomainPass<M, E, Z>, D>,
 ) -> Acted<DomainPass<M, E, Z>>
     requires { IsPartOf obj.now actor.pass }
     ensures { IsPartOf obj.now result.pass }

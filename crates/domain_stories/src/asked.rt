@@ -1,4 +1,7 @@
 // What the threads of stories ask of their domain.
+ghost use Rattle.std.specs.Prelude.{◌≡◌, IfOk, None};
+ghost use Rattle.domain_spec.specs.Call.{takes_up};
+
 use crate::definition::{disk, name};
 use std::alloc::Global;
 use virt_types::{Boxed, Call, NoMemory};
@@ -10,12 +13,8 @@ pub(crate) enum Asked {
     Start,
     /// That it stands still.
     Suspend,
-    /// That it goes on.
-    Resume,
     /// That it ends.
     Destroy,
-    /// That its guest shuts itself down.
-    Kick,
     /// That what goes on is given up.
     Abort,
     /// That it gets the disk `vda`.
@@ -27,13 +26,13 @@ pub(crate) enum Asked {
 }
 
 /// The call.
-pub(crate) fn call_of(alloc: Global, asked: Asked) -> Result<Call, NoMemory> {
+pub(crate) fn call_of(alloc: Global, asked: Asked) -> Result<Call, NoMemory>
+    ensures takes { IfOk result (λ call. takes_up call ≡ None) }
+{
     match asked {
         Asked::Start => Ok(Call::Start),
         Asked::Suspend => Ok(Call::Suspend),
-        Asked::Resume => Ok(Call::Resume),
         Asked::Destroy => Ok(Call::Destroy),
-        Asked::Kick => Ok(Call::Kick(3)),
         Asked::Abort => Ok(Call::Abort),
         Asked::Attach => Ok(Call::Attach(Boxed::new(alloc, disk(alloc)?)?)),
         Asked::Save => Ok(Call::Save(name(alloc, "s")?)),
@@ -47,9 +46,7 @@ impl Asked {
         match self {
             Asked::Start => "start",
             Asked::Suspend => "suspend",
-            Asked::Resume => "resume",
             Asked::Destroy => "destroy",
-            Asked::Kick => "kick",
             Asked::Abort => "abort",
             Asked::Attach => "attach",
             Asked::Save => "save",

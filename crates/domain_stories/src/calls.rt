@@ -1,14 +1,13 @@
-// Calls by a pass that has nothing open, which has nothing open after them.
+// A call by a pass that has nothing open, which has nothing open after it.
 ghost use Rattle.std.specs.Prelude.{◌≡◌, None, is_some};
-ghost use Rattle.domain_obj.specs.Entering.{Operates};
 ghost use Rattle.domain_spec.specs.Call.{begins, takes_up};
 ghost use Rattle.domain_stories.specs.Free.{IsFree, Stays};
 
-use domain_obj::{Desk, DomainObj, DomainPass, Hushed, Queried, takes_up};
+use domain_obj::{Desk, DomainObj, DomainPass};
 use monitor_link::{Ears, Killer, Monitor};
 use std::alloc::Global;
 use std::sync::Wait;
-use virt_types::{Call, Query, Reply, Who};
+use virt_types::{Call, Reply, Who};
 
 // Whether a call begins an operation.
 fn does_begin(call: &Call) -> bool
@@ -28,46 +27,7 @@ fn does_begin(call: &Call) -> bool
     }
 }
 
-// A call that begins an operation or takes one up.
-fn operate<M: Monitor + Drop, E: Ears + Drop, Z: Killer + Drop, D: Desk<M, E, Z>, R: Wait>(
-    rt: &R,
-    alloc: Global,
-    obj: &DomainObj<M, E, Z>,
-    pass: DomainPass<M, E, Z>,
-    who: Who,
-    call: &Call,
-    desk: &mut D,
-) -> (DomainPass<M, E, Z>, Reply)
-    requires own { pass.cell ≡ obj.now }
-    requires free { IsFree pass }
-    requires operates { Operates call.now }
-    ensures { Stays pass result.0 }
-{
-    let (pass, reply, _) = obj.run_op(rt, alloc, pass, who, call, desk);
-    (pass, reply)
-}
-
-// Another call.
-fn run<M: Monitor + Drop, E: Ears + Drop, Z: Killer + Drop, D: Desk<M, E, Z>, R: Wait>(
-    rt: &R,
-    alloc: Global,
-    obj: &DomainObj<M, E, Z>,
-    pass: DomainPass<M, E, Z>,
-    who: Who,
-    call: &Call,
-    desk: &mut D,
-) -> (DomainPass<M, E, Z>, Reply)
-    requires own { pass.cell ≡ obj.now }
-    requires free { IsFree pass }
-    requires begins { begins call.now ≡ None }
-    requires takes { takes_up call.now ≡ None }
-    ensures { Stays pass result.0 }
-{
-    let (pass, reply, _) = obj.run(rt, alloc, pass, who, call, desk);
-    (pass, reply)
-}
-
-/// A call to its end, whichever it is.
+/// A call to its end, which takes no operation up.
 pub(crate) fn do_call<
     M: Monitor + Drop,
     E: Ears + Drop,
@@ -85,41 +45,14 @@ pub(crate) fn do_call<
 ) -> (DomainPass<M, E, Z>, Reply)
     requires own { pass.cell ≡ obj.now }
     requires free { IsFree pass }
+    requires takes { takes_up call.now ≡ None }
     ensures { Stays pass result.0 }
 {
     if does_begin(call) {
-        return operate(rt, alloc, obj, pass, who, call, desk);
+        let (after, reply, _) = obj.run_op(rt, alloc, pass, who, call, desk);
+        (after, reply)
+    } else {
+        let (after, reply, _) = obj.run(rt, alloc, pass, who, call, desk);
+        (after, reply)
     }
-    match takes_up(call) {
-        Some(_) => operate(rt, alloc, obj, pass, who, call, desk),
-        None => run(rt, alloc, obj, pass, who, call, desk),
-    }
-}
-
-/// What the domain has is read.
-pub(crate) fn read_info<M: Monitor + Drop, E: Ears + Drop, Z: Killer + Drop, R: Wait>(
-    rt: &R,
-    alloc: Global,
-    obj: &DomainObj<M, E, Z>,
-    pass: DomainPass<M, E, Z>,
-) -> (DomainPass<M, E, Z>, Queried)
-    requires own { pass.cell ≡ obj.now }
-    requires free { IsFree pass }
-    ensures { Stays pass result.0 }
-{
-    obj.query(rt, alloc, pass, &Query::Info)
-}
-
-/// The guest is heard.
-pub(crate) fn hear<M: Monitor + Drop, E: Ears + Drop, Z: Killer + Drop, R: Wait>(
-    rt: &R,
-    alloc: Global,
-    obj: &DomainObj<M, E, Z>,
-    pass: DomainPass<M, E, Z>,
-) -> (DomainPass<M, E, Z>, Hushed)
-    requires own { pass.cell ≡ obj.now }
-    requires free { IsFree pass }
-    ensures { Stays pass result.0 }
-{
-    obj.hear(rt, alloc, pass)
 }

@@ -4,14 +4,12 @@ ghost use Rattle.domain_stories.specs.Home.{IsHome};
 ghost use Rattle.domain_stories.specs.Free.{IsPartOf};
 
 use crate::acting::{Acted, Actor};
-use crate::passes::{cut_off, join};
 use crate::row::Row;
 use crate::stories::Step;
 use domain_obj::{Chronicle, DomainObj, DomainPass};
 use monitor_link::{Ears, Killer, Monitor};
-use std::alloc::Global;
+use std::alloc::{AllocError, Global};
 use std::sync::Wait;
-use virt_types::NoMemory;
 
 /// How many threads a story has at most.
 const MOST_THREADS: u64 = 100;
@@ -44,7 +42,7 @@ fn cast_one<M: Monitor + Drop, E: Ears + Drop, Z: Killer + Drop, D: Drop>(
     let Home { pass, out } = home;
     let Role { desk, steps } = part;
     let number = out + 1;
-    let (rest, pass) = cut_off(obj, pass);
+    let (rest, pass) = obj.split(pass);
     let home = Home {
         pass: rest,
         out: number,
@@ -69,7 +67,7 @@ pub(crate) fn cast<M: Monitor + Drop, E: Ears + Drop, Z: Killer + Drop, D: Drop>
         Home<DomainPass<M, E, Z>>,
         Vec<Actor<DomainPass<M, E, Z>, D>>,
     ),
-    NoMemory,
+    AllocError,
 >
     requires { IsHome obj.now home.pass home.out }
     ensures home { IfOk result (λ r. IsHome obj.now r.0.pass r.0.out) }
@@ -88,7 +86,7 @@ pub(crate) fn cast<M: Monitor + Drop, E: Ears + Drop, Z: Killer + Drop, D: Drop>
     Ok((home, actors))
 }
 
-// A pass comes back, if a ticket is left for it.
+// A pass comes back in a turn of its own, if a ticket is left for that.
 fn come_back<M: Monitor + Drop, E: Ears + Drop, Z: Killer + Drop, H: Wait>(
     rt: &H,
     obj: &DomainObj<M, E, Z>,
@@ -103,9 +101,15 @@ fn come_back<M: Monitor + Drop, E: Ears + Drop, Z: Killer + Drop, H: Wait>(
         return home;
     }
     let Home { pass: first, out } = home;
-    match join(rt, obj, first, pass) {
-        Ok(pass) => Home { pass, out: out - 1 },
-        Err(pass) => Home { pass, out },
+    match obj.enter(rt, pass) {
+        Ok(turn) => {
+            let pass = obj.leave(turn);
+            Home {
+                pass: obj.join(first, pass),
+                out: out - 1,
+            }
+        }
+        Err(_) => Home { pass: first, out },
     }
 }
 
@@ -116,7 +120,7 @@ pub(crate) fn gather<M: Monitor + Drop, E: Ears + Drop, Z: Killer + Drop, H: Wai
     obj: &DomainObj<M, E, Z>,
     home: Home<DomainPass<M, E, Z>>,
     all: Vec<Acted<DomainPass<M, E, Z>>>,
-) -> Result<(Home<DomainPass<M, E, Z>>, Vec<Row>), NoMemory>
+) -> Result<(Home<DomainPass<M, E, Z>>, Vec<Row>), AllocError>
     requires home { IsHome obj.now home.pass home.out }
     requires acted { All (λ one. IsPartOf obj.now one.pass) all.items }
     ensures { IfOk result (λ r. IsHome obj.now r.0.pass r.0.out) }

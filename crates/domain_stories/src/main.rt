@@ -9,21 +9,16 @@ mod casting;
 mod counting;
 mod definition;
 mod desk;
-mod maker;
-mod passes;
-mod plain_desk;
 mod report;
 mod row;
-mod rows;
 mod scene;
-mod spent;
 mod stage;
 mod stories;
+mod told;
 mod words;
 
-use rows::row_of;
+use row::Row;
 use scene::Scene;
-use spent::spent;
 use stage::play;
 use std::alloc::Global;
 use std::io;
@@ -32,27 +27,23 @@ use std::thread::Threads;
 use stories::{STORIES, Story};
 use virt_types::NoMemory;
 
-fn print<R: Print>(rt: &R, title: &str, row: Result<String, NoMemory>) -> io::Result<()> {
-    match row {
-        Ok(row) => println!(rt; "{title}: {}", row.as_str()),
-        Err(NoMemory) => println!(rt; "{title}: out of memory"),
-    }
-}
-
 // The row of a story, which is played on a domain of its own.
-fn told<H: Threads + Wait + Copy + Send + Sync>(
+fn row_of<H: Threads + Wait + Copy + Send + Sync>(
     rt: H,
     alloc: Global,
     story: &Story,
-) -> Result<String, NoMemory> {
+) -> Result<Row, NoMemory> {
     let scene = Scene::new(rt, alloc, story.manner)?;
-    row_of(alloc, &play(&scene, story.parts)?, story.told)
+    play(&scene, story)
 }
 
 fn main(rt: HostRuntime) -> io::Result<()> {
     let alloc = rt.alloc();
     for story in STORIES {
-        print(&rt, story.title, told(rt, alloc, &story))?;
+        match row_of(rt, alloc, story) {
+            Ok(row) => println!(rt; "{}: {}", story.title, row.as_str())?,
+            Err(NoMemory) => println!(rt; "{}: out of memory", story.title)?,
+        }
     }
-    print(&rt, "spent", spent(rt, alloc))
+    Ok(())
 }

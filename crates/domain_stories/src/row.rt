@@ -1,11 +1,9 @@
 // A row that a story prints.
 use std::alloc::Global;
-use virt_types::NoMemory;
 
-/// A text that grows. Where there is no memory for more, it is lost.
+/// A text that grows. Where there is no memory for more, that is said in its place.
 #[derive(Drop)]
 pub(crate) struct Row {
-    alloc: Global,
     text: String,
     is_lost: bool,
 }
@@ -14,7 +12,6 @@ impl Row {
     /// Nothing was put there yet.
     pub(crate) fn new(alloc: Global) -> Row {
         Row {
-            alloc,
             text: String::new(alloc),
             is_lost: false,
         }
@@ -29,9 +26,8 @@ impl Row {
 
     /// Puts a number after it.
     pub(crate) fn put_number(&mut self, number: u64) {
-        match format!(in self.alloc; "{number}") {
-            Ok(digits) => self.put(digits.as_str()),
-            Err(_) => self.is_lost = true,
+        if write!(self.text, "{number}").is_err() {
+            self.is_lost = true;
         }
     }
 
@@ -40,18 +36,12 @@ impl Row {
         self.is_lost = true;
     }
 
-    /// What was put there so far.
+    /// What was put there.
     pub(crate) fn as_str(&self) -> &str {
-        self.text.as_str()
-    }
-
-    /// The text.
-    pub(crate) fn into_text(self) -> Result<String, NoMemory> {
-        let Row {
-            alloc: _,
-            text,
-            is_lost,
-        } = self;
-        if is_lost { Err(NoMemory) } else { Ok(text) }
+        if self.is_lost {
+            "out of memory"
+        } else {
+            self.text.as_str()
+        }
     }
 }

@@ -1,37 +1,13 @@
-// What is the same for all threads of a story, and the domain and the desks at which they call.
-ghost use Rattle.std.specs.Prelude.{◌≡◌, ◌≤◌, ◌^◌, IfOk};
-ghost use Rattle.domain_stories.specs.Free.{IsFree};
-
-use crate::definition::definition;
-use crate::desk::HoldingDesk;
-use crate::maker::MakerOf;
-use crate::passes::first_pass;
-use crate::plain_desk::PlainDesk;
-use domain_obj::{DomainObj, DomainPass};
-use guest_model::{SimEars, SimGuests, SimKiller, SimMonitor};
+// What is the same for all threads of a story.
+use crate::desk::{MakerOf, StoryDesk};
+use guest_model::SimGuests;
 use std::alloc::Global;
 use std::sync::{Arc, Wait};
-use story_guests::{
-    Manner, SharedSignals, Signals, StoryEars, StoryGuests, StoryKiller, StoryMonitor,
-};
+use story_guests::{Manner, SharedSignals, Signals, StoryGuests};
 use virt_types::NoMemory;
 
-/// A domain of a story.
-pub(crate) type StoryObj<H> = DomainObj<
-    StoryMonitor<H, SimMonitor<H>>,
-    StoryEars<SimEars<H>>,
-    StoryKiller<SimKiller<H>>,
->;
-
-/// A pass of it.
-pub(crate) type StoryPass<H> = DomainPass<
-    StoryMonitor<H, SimMonitor<H>>,
-    StoryEars<SimEars<H>>,
-    StoryKiller<SimKiller<H>>,
->;
-
-/// A desk of its guests.
-pub(crate) type StoryDesk<H> = HoldingDesk<H, PlainDesk<MakerOf<StoryGuests<H, SimGuests<H>>>>>;
+/// What makes the guests of a story.
+pub(crate) type Makers<H> = StoryGuests<H, SimGuests<H>>;
 
 /// What is the same for all threads of a story.
 #[derive(Drop)]
@@ -39,10 +15,10 @@ pub(crate) struct Scene<H> {
     pub(crate) rt: H,
     pub(crate) alloc: Global,
     pub(crate) signals: SharedSignals,
-    pub(crate) manner: Manner,
+    manner: Manner,
 }
 
-impl<H: Copy> Scene<H> {
+impl<H: Wait + Copy + Send + Sync> Scene<H> {
     /// A scene in which no signal was given yet, and whose guests are like that.
     pub(crate) fn new(rt: H, alloc: Global, manner: Manner) -> Result<Scene<H>, NoMemory> {
         let signals = Signals::shared(alloc)?;
@@ -53,26 +29,16 @@ impl<H: Copy> Scene<H> {
             manner,
         })
     }
-}
 
-impl<H: Wait + Copy + Send + Sync> Scene<H> {
-    /// A desk that was asked nothing yet.
-    pub(crate) fn desk(&self) -> Result<StoryDesk<H>, NoMemory> {
-        let signals = Arc::try_clone(&self.signals)?;
+    /// A desk that was asked nothing yet. It holds its pass before the phase of this number, or never.
+    pub(crate) fn desk(
+        &self,
+        held_before: Option<u64>,
+    ) -> Result<StoryDesk<H, MakerOf<Makers<H>>>, NoMemory> {
+        let for_desk = Arc::try_clone(&self.signals)?;
         let for_guests = Arc::try_clone(&self.signals)?;
         let guests = SimGuests::new(self.rt, self.alloc);
         let guests = StoryGuests::new(self.rt, guests, for_guests, self.manner);
-        Ok(HoldingDesk::new(self.rt, signals, PlainDesk::new(MakerOf { guests })))
-    }
-
-    /// A domain, whose first turn has this ticket, and its first pass.
-    pub(crate) fn domain(&self, first_ticket: u64) -> Result<(StoryObj<H>, StoryPass<H>), NoMemory>
-        requires { first_ticket ≤ 2 ^ 62 }
-        ensures cell { IfOk result (λ made. made.1.cell ≡ made.0) }
-        ensures parts { IfOk result (λ made. made.1.parts ≡ 2 ^ 62) }
-        ensures free { IfOk result (λ made. IsFree made.1) }
-    {
-        let stored = definition(self.alloc)?;
-        first_pass(self.alloc, stored, first_ticket)
+        Ok(StoryDesk::new(self.rt, for_desk, held_before, MakerOf { guests }))
     }
 }

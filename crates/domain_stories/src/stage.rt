@@ -1,29 +1,22 @@
 // A story is played on a domain of its own, by as many threads as it has scripts.
-ghost use Rattle.std.specs.Prelude.{All, IfOk};
+ghost use Rattle.std.specs.Prelude.{◌≡◌, ◌≤◌, ◌^◌, All, IfOk};
 ghost use Rattle.domain_stories.specs.Home.{IsHome};
-ghost use Rattle.domain_stories.specs.Free.{IsPartOf};
+ghost use Rattle.domain_stories.specs.Free.{IsFree, IsPartOf};
 
 use crate::acting::{Acted, Actor, act};
 use crate::casting::{Home, Role, cast, gather, history_of};
-use crate::desk::HoldingDesk;
-use crate::maker::MakerOf;
-use crate::plain_desk::PlainDesk;
+use crate::definition::definition;
+use crate::desk::{MakerOf, StoryDesk};
 use crate::row::Row;
-use crate::scene::{Scene, StoryDesk};
-use crate::stories::Part;
-use domain_obj::{Chronicle, Desk, DomainObj, DomainPass};
+use crate::scene::{Makers, Scene};
+use crate::stories::{Part, Story};
+use crate::told::told;
+use domain_obj::{Desk, DomainObj, DomainPass};
 use monitor_link::{Ears, Guests, Killer, Monitor};
 use std::alloc::{AllocError, Global};
 use std::sync::Wait;
 use std::thread::{Threads, map_vec};
 use virt_types::NoMemory;
-
-/// What was told to each thread, and the history, where all passes came back.
-#[derive(Drop)]
-pub(crate) struct Played {
-    pub(crate) said: Vec<Row>,
-    pub(crate) history: Option<Chronicle>,
-}
 
 // All act, each in a thread of its own.
 fn act_all<
@@ -35,7 +28,7 @@ fn act_all<
 >(
     scene: &Scene<H>,
     obj: &DomainObj<M, E, Z>,
-    actors: Vec<Actor<DomainPass<M, E, Z>, HoldingDesk<H, D>>>,
+    actors: Vec<Actor<DomainPass<M, E, Z>, D>>,
 ) -> Result<Vec<Acted<DomainPass<M, E, Z>>>, AllocError>
     requires { All (λ actor. IsPartOf obj.now actor.pass) actors.items }
     ensures { IfOk result (λ all. All (λ one. IsPartOf obj.now one.pass) all.items) }
@@ -43,15 +36,16 @@ fn act_all<
     map_vec(
         &scene.rt,
         actors,
-        &|actor: Actor<DomainPass<M, E, Z>, HoldingDesk<H, D>>| -> Acted<DomainPass<M, E, Z>>
+        &|actor: Actor<DomainPass<M, E, Z>, D>| -> Acted<DomainPass<M, E, Z>>
             requires { IsPartOf obj.now actor.pass }
             ensures { IsPartOf obj.entry.now result.pass }
         { act(scene, obj, actor) },
     )
 }
 
-// All parts are played, each in a thread, and what was told is in their order.
-fn play_on<
+// All roles are played, each in a thread by a pass of its own, which then comes back. What was told comes in the order of the
+// roles.
+fn play_all<
     M: Monitor + Drop + Send,
     E: Ears + Drop + Send,
     Z: Killer + Drop + Send,
@@ -59,41 +53,55 @@ fn play_on<
     H: Threads + Wait + Copy + Send + Sync,
 >(
     scene: &Scene<H>,
-    obj: DomainObj<M, E, Z>,
+    obj: &DomainObj<M, E, Z>,
     home: Home<DomainPass<M, E, Z>>,
-    parts: Vec<Role<HoldingDesk<H, D>>>,
-) -> Result<Played, NoMemory>
-    requires { IsHome obj home.pass home.out }
+    roles: Vec<Role<D>>,
+) -> Result<(Home<DomainPass<M, E, Z>>, Vec<Row>), AllocError>
+    requires { IsHome obj.now home.pass home.out }
+    ensures { IfOk result (λ r. IsHome obj.now r.0.pass r.0.out) }
 {
-    let (home, actors) = cast(scene.alloc, &obj, home, parts)?;
-    let acted = act_all(scene, &obj, actors)?;
-    let (home, mut said) = gather(&scene.rt, scene.alloc, &obj, home, acted)?;
+    let (home, actors) = cast(scene.alloc, obj, home, roles)?;
+    let acted = act_all(scene, obj, actors)?;
+    let (home, mut said) = gather(&scene.rt, scene.alloc, obj, home, acted)?;
     said.reverse();
-    let history = history_of(obj, home);
-    Ok(Played { said, history })
+    Ok((home, said))
 }
 
-// The same with plain desks behind those that hold calls, for such guests.
+// A domain whose first turn has this ticket, and its first pass.
+fn open<M: Monitor + Drop, E: Ears + Drop, Z: Killer + Drop>(
+    alloc: Global,
+    first_ticket: u64,
+) -> Result<(DomainObj<M, E, Z>, DomainPass<M, E, Z>), NoMemory>
+    requires { first_ticket ≤ 2 ^ 62 }
+    ensures cell { IfOk result (λ made. made.1.cell ≡ made.0) }
+    ensures parts { IfOk result (λ made. made.1.parts ≡ 2 ^ 62) }
+    ensures free { IfOk result (λ made. IsFree made.1) }
+{
+    let stored = definition(alloc)?;
+    DomainObj::new_at(alloc, Some(stored), false, first_ticket)
+}
+
+// The row of a story, which is played on a domain with such guests.
 fn play_for<G: Guests + Drop + Send, H: Threads + Wait + Copy + Send + Sync>(
     scene: &Scene<H>,
-    obj: DomainObj<G::M, G::E, G::Z>,
-    home: Home<DomainPass<G::M, G::E, G::Z>>,
-    parts: Vec<Role<HoldingDesk<H, PlainDesk<MakerOf<G>>>>>,
-) -> Result<Played, NoMemory>
-    requires { IsHome obj home.pass home.out }
-{
-    play_on(scene, obj, home, parts)
+    story: &Story,
+    roles: Vec<Role<StoryDesk<H, MakerOf<G>>>>,
+) -> Result<Row, NoMemory> {
+    let (obj, pass) = open::<G::M, G::E, G::Z>(scene.alloc, story.first_ticket.min(1 << 62))?;
+    let (home, said) = play_all(scene, &obj, Home { pass, out: 0 }, roles)?;
+    let history = history_of(obj, home);
+    Ok(told(scene.alloc, said.as_slice(), &history, story.told))
 }
 
 // A role for each thread, with a desk of its own.
 fn roles_of<H: Wait + Copy + Send + Sync>(
     scene: &Scene<H>,
     parts: &[Part],
-) -> Result<Vec<Role<StoryDesk<H>>>, NoMemory> {
+) -> Result<Vec<Role<StoryDesk<H, MakerOf<Makers<H>>>>>, NoMemory> {
     let mut roles = Vec::new(scene.alloc);
     for part in parts {
         for _ in 0..part.threads {
-            let desk = scene.desk()?;
+            let desk = scene.desk(part.held_before)?;
             let steps = part.steps;
             roles.push(Role { desk, steps })?;
         }
@@ -104,9 +112,8 @@ fn roles_of<H: Wait + Copy + Send + Sync>(
 /// Plays a story: what each thread does, with a pass of its own.
 pub(crate) fn play<H: Threads + Wait + Copy + Send + Sync>(
     scene: &Scene<H>,
-    parts: &[Part],
-) -> Result<Played, NoMemory> {
-    let parts = roles_of(scene, parts)?;
-    let (obj, pass) = scene.domain(0)?;
-    play_for(scene, obj, Home { pass, out: 0 }, parts)
+    story: &Story,
+) -> Result<Row, NoMemory> {
+    let roles = roles_of(scene, story.parts)?;
+    play_for(scene, story, roles)
 }

@@ -7,8 +7,6 @@ use story_guests::{Manner, Signal, Withheld};
 pub(crate) enum Step {
     /// A call.
     Call(Asked),
-    /// A call that the desk holds before the phase of this number, from 1, until it is set free.
-    Held(Asked, u64),
     /// The state is read.
     Info,
     /// The state is read again and again until this signal.
@@ -22,36 +20,47 @@ pub(crate) enum Step {
 }
 
 /// The steps of one thread, or of so many that all do the same.
-#[derive(Clone, Copy)]
 pub(crate) struct Part {
     pub(crate) threads: u64,
+    /// Before which phase of its operations the thread is held until it is set free, counted from 1 over all of them.
+    pub(crate) held_before: Option<u64>,
     pub(crate) steps: &'static [Step],
 }
 
 /// A story.
-#[derive(Clone, Copy)]
 pub(crate) struct Story {
     pub(crate) title: &'static str,
     /// What its guests do beside what they are told.
     pub(crate) manner: Manner,
+    /// The ticket of the domain's first turn.
+    pub(crate) first_ticket: u64,
     pub(crate) parts: &'static [Part],
     /// Where many threads do the same: what a thread may be told, and how many marks its pass leaves then. How many were told
     /// so is in the row, and not who.
     pub(crate) told: &'static [(&'static str, u64)],
 }
 
-pub(crate) const STORIES: [Story; 8] = [
+/// The last ticket.
+const LAST_TICKET: u64 = 4_611_686_018_427_387_903;
+
+/// How many phases a start has.
+const START: u64 = 2;
+
+pub(crate) const STORIES: &[Story] = &[
     // After its guest was made a start is held: a suspend is refused, while the domain is seen paused.
     Story {
         title: "a start that is held",
         manner: Manner::Plain,
+        first_ticket: 0,
         parts: &[
             Part {
                 threads: 1,
-                steps: &[Step::Held(Asked::Start, 2)],
+                held_before: Some(2),
+                steps: &[Step::Call(Asked::Start)],
             },
             Part {
                 threads: 1,
+                held_before: None,
                 steps: &[
                     Step::Wait(Signal::Held, 1),
                     Step::Call(Asked::Suspend),
@@ -60,6 +69,7 @@ pub(crate) const STORIES: [Story; 8] = [
             },
             Part {
                 threads: 1,
+                held_before: None,
                 steps: &[
                     Step::Wait(Signal::Held, 1),
                     Step::Watch(Signal::Told),
@@ -74,13 +84,16 @@ pub(crate) const STORIES: [Story; 8] = [
     Story {
         title: "killed while it waits",
         manner: Manner::Withholds(Withheld::Stop, Signal::Killed),
+        first_ticket: 0,
         parts: &[
             Part {
                 threads: 1,
+                held_before: None,
                 steps: &[Step::Call(Asked::Start), Step::Call(Asked::Suspend)],
             },
             Part {
                 threads: 1,
+                held_before: None,
                 steps: &[
                     Step::Wait(Signal::Held, 1),
                     Step::Info,
@@ -95,17 +108,20 @@ pub(crate) const STORIES: [Story; 8] = [
     Story {
         title: "aborted",
         manner: Manner::Plain,
+        first_ticket: 0,
         parts: &[
             Part {
                 threads: 1,
+                held_before: Some(START + 4),
                 steps: &[
                     Step::Call(Asked::Start),
-                    Step::Held(Asked::Save, 4),
+                    Step::Call(Asked::Save),
                     Step::Info,
                 ],
             },
             Part {
                 threads: 1,
+                held_before: None,
                 steps: &[
                     Step::Wait(Signal::Held, 1),
                     Step::Info,
@@ -121,17 +137,20 @@ pub(crate) const STORIES: [Story; 8] = [
     Story {
         title: "between two phases",
         manner: Manner::Plain,
+        first_ticket: 0,
         parts: &[
             Part {
                 threads: 1,
+                held_before: Some(START + 2),
                 steps: &[
                     Step::Call(Asked::Start),
-                    Step::Held(Asked::Dump, 2),
+                    Step::Call(Asked::Dump),
                     Step::Info,
                 ],
             },
             Part {
                 threads: 1,
+                held_before: None,
                 steps: &[
                     Step::Wait(Signal::Held, 1),
                     Step::Call(Asked::Suspend),
@@ -146,9 +165,11 @@ pub(crate) const STORIES: [Story; 8] = [
     Story {
         title: "33 wait",
         manner: Manner::Withholds(Withheld::Stop, Signal::Full),
+        first_ticket: 0,
         parts: &[
             Part {
                 threads: 1,
+                held_before: None,
                 steps: &[
                     Step::Call(Asked::Start),
                     Step::Wait(Signal::There, 33),
@@ -157,6 +178,7 @@ pub(crate) const STORIES: [Story; 8] = [
             },
             Part {
                 threads: 33,
+                held_before: None,
                 steps: &[
                     Step::Give(Signal::There),
                     Step::Wait(Signal::Held, 1),
@@ -174,44 +196,23 @@ pub(crate) const STORIES: [Story; 8] = [
     Story {
         title: "talks without end",
         manner: Manner::TalksOn,
+        first_ticket: 0,
         parts: &[Part {
             threads: 1,
+            held_before: None,
             steps: &[Step::Call(Asked::Start), Step::Hear],
         }],
         told: &[],
     },
-    // The end of a guest is heard, and then it is shut off.
+    // One ticket is left. A query takes it; a call is told that none is left, and the pass that has none does not come back.
     Story {
-        title: "tells its end",
+        title: "spent",
         manner: Manner::Plain,
+        first_ticket: LAST_TICKET,
         parts: &[Part {
             threads: 1,
-            steps: &[
-                Step::Call(Asked::Start),
-                Step::Call(Asked::Kick),
-                Step::Info,
-                Step::Hear,
-            ],
-        }],
-        told: &[],
-    },
-    // Where there is memory enough, no call says that there is none.
-    Story {
-        title: "enough memory",
-        manner: Manner::Plain,
-        parts: &[Part {
-            threads: 1,
-            steps: &[
-                Step::Call(Asked::Start),
-                Step::Info,
-                Step::Call(Asked::Suspend),
-                Step::Info,
-                Step::Call(Asked::Resume),
-                Step::Hear,
-                Step::Call(Asked::Destroy),
-                Step::Info,
-                Step::Hear,
-            ],
+            held_before: None,
+            steps: &[Step::Info, Step::Call(Asked::Suspend)],
         }],
         told: &[],
     },

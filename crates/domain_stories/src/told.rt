@@ -1,14 +1,13 @@
 // The row of a story: what its threads were told, with the marks that the pass of each left.
 use crate::counting::count_of;
 use crate::row::Row;
-use crate::stage::Played;
+use domain_obj::Chronicle;
 use domain_spec::Mark;
 use history_spec::Stamp;
 use std::alloc::Global;
-use virt_types::NoMemory;
 
-/// How many marks no pass left.
-pub(crate) fn put_end(row: &mut Row, marks: &[Mark<Stamp>]) {
+// How many marks no pass left.
+fn put_end(row: &mut Row, marks: &[Mark<Stamp>]) {
     row.put("of the guest ");
     row.put_number(count_of(marks, None));
 }
@@ -48,24 +47,31 @@ fn put_counted(row: &mut Row, said: &[Row], marks: &[Mark<Stamp>], told: &[(&str
     }
 }
 
-/// The row of a story. Where many threads do the same, how many of them were told each of these, and left so many marks.
-pub(crate) fn row_of(
+/// The row of a story. Where many threads do the same, how many of them were told each of these, and left so many marks. Where
+/// there is no history, since a pass did not come back, what they were told.
+pub(crate) fn told(
     alloc: Global,
-    played: &Played,
+    said: &[Row],
+    history: &Option<Chronicle>,
     told: &[(&str, u64)],
-) -> Result<String, NoMemory> {
+) -> Row {
     let mut row = Row::new(alloc);
-    match &played.history {
+    match history {
         Some(history) => {
             let marks = history.marks.as_slice();
             if told.is_empty() {
-                put_each(&mut row, played.said.as_slice(), marks);
+                put_each(&mut row, said, marks);
             } else {
-                put_counted(&mut row, played.said.as_slice(), marks, told);
+                put_counted(&mut row, said, marks, told);
             }
             put_end(&mut row, marks);
         }
-        None => row.put("a pass is lost"),
+        None => {
+            for one in said {
+                row.put(one.as_str());
+            }
+            row.put("a pass is lost");
+        }
     }
-    row.into_text()
+    row
 }

@@ -58,15 +58,22 @@ fn change<F: Files>(keeper: &mut Keeper<F, Brand>, change: Change) -> Answer
     answered(keeper.change(change))
 }
 
-/// Gives the definition with this number this name.
+/// Gives the definition of a domain with this number this name.
 pub(crate) fn define<F: Files>(
     alloc: Global,
     keeper: &mut Keeper<F, Brand>,
-    kind: BookKind,
     number: u8,
     name: &str,
-) -> Result<Answer, NoMemory> {
-    let uuid = uuid(number);
-    let entry = entry(alloc, name)?;
-    Ok(change(keeper, Change::Put { kind, uuid, entry }))
+) -> Answer {
+    match entry(alloc, name) {
+        Ok(entry) => change(
+            keeper,
+            Change::Put {
+                kind: BookKind::Domain,
+                uuid: uuid(number),
+                entry,
+            },
+        ),
+        Err(NoMemory) => Answer::NoMemory,
+    }
 }

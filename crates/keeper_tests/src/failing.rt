@@ -1,20 +1,15 @@
 // Calls of a directory that fail.
-use files_disk::{Effect, FailingCall};
+use files_disk::{Effect, FailingCall, MemFiles};
 use std::alloc::Global;
-use virt_types::NoMemory;
 
-/// The call of this number fails with this effect.
-pub(crate) fn failing_so(
-    alloc: Global,
-    number: u64,
-    effect: Effect,
-) -> Result<Vec<FailingCall>, NoMemory> {
+/// The files, of whose calls the one of this number fails with this effect. Where there is no memory none does.
+pub(crate) fn failing_so(alloc: Global, files: MemFiles, number: u64, effect: Effect) -> MemFiles {
     let mut failing = Vec::new(alloc);
-    failing.push(FailingCall { number, effect })?;
-    Ok(failing)
+    let _ = failing.push(FailingCall { number, effect });
+    files.failing(failing)
 }
 
-/// The call of this number fails, and does nothing.
-pub(crate) fn failing_at(alloc: Global, number: u64) -> Result<Vec<FailingCall>, NoMemory> {
-    failing_so(alloc, number, Effect::Nothing)
+/// The files, of whose calls the one of this number fails, and does nothing.
+pub(crate) fn failing_at(alloc: Global, files: MemFiles, number: u64) -> MemFiles {
+    failing_so(alloc, files, number, Effect::Nothing)
 }

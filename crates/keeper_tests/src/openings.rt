@@ -1,10 +1,9 @@
 // A directory of both versions, and faults while it is opened or looked at.
 use crate::failing::failing_at;
 use crate::keepers::TestKeeper;
-use def_keeper::{Found, Keeper, OpenFault, examine};
+use def_keeper::{OpenFault, examine};
 use files_disk::{Files, MemFiles};
 use std::alloc::Global;
-use std::test::Fail;
 use virt_types::{Fault, NoMemory, OrNoMemory, Text};
 
 const ONE: &str = "domain-01010101-0101-0101-0101-010101010101.def";
@@ -22,79 +21,57 @@ const VERSION_2: &str = "def 2 autostart=no name=b\ntitle=t\nlength=5\n<b/>\n";
 enum Answer {
     Found(usize, usize),
     Device,
-    NotADefinition,
-    TwoOfOneName,
-    NoMemory,
+    Other,
 }
 
-fn answered(opened: Result<(TestKeeper, Found), (MemFiles, OrNoMemory<OpenFault>)>) -> Answer {
-    match opened {
-        Ok(opened) => {
-            let (_keeper, found) = opened;
-            Answer::Found(found.definitions.len(), found.statuses.len())
+fn put(alloc: Global, files: &mut MemFiles, name: &str, content: &str) -> bool {
+    match Text::copy_of(alloc, name) {
+        Ok(name) => {
+            files.write(&name, content.as_bytes()).is_ok()
+                && files.sync(&name).is_ok()
+                && files.sync_dir().is_ok()
         }
-        Err(refused) => {
-            let (_files, fault) = refused;
-            answer_of(&fault)
-        }
+        Err(NoMemory) => false,
     }
 }
 
-fn answer_of(fault: &OrNoMemory<OpenFault>) -> Answer {
-    match fault {
-        OrNoMemory::NoMemory => Answer::NoMemory,
-        OrNoMemory::Fault(OpenFault::Device) => Answer::Device,
-        OrNoMemory::Fault(OpenFault::NotADefinition { .. }) => Answer::NotADefinition,
-        OrNoMemory::Fault(OpenFault::TwoOfOneName { .. }) => Answer::TwoOfOneName,
-    }
-}
-
-fn put(alloc: Global, files: &mut MemFiles, name: &str, content: &str) -> Result<(), NoMemory> {
-    let name = Text::copy_of(alloc, name)?;
-    let written = files.write(&name, content.as_bytes()).is_ok() && files.sync(&name).is_ok();
-    if written && files.sync_dir().is_ok() {
-        return Ok(());
-    }
-    Err(NoMemory)
-}
-
-// A directory of both versions, with a status file and one that reports nothing.
-pub(crate) fn both_versions(alloc: Global) -> Result<MemFiles, NoMemory> {
+/// A directory of both versions, with a status file and one that reports nothing. Where there is no memory, with less.
+pub(crate) fn both_versions(alloc: Global) -> MemFiles {
     let mut files = MemFiles::new(alloc);
-    put(alloc, &mut files, TWO, VERSION_2)?;
-    put(alloc, &mut files, ONE, VERSION_1)?;
-    put(
-        alloc,
-        &mut files,
-        STATUS,
-        "run 1 boot=7 state=1 op=0 phase=0 name=a\n",
-    )?;
-    put(alloc, &mut files, "run-x.sta", "")?;
-    Ok(files)
-}
-
-#[test]
-fn a_fault_in_each_call_of_an_opening_is_told(rt: HostRuntime) -> Result<(), Fail> {
-    let alloc = rt.alloc();
-    for number in 1..10u64 {
-        let files = both_versions(alloc)?.failing(failing_at(alloc, number)?);
-        let wanted = if number < 9 {
-            Answer::Device
-        } else {
-            Answer::Found(2, 2)
-        };
-        assert_eq!(rt; answered(Keeper::open(alloc, files)), wanted);
+    let contents = [
+        (TWO, VERSION_2),
+        (ONE, VERSION_1),
+        (STATUS, "run 1 boot=7 state=1 op=0 phase=0 name=a\n"),
+        ("run-x.sta", ""),
+    ];
+    for (name, content) in contents {
+        put(alloc, &mut files, name, content);
     }
-    Ok(())
+    files
+}
+
+// What an opening of that directory answers, where the call of this number fails.
+fn opened(alloc: Global, number: u64) -> Answer {
+    match TestKeeper::open(alloc, failing_at(alloc, both_versions(alloc), number)) {
+        Ok((_keeper, found)) => Answer::Found(found.definitions.len(), found.statuses.len()),
+        Err((_files, OrNoMemory::Fault(OpenFault::Device))) => Answer::Device,
+        Err(_) => Answer::Other,
+    }
+}
+
+// Whether an examination of that directory fails, where the call of this number does.
+fn fails_examined(alloc: Global, number: u64) -> bool {
+    let mut files = failing_at(alloc, both_versions(alloc), number);
+    matches!(examine(alloc, &mut files), Err(Fault::Failed))
 }
 
 #[test]
-fn a_fault_in_each_call_of_an_examination_is_told(rt: HostRuntime) -> Result<(), Fail> {
-    let alloc = rt.alloc();
+fn a_fault_in_each_call_of_an_opening_or_examination_is_told(rt: HostRuntime) {
+    for number in 1..9u64 {
+        assert_eq!(rt; opened(rt.alloc(), number), Answer::Device);
+    }
+    assert_eq!(rt; opened(rt.alloc(), 9), Answer::Found(2, 2));
     for number in 1..7u64 {
-        let mut files = both_versions(alloc)?.failing(failing_at(alloc, number)?);
-        let failed = matches!(examine(alloc, &mut files), Err(Fault::Failed));
-        assert_eq!(rt; failed, number < 6);
+        assert_eq!(rt; fails_examined(rt.alloc(), number), number < 6);
     }
-    Ok(())
 }

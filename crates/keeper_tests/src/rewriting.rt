@@ -6,8 +6,7 @@ use def_keeper::Found;
 use files_disk::MemFiles;
 use std::alloc::Global;
 use std::test::Fail;
-use store_spec::{BookKind, Version};
-use virt_types::NoMemory;
+use store_spec::Version;
 
 // How many of the definitions that are found have each version.
 fn versions_of(found: &Found) -> (usize, usize) {
@@ -20,52 +19,49 @@ fn versions_of(found: &Found) -> (usize, usize) {
 }
 
 // What a store finds that opens after a crash; none where it doesn't open.
-fn left(
-    alloc: Global,
-    files: &MemFiles,
-    moment: usize,
-    lost: usize,
-) -> Result<Option<(usize, usize)>, NoMemory> {
-    match TestKeeper::open(alloc, files.image(moment, lost, true)?) {
-        Ok(opened) => {
-            let (_keeper, found) = opened;
-            Ok(Some(versions_of(&found)))
-        }
-        Err(_) => Ok(None),
+fn left(alloc: Global, files: &MemFiles, moment: usize, lost: usize) -> Option<(usize, usize)> {
+    match files.image(moment, lost, true) {
+        Ok(image) => match TestKeeper::open(alloc, image) {
+            Ok((_keeper, found)) => Some(versions_of(&found)),
+            Err(_) => None,
+        },
+        Err(_) => None,
     }
 }
 
 // The first moment from `start` on at which a crash leaves another count of definitions than two.
-fn first_other(alloc: Global, files: &MemFiles, start: usize) -> Result<Option<usize>, NoMemory> {
+fn first_other(alloc: Global, files: &MemFiles, start: usize) -> Option<usize> {
     for moment in start..=files.operations().len() {
         for lost in 0..3usize {
-            match left(alloc, files, moment, lost)? {
-                Some((1, 1) | (0, 2)) => {}
-                _ => return Ok(Some(moment)),
+            if !matches!(left(alloc, files, moment, lost), Some((1, 1) | (0, 2))) {
+                return Some(moment);
             }
         }
     }
-    Ok(None)
+    None
+}
+
+// The files of a store of both versions, whose first definition was written again; how many of each version it found, and what
+// the change was answered.
+fn rewritten(alloc: Global) -> Option<(MemFiles, (usize, usize), Answer)> {
+    match TestKeeper::open(alloc, both_versions(alloc)) {
+        Ok((mut keeper, found)) => {
+            let answer = define(alloc, &mut keeper, 1, "a");
+            let (files, _) = keeper.close();
+            Some((files, versions_of(&found), answer))
+        }
+        Err(_) => None,
+    }
 }
 
 #[test]
 fn each_stop_of_a_rewriting_leaves_both_definitions(rt: HostRuntime) -> Result<(), Fail> {
-    let alloc = rt.alloc();
-    let Ok((mut keeper, found)) = TestKeeper::open(alloc, both_versions(alloc)?) else {
-        return Err(Fail::from(NoMemory));
-    };
-    assert_eq!(rt; versions_of(&found), (1, 1));
-    assert_eq!(rt;
-        define(alloc, &mut keeper, BookKind::Domain, 1, "a")?,
-        Answer::Done
-    );
-    let (files, _) = keeper.close();
+    let (files, found, answer) = rewritten(rt.alloc()).ok_or("it does not open")?;
+    assert_eq!(rt; (found, answer), ((1, 1), Answer::Done));
     let done = files.operations().len();
-    assert_eq!(rt; first_other(alloc, &files, done.saturating_sub(4))?, None);
-    assert_eq!(rt;
-        left(alloc, &files, done.saturating_sub(4), 0)?,
-        Some((1, 1))
-    );
-    assert_eq!(rt; left(alloc, &files, done, 2)?, Some((0, 2)));
+    let begun = done.saturating_sub(4);
+    assert_eq!(rt; first_other(rt.alloc(), &files, begun), None);
+    assert_eq!(rt; left(rt.alloc(), &files, begun, 0), Some((1, 1)));
+    assert_eq!(rt; left(rt.alloc(), &files, done, 2), Some((0, 2)));
     Ok(())
 }

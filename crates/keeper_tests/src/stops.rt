@@ -7,18 +7,16 @@ use def_keeper::Keeper;
 use def_map::DefMap;
 use files_disk::{Effect, MemFiles};
 use std::alloc::Global;
-use std::test::Fail;
 use store_spec::BookKind;
-use virt_types::NoMemory;
 
 fn keeper(alloc: Global, files: MemFiles) -> TestKeeper {
     Keeper::adopt(alloc, files, DefMap::new(alloc))
 }
 
 // Which definitions a keeper finds that opens these files; none where it doesn't open.
-fn standing(alloc: Global, files: MemFiles) -> Result<Option<u32>, NoMemory> {
+fn standing(alloc: Global, files: MemFiles) -> Option<u32> {
     let Ok((keeper, _found)) = TestKeeper::open(alloc, files) else {
-        return Ok(None);
+        return None;
     };
     let mut found = 0u32;
     for number in 0..3u8 {
@@ -26,97 +24,85 @@ fn standing(alloc: Global, files: MemFiles) -> Result<Option<u32>, NoMemory> {
             found |= 1 << number;
         }
     }
-    Ok(Some(found))
+    Some(found)
+}
+
+// The same after a crash.
+fn left(alloc: Global, files: &MemFiles, moment: usize, lost: usize, torn: bool) -> Option<u32> {
+    match files.image(moment, lost, torn) {
+        Ok(image) => standing(alloc, image),
+        Err(_) => None,
+    }
 }
 
 // Whether each crash after so many operations leaves one of these sets, and each of them is left.
-fn leaves(alloc: Global, files: &MemFiles, moment: usize, sets: &[u32]) -> Result<bool, NoMemory> {
+fn leaves(alloc: Global, files: &MemFiles, moment: usize, sets: &[u32]) -> bool {
     let mut seen = 0u32;
     for lost in 0..4usize {
         for torn in [false, true] {
-            let found = standing(alloc, files.image(moment, lost, torn)?)?;
-            if !is_one_of(found, sets, &mut seen) {
-                return Ok(false);
+            if !is_one_of(left(alloc, files, moment, lost, torn), sets, &mut seen) {
+                return false;
             }
         }
     }
-    Ok(seen.count_ones() as usize == sets.len())
+    seen.count_ones() as usize == sets.len()
 }
 
 // The first moment at which a crash leaves other sets than these, or the count of operations.
-fn first_other(alloc: Global, files: &MemFiles, rows: &[&[u32]]) -> Result<usize, NoMemory> {
+fn first_other(alloc: Global, files: &MemFiles, rows: &[&[u32]]) -> usize {
     for (moment, sets) in rows.iter().enumerate() {
-        if !leaves(alloc, files, moment, sets)? {
-            return Ok(moment);
+        if !leaves(alloc, files, moment, sets) {
+            return moment;
         }
     }
-    Ok(files.operations().len())
+    files.operations().len()
 }
 
-#[test]
-fn each_stop_of_three_defines_leaves_the_first_ones(rt: HostRuntime) -> Result<(), Fail> {
-    let alloc = rt.alloc();
-    let mut keeper = keeper(alloc, MemFiles::new(alloc));
-    assert_eq!(rt;
-        define(alloc, &mut keeper, BookKind::Domain, 0, "a")?,
-        Answer::Done
-    );
-    assert_eq!(rt;
-        define(alloc, &mut keeper, BookKind::Domain, 1, "b")?,
-        Answer::Done
-    );
-    assert_eq!(rt;
-        define(alloc, &mut keeper, BookKind::Domain, 2, "c")?,
-        Answer::Done
-    );
+// What three defines answer; whether the second one's domain is there then; and the files.
+fn three(alloc: Global, files: MemFiles) -> ([Answer; 3], bool, MemFiles) {
+    let mut keeper = keeper(alloc, files);
+    let first = define(alloc, &mut keeper, 0, "a");
+    let second = define(alloc, &mut keeper, 1, "b");
+    let is_there = keeper.map().get(BookKind::Domain, uuid(1)).is_some();
+    let third = define(alloc, &mut keeper, 2, "c");
     let (files, _) = keeper.close();
-    assert_eq!(rt; first_other(alloc, &files, &THREE_PUTS)?, 12);
-    Ok(())
-}
-
-fn failing(alloc: Global, number: u64, effect: Effect) -> Result<MemFiles, NoMemory> {
-    Ok(MemFiles::new(alloc).failing(failing_so(alloc, number, effect)?))
+    ([first, second, third], is_there, files)
 }
 
 #[test]
-fn a_change_in_doubt_is_settled_by_the_next(rt: HostRuntime) -> Result<(), Fail> {
-    let alloc = rt.alloc();
-    let mut keeper = keeper(alloc, failing(alloc, 8, Effect::Nothing)?);
-    assert_eq!(rt;
-        define(alloc, &mut keeper, BookKind::Domain, 0, "a")?,
-        Answer::Done
-    );
-    assert_eq!(rt;
-        define(alloc, &mut keeper, BookKind::Domain, 1, "b")?,
-        Answer::Device
-    );
-    assert!(rt; keeper.map().get(BookKind::Domain, uuid(1)).is_none());
-    assert_eq!(rt;
-        define(alloc, &mut keeper, BookKind::Domain, 2, "c")?,
-        Answer::Done
-    );
+fn each_stop_of_three_defines_leaves_the_first_ones(rt: HostRuntime) {
+    let (answers, is_there, files) = three(rt.alloc(), MemFiles::new(rt.alloc()));
+    assert_eq!(rt; (answers, is_there), ([Answer::Done; 3], true));
+    assert_eq!(rt; first_other(rt.alloc(), &files, &THREE_PUTS), 12);
+}
+
+fn failing(alloc: Global, number: u64, effect: Effect) -> MemFiles {
+    failing_so(alloc, MemFiles::new(alloc), number, effect)
+}
+
+#[test]
+fn a_change_in_doubt_is_settled_by_the_next(rt: HostRuntime) {
+    let (answers, is_there, files) = three(rt.alloc(), failing(rt.alloc(), 8, Effect::Nothing));
+    let wanted = [Answer::Done, Answer::Device, Answer::Done];
+    assert_eq!(rt; (answers, is_there), (wanted, false));
+    assert_eq!(rt; first_other(rt.alloc(), &files, &DROPPED_FIRST), 13);
+}
+
+// What two equal defines answer, of which a call fails so, and what stands then.
+fn twice(alloc: Global, number: u64, effect: Effect) -> ([Answer; 2], Option<u32>) {
+    let mut keeper = keeper(alloc, failing(alloc, number, effect));
+    let first = define(alloc, &mut keeper, 0, "a");
+    let second = define(alloc, &mut keeper, 0, "a");
     let (files, _) = keeper.close();
-    assert_eq!(rt; first_other(alloc, &files, &DROPPED_FIRST)?, 13);
-    Ok(())
+    ([first, second], standing(alloc, files))
 }
 
 #[test]
-fn a_fault_in_each_call_is_told_in_that_call_alone(rt: HostRuntime) -> Result<(), Fail> {
-    let alloc = rt.alloc();
+fn a_fault_in_each_call_is_told_in_that_call_alone(rt: HostRuntime) {
     for number in 1..5u64 {
         for effect in [Effect::Nothing, Effect::Half, Effect::Whole] {
-            let mut keeper = keeper(alloc, failing(alloc, number, effect)?);
-            assert_eq!(rt;
-                define(alloc, &mut keeper, BookKind::Domain, 0, "a")?,
-                Answer::Device
-            );
-            assert_eq!(rt;
-                define(alloc, &mut keeper, BookKind::Domain, 0, "a")?,
-                Answer::Done
-            );
-            let (files, _) = keeper.close();
-            assert_eq!(rt; standing(alloc, files)?, Some(1));
+            let wanted = ([Answer::Device, Answer::Done], Some(1));
+            assert_eq!(rt; twice(rt.alloc(), number, effect), wanted);
         }
     }
-    Ok(())
 }

@@ -1,8 +1,14 @@
-use Rattle.domain_stories.proofs.Staying.{run_stays}
-use Rattle.domain_stories.proofs.calls.run.Goals as goal
+use Rattle.domain_stories.proofs.Staying.{operation_stays, run_stays}
+use Rattle.domain_stories.proofs.calls.do_call.Goals as goal
 
-pub returns : goal.returns
-returns g c =
+pub returns-then-does_begin : goal.returns-then-does_begin
+returns-then-does_begin g c =
     let a = c.args in
-    let r = c.run-pass.result in
-    run_stays g.E.Ears.ends g.E.Ears.faults g.E.Ears.unheard a.who a.call.now a.pass r.0 (g.D.Desk.report a.desk.now) (g.D.Desk.report c.run-pass.new.desk) r.1 r.2 c.run-pass.ensures c.requires.free
+    let r = c.run_op-after.result in
+    operation_stays g.E.Ears.ends g.E.Ears.faults g.E.Ears.unheard a.who a.call.now a.pass r.0 (g.D.Desk.report a.desk.now) (g.D.Desk.report c.run_op-after.new.desk) r.1 r.2 c.run_op-after.ensures c.requires.free
+
+pub returns-else-does_begin : goal.returns-else-does_begin
+returns-else-does_begin g c =
+    let a = c.args in
+    let r = c.run-after.result in
+    run_stays g.E.Ears.ends g.E.Ears.faults g.E.Ears.unheard a.who a.call.now a.pass r.0 (g.D.Desk.report a.desk.now) (g.D.Desk.report c.run-after.new.desk) r.1 r.2 c.run-after.ensures c.requires.free

@@ -9,7 +9,6 @@ use Rattle.domain_threads.proofs.Objects.{object_sync, pass_send}
 use Rattle.domain_stories.proofs.acting.Acted.TheSendSync as acted
 use Rattle.domain_stories.proofs.acting.Actor.TheSendSync as actor
 use Rattle.domain_stories.proofs.Crossing.{two_sync}
-use Rattle.domain_stories.proofs.desk.HoldingDesk.TheSendSync as desk
 use Rattle.domain_stories.proofs.scene.Scene.TheSendSync as scene
 use Rattle.domain_stories.specs.contracts.scene.Scene
 use Rattle.domain_stories.proofs.stage.act_all.Goals as goal
@@ -19,11 +18,9 @@ map_vec-requires-send-J g c κs within =
     let M = param 0 g.row.M in
     let E = param 1 g.row.E in
     let Z = param 2 g.row.Z in
-    let D = param 3 g.row.D in
-    let H = copied 4 g.row.H in
     let may = c.type_bounds in
     let pass = pass_send M E Z g.M.Monitor g.E.Ears g.Z.Killer may.send-M may.send-E may.send-Z in
-    param_send 1 _ (arg_send _ no _ (actor.the_send _ _ pass (desk.the_send H D may.send-H may.send-D)))
+    param_send 1 _ (arg_send _ no _ (actor.the_send _ _ pass may.send-D))
 
 pub map_vec-requires-send-X : goal.map_vec-requires-send-X
 map_vec-requires-send-X g c κs within =
