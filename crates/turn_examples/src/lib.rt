@@ -4,10 +4,6 @@
 mod counter;
 mod crowd;
 mod kept;
-#[cfg(test)]
-mod resting_tests;
-#[cfg(test)]
-mod tests;
 mod turns;
 mod two;
 

@@ -1,5 +1,5 @@
 use Rattle.std.proofs.Common.{◌≡◌}
-use Rattle.turn_examples.proofs.resting_tests.add_alternately.Given as goal
+use Rattle.turn_stories.proofs.resting.add_alternately.Given as goal
 
 abbrev pub invariant-loop : goal.invariant-loop
 invariant-loop g l = l.pass.cell ≡ l.fn.cell

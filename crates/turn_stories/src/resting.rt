@@ -1,12 +1,13 @@
+// What ends a rest.
 ghost use Rattle.std.specs.Prelude.{◌≡◌, IfSome};
 
-use super::*;
+use std::alloc::Global;
 use std::rt::Clock;
 use std::sync::Wait;
-use std::test::Fail;
-use std::thread::join;
+use std::thread::{Threads, join};
 use std::time::{Duration, Instant};
 use turn_cell::TurnCell;
+use turn_examples::{Counter, CounterPass, add_once, look_once};
 
 // How many milliseconds a rest takes at least where nothing ends it, with some room for the clock.
 const WHOLE_REST: u128 = 95;
@@ -87,45 +88,48 @@ fn look_for<R: Wait + Clock>(
     unreachable!()
 }
 
-#[test]
-fn a_mark_of_another_thread_ends_a_rest(rt: HostRuntime) -> Result<(), Fail> {
-    let Ok((cell, pass)) = TurnCell::new_at(rt.alloc(), Counter::new(rt.alloc()), 0) else {
-        return Err("memory".into());
+/// Whether two threads that rest until the other one has left its mark are done long before their rests would end by themselves.
+pub(crate) fn is_ended_by_marks<R: Threads + Wait + Clock + Sync>(
+    rt: &R,
+    alloc: Global,
+) -> Option<bool> {
+    let Ok((cell, pass)) = TurnCell::new_at(alloc, Counter::new(alloc), 0) else {
+        return None;
     };
     let (one, other) = cell.split(pass);
-    let start = Instant::now(&rt).ok().ok_or("no clock")?;
+    let start = Instant::now(rt).ok()?;
     let (one, other) = join(
-        &rt,
+        rt,
         || -> Option<CounterPass>
             requires { one.cell ≡ cell }
-        { add_alternately(&rt, &cell, one, 0, 1000) },
+        { add_alternately(rt, &cell, one, 0, 1000) },
         || -> Option<CounterPass>
             requires { other.cell ≡ cell }
-        { add_alternately(&rt, &cell, other, 1, 1000) },
+        { add_alternately(rt, &cell, other, 1, 1000) },
     );
-    assert!(rt; one.is_some() && other.is_some());
-    let taken = start.elapsed(&rt).ok().ok_or("no clock")?;
-    assert!(rt; taken < Duration::from_secs(5));
-    Ok(())
+    let taken = start.elapsed(rt).ok()?;
+    Some(one.is_some() && other.is_some() && taken < Duration::from_secs(5))
 }
 
-#[test]
-fn turns_without_marks_end_no_rest_and_it_ends_by_itself(rt: HostRuntime) -> Result<(), Fail> {
-    let Ok((cell, pass)) = TurnCell::new_at(rt.alloc(), Counter::new(rt.alloc()), 0) else {
-        return Err("memory".into());
+/// Whether a rest goes on while another thread takes turns without marks, and ends by itself.
+pub(crate) fn ends_by_itself<R: Threads + Wait + Clock + Sync>(
+    rt: &R,
+    alloc: Global,
+) -> Option<bool> {
+    let Ok((cell, pass)) = TurnCell::new_at(alloc, Counter::new(alloc), 0) else {
+        return None;
     };
     let (one, other) = cell.split(pass);
     let (rested, looked) = join(
-        &rt,
+        rt,
         || -> Option<(CounterPass, Duration)>
             requires { one.cell ≡ cell }
-        { rest_after_a_look(&rt, &cell, one) },
+        { rest_after_a_look(rt, &cell, one) },
         || -> Option<()>
             requires { other.cell ≡ cell }
-        { look_for(&rt, &cell, other, Duration::from_millis(300)) },
+        { look_for(rt, &cell, other, Duration::from_millis(300)) },
     );
-    assert!(rt; looked.is_some());
-    let (_, taken) = rested.ok_or("spent")?;
-    assert!(rt; taken.as_millis() >= WHOLE_REST && taken < Duration::from_secs(2));
-    Ok(())
+    let (_, taken) = rested?;
+    looked?;
+    Some(taken.as_millis() >= WHOLE_REST && taken < Duration::from_secs(2))
 }
