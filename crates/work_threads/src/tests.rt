@@ -82,6 +82,6 @@ fn what_was_posted_is_left_when_it_is_waited_for(rt: HostRuntime) {
 fn pieces_come_back_in_order(rt: HostRuntime) -> Result<(), Fail> {
     let all = vec![in rt.alloc(); Adds { amount: 1 }, Adds { amount: 2 }]?;
     let left = do_all(&rt, &40, all)?;
-    assert_eq!(rt; left.as_slice(), [41, 42]);
+    assert_eq!(rt; left.as_slice(), [41, 42].as_slice());
     Ok(())
 }
