@@ -20,10 +20,18 @@ fn header_of(words: &str, kind: u32, serial: u32) -> Header {
     }
 }
 
+// What stands before and behind the first of these characters. Where there is none, nothing stands behind it.
+fn halves(text: &str, at: char) -> (&str, &str) {
+    match text.split_once(at) {
+        Some(halves) => halves,
+        None => (text, ""),
+    }
+}
+
 // What a row says, of which this comes before its first payload.
 fn put_row(line: &mut Line, alloc: Global, head: &str, rest: &str) -> Result<(), AllocError> {
-    let (kind, of) = head.split_once(' ').unwrap_or((head, ""));
-    let (first, second) = rest.split_once('|').unwrap_or((rest, ""));
+    let (kind, of) = halves(head, ' ');
+    let (first, second) = halves(rest, '|');
     let first = bytes_of(alloc, first)?;
     let second = bytes_of(alloc, second)?;
     match kind {
