@@ -26,10 +26,10 @@ fn pieces_come_in_order_and_a_full_lane_gives_back(rt: HostRuntime) -> Result<()
 #[test]
 fn a_lane_of_a_session_holds_sixteen(rt: HostRuntime) -> Result<(), Fail> {
     let (mut puts, _takes) = Lane::new(rt.alloc(), ROOM)?;
-    let mut count = 0;
+    let mut count: u32 = 0;
     for piece in 0u32..20 {
         if puts.put(&rt, piece).is_ok() {
-            count += 1;
+            count = count.saturating_add(1);
         }
     }
     assert_eq!(rt; count, 16);
