@@ -1,0 +1,7 @@
+-- What is said owns nothing, so it may go to another thread.
+use denote.RattleType.{RattleType}
+use denote.Param.Send.{IsSend}
+use Rattle.types_ghost.specs.contracts.said.Said.{the_row}
+
+pub send : (T : RattleType) → IsSend (the_row T)
+send T = record { owned = λ n vs. ((λ vss. (tt, ((λ uss. (tt, tt)), tt))), tt); leaving = λ k d w. tt }
