@@ -1,11 +1,7 @@
 // A book of networks whose one user is pass 0.
-ghost use Rattle.book_spec.specs.declared.book.NetCall.{NetCall};
-ghost use Rattle.book_spec.specs.NetCalls.{IsStored};
-ghost use Rattle.book_spec.specs.NetHistory.{CanCall};
-
 use crate::refusals::spent;
 use book_spec::{LeaseFault, NetRowList};
-use net_core::NetBook;
+use net_core::{Autostart, Define, Lease, NetBook, Start, Stop, Undefine, open};
 use std::alloc::Global;
 use std::test::Fail;
 use virt_types::{
@@ -67,7 +63,7 @@ pub(crate) struct Tester {
 
 impl Tester {
     pub(crate) fn new(alloc: Global) -> Result<Tester, Fail> {
-        match NetBook::new(alloc, ListOf::new(alloc)) {
+        match open(alloc, ListOf::new(alloc)) {
             Ok(book) => Ok(Tester { book, alloc }),
             Err(_) => Err("memory".into()),
         }
@@ -77,8 +73,10 @@ impl Tester {
         if self.book.chapter() >= 1 << 62 {
             return Err(spent(self.alloc));
         }
-        self.book.may_define(&def)?;
-        self.book.define(def)
+        let define = Define { def };
+        self.book.may(&define)?;
+        self.book.make(define);
+        Ok(())
     }
 
     // Where it may be defined, the store refuses.
@@ -86,8 +84,9 @@ impl Tester {
         if self.book.chapter() >= 1 << 62 {
             return Err(spent(self.alloc));
         }
-        self.book.may_define(&def)?;
-        refuse(&mut self.book, &def, spent(self.alloc));
+        let define = Define { def };
+        self.book.may(&define)?;
+        self.book.refuse(&define, &spent(self.alloc));
         Ok(())
     }
 
@@ -95,30 +94,34 @@ impl Tester {
         if self.book.chapter() >= 1 << 62 {
             return Err(spent(self.alloc));
         }
-        self.book.may_undefine(uuid)?;
-        self.book.undefine(uuid)
+        let undefine = Undefine { uuid };
+        self.book.may(&undefine)?;
+        self.book.make(undefine);
+        Ok(())
     }
 
     pub(crate) fn autostart(&mut self, uuid: Uuid, on: bool) -> Result<(), Refusal> {
         if self.book.chapter() >= 1 << 62 {
             return Err(spent(self.alloc));
         }
-        self.book.may_autostart(uuid, on)?;
-        self.book.autostart(uuid, on)
+        let autostart = Autostart { uuid, on };
+        self.book.may(&autostart)?;
+        self.book.make(autostart);
+        Ok(())
     }
 
     pub(crate) fn start(&mut self, uuid: Uuid) -> Result<(), Refusal> {
         if self.book.chapter() >= 1 << 62 {
             return Err(spent(self.alloc));
         }
-        self.book.start(uuid)
+        self.book.call(Start { uuid })
     }
 
     pub(crate) fn stop(&mut self, uuid: Uuid) -> Result<(), Refusal> {
         if self.book.chapter() >= 1 << 62 {
             return Err(spent(self.alloc));
         }
-        self.book.stop(uuid)
+        self.book.call(Stop { uuid })
     }
 
     pub(crate) fn lease(&mut self, name: &str, last: u8) -> Result<u32, OrNoMemory<LeaseFault>> {
@@ -126,18 +129,21 @@ impl Tester {
             return Err(OrNoMemory::NoMemory);
         }
         let name = Text::copy_of(self.alloc, name)?;
-        self.book.lease(&name, mac(last))
+        self.book.call(Lease {
+            name: &name,
+            mac: mac(last),
+        })
     }
 
     pub(crate) fn list(&self) -> Result<NetRowList, Fail> {
-        match self.book.list() {
+        match self.book.table().list() {
             Ok(rows) => Ok(rows),
             Err(_) => Err("memory".into()),
         }
     }
 
     pub(crate) fn leases(&self, uuid: Uuid) -> Result<LeaseRowList, Fail> {
-        match self.book.leases(uuid) {
+        match self.book.table().leases(uuid) {
             Ok(rows) => Ok(rows),
             Err(_) => Err("no leases".into()),
         }
@@ -146,13 +152,4 @@ impl Tester {
     pub(crate) fn marks(&self) -> u64 {
         self.book.marks()
     }
-}
-
-// The store refused the definition of this network.
-fn refuse(book: &mut NetBook, _def: &NetDef, refusal: Refusal)
-    ghost asked: { NetCall }
-    requires stored { IsStored asked }
-    requires can { CanCall asked book.old }
-{
-    book.refuse(refusal);
 }

@@ -1,6 +1,6 @@
 // A book of pools whose one user is pass 0.
 use crate::refusals::spent;
-use pool_core::PoolBook;
+use pool_core::{Define, DropVolume, MakeVolume, PoolBook, Start, Stop, open};
 use std::alloc::Global;
 use std::test::Fail;
 use virt_types::{ListOf, Name, NameList, PoolDef, PoolType, Refusal, Text, Uuid, VolDef};
@@ -53,7 +53,7 @@ pub(crate) struct Tester {
 
 impl Tester {
     pub(crate) fn new(alloc: Global) -> Result<Tester, Fail> {
-        match PoolBook::new(alloc, ListOf::new(alloc)) {
+        match open(alloc, ListOf::new(alloc)) {
             Ok(book) => Ok(Tester { book, alloc }),
             Err(_) => Err("memory".into()),
         }
@@ -63,43 +63,45 @@ impl Tester {
         if self.book.chapter() >= 1 << 62 {
             return Err(spent(self.alloc));
         }
-        self.book.may_define(&def)?;
-        self.book.define(def)
+        let define = Define { def };
+        self.book.may(&define)?;
+        self.book.make(define);
+        Ok(())
     }
 
     pub(crate) fn start(&mut self, uuid: Uuid) -> Result<(), Refusal> {
         if self.book.chapter() >= 1 << 62 {
             return Err(spent(self.alloc));
         }
-        self.book.start(uuid)
+        self.book.call(Start { uuid })
     }
 
     pub(crate) fn stop(&mut self, uuid: Uuid) -> Result<(), Refusal> {
         if self.book.chapter() >= 1 << 62 {
             return Err(spent(self.alloc));
         }
-        self.book.stop(uuid)
+        self.book.call(Stop { uuid })
     }
 
     pub(crate) fn make_volume(&mut self, uuid: Uuid, def: VolDef) -> Result<(), Refusal> {
         if self.book.chapter() >= 1 << 62 {
             return Err(spent(self.alloc));
         }
-        self.book.make_volume(uuid, def)
+        self.book.call(MakeVolume { pool: uuid, def })
     }
 
     pub(crate) fn drop_volume(&mut self, uuid: Uuid, name: &Name) -> Result<(), Refusal> {
         if self.book.chapter() >= 1 << 62 {
             return Err(spent(self.alloc));
         }
-        self.book.drop_volume(uuid, name)
+        self.book.call(DropVolume { pool: uuid, name })
     }
 
     pub(crate) fn volumes(&self, uuid: Uuid) -> Result<NameList, Refusal> {
-        self.book.volumes(uuid)
+        self.book.table().volumes(uuid)
     }
 
     pub(crate) fn volume(&self, uuid: Uuid, name: &Name) -> Result<VolDef, Refusal> {
-        self.book.volume(uuid, name)
+        self.book.table().volume(uuid, name)
     }
 }

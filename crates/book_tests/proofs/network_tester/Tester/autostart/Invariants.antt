@@ -1,7 +1,7 @@
 use Rattle.book_tests.proofs.network_tester.Tester.autostart.Given as goal
 
-abbrev pub ghost-may_autostart : goal.ghost-may_autostart
-ghost-may_autostart a = 0
+abbrev pub ghost-may : goal.ghost-may
+ghost-may a = 0
 
-abbrev pub ghost-autostart : goal.ghost-autostart
-ghost-autostart a = 0
+abbrev pub ghost-make : goal.ghost-make
+ghost-make a = 0

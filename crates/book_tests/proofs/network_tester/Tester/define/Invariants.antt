@@ -1,7 +1,7 @@
 use Rattle.book_tests.proofs.network_tester.Tester.define.Given as goal
 
-abbrev pub ghost-may_define : goal.ghost-may_define
-ghost-may_define a = 0
+abbrev pub ghost-may : goal.ghost-may
+ghost-may a = 0
 
-abbrev pub ghost-define : goal.ghost-define
-ghost-define a = 0
+abbrev pub ghost-make : goal.ghost-make
+ghost-make a = 0

@@ -1,4 +1,4 @@
 use Rattle.book_tests.proofs.network_tester.Tester.stop.Given as goal
 
-abbrev pub ghost-stop : goal.ghost-stop
-ghost-stop a = 0
+abbrev pub ghost-call : goal.ghost-call
+ghost-call a = 0

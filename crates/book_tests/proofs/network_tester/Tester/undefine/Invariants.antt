@@ -1,7 +1,7 @@
 use Rattle.book_tests.proofs.network_tester.Tester.undefine.Given as goal
 
-abbrev pub ghost-may_undefine : goal.ghost-may_undefine
-ghost-may_undefine a = 0
+abbrev pub ghost-may : goal.ghost-may
+ghost-may a = 0
 
-abbrev pub ghost-undefine : goal.ghost-undefine
-ghost-undefine a = 0
+abbrev pub ghost-make : goal.ghost-make
+ghost-make a = 0

@@ -1,4 +1,4 @@
 use Rattle.book_tests.proofs.pool_tester.Tester.make_volume.Given as goal
 
-abbrev pub ghost-make_volume : goal.ghost-make_volume
-ghost-make_volume a = 0
+abbrev pub ghost-call : goal.ghost-call
+ghost-call a = 0
