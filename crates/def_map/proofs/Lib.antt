@@ -1,4 +1,3 @@
-pub mod Rows
 pub mod MapFinds
 pub mod Elements
 pub mod Picking

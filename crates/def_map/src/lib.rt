@@ -1,11 +1,10 @@
 //! Definitions in memory, by kind and identifier, and by kind and name.
 #![tactic(auto)]
 
-mod keyed;
 mod keys;
 mod map;
 mod walk;
 
-pub use keyed::Keyed;
+pub use byte_map::Keyed;
 pub use keys::key_of;
 pub use map::DefMap;

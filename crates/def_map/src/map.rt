@@ -8,9 +8,9 @@ ghost use Rattle.def_map.specs.Map.{FindsTheSame, HasForgotten, HasNoBareRow, Is
 ghost use Rattle.def_map.specs.Listed.{AreEntries};
 ghost use Rattle.def_map.specs.Rows.{at};
 
-use crate::keyed::Keyed;
 use crate::keys::{Keys, MOST_KEY, keys_of, name_key, uuid_key};
 use crate::walk::{picked, risen};
+use byte_map::Keyed;
 use std::alloc::Global;
 use std::marker::Model;
 use store_spec::{BookKind, Entry};

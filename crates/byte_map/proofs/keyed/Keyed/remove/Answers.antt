@@ -1,7 +1,7 @@
 use Rattle.std.proofs.Common.{None, subst, sym, ap, ◌∙◌}
-use Rattle.def_map.specs.Rows.{Updates, rows_in, at}
-use Rattle.def_map.proofs.Rows.{rows_say, rows_updated}
-use Rattle.def_map.proofs.keyed.Keyed.remove.Goals as goal
+use Rattle.byte_map.specs.Rows.{Updates, rows_in, at}
+use Rattle.byte_map.proofs.Rows.{rows_say, rows_updated}
+use Rattle.byte_map.proofs.keyed.Keyed.remove.Goals as goal
 
 pub returns-clause-updates : goal.returns-clause-updates
 returns-clause-updates g c = subst (λ r. Updates c.args.bytes.now None r (rows_in c.remove.new.self.entries)) c.self.view_is (rows_updated c.args.bytes.now c.self.inside.rows c.remove.new.self None c.remove.ensures.updates)

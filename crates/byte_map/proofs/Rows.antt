@@ -4,9 +4,10 @@ use Rattle.std.specs.Option.{IsSome}
 use Rattle.std.specs.Cmp.Lexicographic.{bytes_decides, nat_list_eq_equiv}
 use Rattle.std.specs.HashMap.{HashMap}
 use Rattle.std.specs.HashMap as table
-use Rattle.std.specs.Map.{update, lookup, IsKeyTest, AreApart, KeepsOthers}
+use Rattle.std.specs.List.{AllByRecursion, IsDistinct}
+use Rattle.std.specs.Map.{update, lookup, keys_of, IsKeyTest, AreApart, KeepsOthers}
 use Rattle.std.proofs.lemmas.Bool.{cases_Bool, cond-true, cond-false}
-use Rattle.def_map.specs.Rows.{rows_in, at, Updates, Stays}
+use Rattle.byte_map.specs.Rows.{rows_in, at, Updates, Stays}
 
 apart : (bs cs ks : List ℕ) → bytes_eq bs cs ≡ false → bytes_eq bs ks ≡ true → bytes_eq cs ks ≡ false
 apart bs cs ks n y = nat_list_eq_equiv.symm cs ks ∙ (sym (nat_list_eq_equiv.congr bs ks cs y) ∙ n)
@@ -55,3 +56,14 @@ module _ {Y X S : Type 0} where
 pub not_none : {X : Type 0} (p : Option X) → IsSome p → p ≡ None → ⊥
 not_none None some none = cc
 not_none (Some x) some none = cc
+
+-- the keys of rows differ where those of the table do
+module _ {Y X : Type 0} where
+  keys_apart : (key : List ℕ) (es : List (Vec ℕ Y × X)) → AllByRecursion (λ (other : Vec ℕ Y). bytes_eq key other.items ≡ false) (keys_of es) → AllByRecursion (λ (other : List ℕ). bytes_eq key other ≡ false) (keys_of (rows_in es))
+  keys_apart key [] apart = tt
+  keys_apart key (e ∷ es) apart = (apart.0, keys_apart key es apart.1)
+
+  pub rows_apart : (es : List (Vec ℕ Y × X)) → IsDistinct (λ (one other : Vec ℕ Y). bytes_eq one.items other.items) (keys_of es) → IsDistinct bytes_eq (keys_of (rows_in es))
+  unfolding IsDistinct
+  rows_apart [] apart = tt
+  rows_apart (e ∷ es) apart = (keys_apart e.0.items es apart.0, rows_apart es apart.1)

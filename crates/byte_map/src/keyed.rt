@@ -1,7 +1,9 @@
 // Values by bytes.
-ghost use Rattle.std.specs.Prelude.{◌≡◌, List, [], ℕ, OnOk, OnErr, None, Some, length, option_copied};
+ghost use Rattle.std.specs.Prelude.{◌≡◌, List, [], ℕ, OnOk, OnErr, None, Some, bytes_eq, length, option_copied};
 ghost use Rattle.std.specs.Option.{IsSome};
-ghost use Rattle.def_map.specs.Rows.{at, rows_in, Stays, Updates};
+ghost use Rattle.std.specs.List.{IsDistinct};
+ghost use Rattle.std.specs.Map.{keys_of};
+ghost use Rattle.byte_map.specs.Rows.{at, rows_in, Stays, Updates};
 
 use std::alloc::Global;
 use std::collections::HashMap;
@@ -16,7 +18,7 @@ pub struct Keyed<V> {
 
 impl<V> Model for Keyed<V> {
     ghost use Rattle.std.specs.Prelude.{List, ℕ};
-    ghost use Rattle.def_map.specs.Rows.{rows_in};
+    ghost use Rattle.byte_map.specs.Rows.{rows_in};
 
     ghost Value = { List (List ℕ × V) };
 
@@ -79,10 +81,17 @@ impl<V> Keyed<V> {
     }
 
     /// The rows, in no order.
-    pub(crate) fn rows(&self) -> &HashMap<Vec<u8>, V>
+    pub fn rows(&self) -> &HashMap<Vec<u8>, V>
         ensures { rows_in result.now.entries ≡ self.now }
     {
         &self.rows
+    }
+
+    /// No two rows are of the same bytes.
+    pub fn know_apart(&self)
+        ensures { IsDistinct bytes_eq (keys_of self.now) }
+    {
+        let _count = self.rows.len();
     }
 
     /// How many rows there are.

@@ -1,7 +1,7 @@
 use Rattle.std.proofs.Common.{Some, subst, sym, ap, ◌∙◌}
-use Rattle.def_map.specs.Rows.{Updates, rows_in, at}
-use Rattle.def_map.proofs.Rows.{not_none, rows_updated, rows_say}
-use Rattle.def_map.proofs.keyed.Keyed.set.Goals as goal
+use Rattle.byte_map.specs.Rows.{Updates, rows_in, at}
+use Rattle.byte_map.proofs.Rows.{not_none, rows_updated, rows_say}
+use Rattle.byte_map.proofs.keyed.Keyed.set.Goals as goal
 
 pub returns-in-Ok-clause-updates : goal.returns-in-Ok-clause-updates
 returns-in-Ok-clause-updates g c = subst (λ r. Updates c.args.key.items (Some c.args.value) r (rows_in c.insert.new.self.entries)) c.self.view_is

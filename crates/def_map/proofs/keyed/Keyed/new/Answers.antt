@@ -1,5 +1,0 @@
-use Rattle.def_map.proofs.Rows.{rows_none}
-use Rattle.def_map.proofs.keyed.Keyed.new.Goals as goal
-
-pub returns : goal.returns
-returns g c = rows_none c.new.result c.new.ensures.empty
