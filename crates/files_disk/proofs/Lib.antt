@@ -1,3 +1,1 @@
-pub mod Stepping
-pub mod Gathering
-pub mod Tearing
+pub mod Rowing

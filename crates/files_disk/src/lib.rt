@@ -3,17 +3,13 @@
 #![tactic(auto)]
 
 mod directory;
-mod failing;
 mod files;
-mod images;
-mod listing;
+mod log;
 mod memory;
 mod paths;
 mod putting;
-mod seen;
 
 pub use directory::{DirFiles, MOST_FILE_BYTES};
-pub use failing::{Effect, FailingCall};
 pub use files::Files;
-pub use memory::MemFiles;
+pub use memory::{MemFile, MemFiles};
 pub use putting::{put_file, remove_file};

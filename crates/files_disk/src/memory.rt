@@ -1,75 +1,58 @@
-// Files in memory: the operations that took effect, and the calls that are to fail.
-ghost use Rattle.std.specs.Prelude.{◌≡◌, ◌≤◌, IfOk, IsErrOf, None, OnOk, Some, option_map};
-ghost use Rattle.outside_spec.specs.Faults.{HasCause, Rose};
-ghost use Rattle.store_spec.specs.Directory.{directory};
-ghost use Rattle.virt_types.specs.Below.types_base.declared.memory.Fault.TheVariants as fault;
-ghost use Rattle.files_disk.specs.Memory.{no_files};
-ghost use Rattle.files_disk.specs.Telling.{Does};
+// Files in memory: those that are there. What was done to them is for contracts alone.
+ghost use Rattle.std.specs.Prelude.{◌≡◌, IfOk, OnErr, OnOk, Some, map, option_map};
+ghost use Rattle.outside_spec.specs.Faults.{HasCause};
+ghost use Rattle.byte_map.specs.Rows.{at, rows_in, Stays, Updates};
+ghost use Rattle.files_disk.specs.Memory.{Renames, no_files, row_of};
 
-use crate::failing::{Effect, FailingCall, effect_of};
 use crate::files::Files;
-use crate::listing::names_of;
-use crate::seen::seen;
+use crate::log::Log;
+use byte_map::Keyed;
 use std::alloc::Global;
+use std::collections::HashMap;
 use std::marker::Model;
-use store_spec::Operation;
 use virt_types::{Bytes, Failed, Fault, ListOf, NoMemory, Text, TextList, TryCopy};
 
-/// Files in memory. They keep each operation that took effect, so that it can be seen what a crash
-/// would leave at each moment; and calls of them fail where they are told to. A `sync`, `remove` or
-/// `sync_dir` that finds no memory fails too.
+/// A file: its name, by which it has its row, and its bytes.
+#[derive(Drop)]
+pub struct MemFile {
+    /// Its name.
+    pub name: Text,
+    /// Its bytes.
+    pub content: Bytes,
+}
+
+/// Files in memory. They take memory for the files that are there, and none for what was done to them;
+/// contracts see all of that. A call of them fails only where a file is to be synced, or is to get
+/// another name, that isn't there.
 #[derive(Drop)]
 pub struct MemFiles {
-    pub(crate) alloc: Global,
-    pub(crate) operations: ListOf<Operation>,
-    failing: Vec<FailingCall>,
-    calls: u64,
+    alloc: Global,
+    rows: Keyed<MemFile>,
+    log: Log,
     faults: u64,
 }
 
 impl Model for MemFiles {
-    ghost use Rattle.files_disk.specs.Memory.{MemoryFiles};
+    ghost use Rattle.files_disk.specs.Memory.{AreFiles, MemoryFiles};
 
     ghost Value = { MemoryFiles };
 
-    ghost view = { λ m. record { operations = m.operations; faults = m.faults } };
+    ghost view = { λ m. record { operations = m.log.operations; faults = m.faults } };
+
+    ghost invariant = { λ m. AreFiles m.rows m.log.operations };
 }
 
 impl MemFiles {
-    /// No files, and no call that is to fail.
+    /// No files.
     pub fn new(alloc: Global) -> MemFiles
         ensures { result ≡ no_files }
     {
-        MemFiles::of(alloc, ListOf::new(alloc))
-    }
-
-    /// The files after these operations on an empty directory.
-    pub fn of(alloc: Global, operations: ListOf<Operation>) -> MemFiles
-        ensures { result ≡ record { operations = operations; faults = 0 } }
-    {
         MemFiles {
             alloc,
-            operations,
-            failing: Vec::new(alloc),
-            calls: 0,
+            rows: Keyed::new(alloc),
+            log: Log::empty(),
             faults: 0,
         }
-    }
-
-    /// The same with calls that are to fail, counted from now on.
-    pub fn failing(mut self, failing: Vec<FailingCall>) -> MemFiles
-        ensures { result ≡ self }
-    {
-        self.failing = failing;
-        self.calls = 0;
-        self
-    }
-
-    /// The operations that took effect.
-    pub fn operations(&self) -> &[Operation]
-        ensures { result.now ≡ self.now.operations }
-    {
-        self.operations.as_slice()
     }
 
     /// How often a call failed.
@@ -80,57 +63,79 @@ impl MemFiles {
     }
 }
 
-// A call comes: what it does all the same, where it is to fail.
-fn next_call(calls: &mut u64, failing: &[FailingCall]) -> Option<Effect> {
-    *calls = calls.saturating_add(1);
-    effect_of(failing, *calls)
+fn file_of(name: &Text, content: Bytes) -> Result<MemFile, NoMemory>
+    ensures { IfOk result (λ file. file ≡ row_of name.now content) }
+{
+    let name = name.copy()?;
+    Ok(MemFile { name, content })
 }
 
-// Does an operation, unless it is to fail.
-fn perform(
-    operations: &mut ListOf<Operation>,
-    faults: &mut u64,
-    effect: Option<Effect>,
-    operation: Operation,
-) -> Result<(), Fault>
-    ensures told { Does operation (Some operations.old) (Some operations.new) result }
-    ensures done { OnOk result (effect ≡ None) }
-    ensures memory { IsErrOf result fault.NoMemory → operations.new ≡ operations.old }
-    ensures cause { IsErrOf result fault.Failed → Rose faults.old faults.new }
-    ensures faults { faults.old ≤ faults.new }
+// Makes or replaces the row of a file.
+fn put_row(
+    alloc: Global,
+    rows: &mut Keyed<MemFile>,
+    name: &Text,
+    content: Bytes,
+) -> Result<(), NoMemory>
+    ensures ok { OnOk result (Updates name.now (Some (row_of name.now content)) rows.old rows.new) }
+    ensures err { OnErr result (Stays rows.old rows.new) }
 {
-    match effect {
-        None => match operations.push(operation) {
-            Ok(()) => Ok(()),
-            Err(NoMemory) => Err(Fault::NoMemory),
-        },
-        Some(Effect::Nothing) => {
-            *faults = faults.saturating_add(1);
-            Err(Fault::Failed)
-        }
-        Some(Effect::Half | Effect::Whole) => {
-            *faults = faults.saturating_add(1);
-            let _done = operations.push(operation);
-            Err(Fault::Failed)
+    let file = match file_of(name, content) {
+        Ok(file) => file,
+        Err(NoMemory) => return Err(NoMemory),
+    };
+    match Vec::from_slice(alloc, name.as_bytes()) {
+        Ok(key) => rows.insert(key, file),
+        Err(_) => {
+            drop(file);
+            Err(NoMemory)
         }
     }
 }
 
-// The same of an operation that may not have been made because memory ran out; that is a fault then.
-fn perform_or_fail(
-    operations: &mut ListOf<Operation>,
-    faults: &mut u64,
-    effect: Option<Effect>,
-    operation: Operation,
-) -> Result<(), Failed>
-    ensures told { Does operation (Some operations.old) (Some operations.new) result }
-    ensures cause { HasCause faults.old faults.new result }
+// The bytes of a file that has a row.
+fn content_of(rows: &Keyed<MemFile>, name: &Text) -> Result<Option<Bytes>, NoMemory>
+    ensures { IfOk result (λ content. content ≡ option_map (λ f. f.content) (at rows.now name.now)) }
 {
-    match perform(operations, faults, effect, operation) {
-        Ok(()) => Ok(()),
-        Err(Fault::Failed) => Err(Failed),
-        Err(Fault::NoMemory) => fail(faults),
+    match rows.get(name.as_bytes()) {
+        Some(file) => Ok(Some(file.content.copy()?)),
+        None => Ok(None),
     }
+}
+
+// Puts the row of one name under another. It gets a copy of the bytes, so that nothing is lost where
+// memory runs out.
+fn move_row(
+    alloc: Global,
+    rows: &mut Keyed<MemFile>,
+    from: &Text,
+    to: &Text,
+    content: Bytes,
+) -> Result<(), NoMemory>
+    requires { at rows.old from.now ≡ Some (row_of from.now content) }
+    ensures ok { OnOk result (Renames from.now to.now content rows.old rows.new) }
+    ensures err { OnErr result (Stays rows.old rows.new) }
+{
+    if from.as_bytes() == to.as_bytes() {
+        return Ok(());
+    }
+    match put_row(alloc, rows, to, content) {
+        Ok(()) => {}
+        Err(NoMemory) => return Err(NoMemory),
+    }
+    drop(rows.remove(from.as_bytes()));
+    Ok(())
+}
+
+// The names of the files that have these rows.
+fn names_in(alloc: Global, rows: &HashMap<Vec<u8>, MemFile>) -> Result<TextList, NoMemory>
+    ensures { IfOk result (λ names. names ≡ map (λ r. r.1.name) (rows_in rows.now.entries)) }
+{
+    let mut names = ListOf::new(alloc);
+    for (_, file) in rows {
+        names.push(file.name.copy()?)?;
+    }
+    Ok(names)
 }
 
 fn fail(faults: &mut u64) -> Result<(), Failed>
@@ -141,124 +146,73 @@ fn fail(faults: &mut u64) -> Result<(), Failed>
     Err(Failed)
 }
 
-// What a write of these bytes writes.
-fn piece_of(effect: Option<Effect>, content: &[u8]) -> &[u8]
-    ensures { effect ≡ None → result.now ≡ content.now }
-{
-    match effect {
-        Some(Effect::Half) => content.split_at(content.len() / 2).0,
-        _ => content,
-    }
-}
-
-fn copy_of(operations: &[Operation], name: &Text) -> Result<Option<Bytes>, NoMemory>
-    ensures { IfOk result (λ content. content ≡ directory operations.now name.now) }
-{
-    match seen(operations, name.as_bytes()) {
-        Some(file) => Ok(Some(file.content.copy()?)),
-        None => Ok(None),
-    }
-}
-
 impl Files for MemFiles {
     ghost told = { λ m. Some m.operations };
 
     ghost faults = { λ m. m.faults };
 
     fn list(&mut self) -> Result<TextList, Fault> {
-        if next_call(&mut self.calls, self.failing.as_slice()).is_some() {
-            self.faults = self.faults.saturating_add(1);
-            return Err(Fault::Failed);
-        }
-        match names_of(self.alloc, self.operations.as_slice()) {
+        self.rows.know_apart();
+        match names_in(self.alloc, self.rows.rows()) {
             Ok(names) => Ok(names),
             Err(NoMemory) => Err(Fault::NoMemory),
         }
     }
 
     fn read(&mut self, name: &Text) -> Result<Option<Bytes>, Fault> {
-        if next_call(&mut self.calls, self.failing.as_slice()).is_some() {
-            self.faults = self.faults.saturating_add(1);
-            return Err(Fault::Failed);
-        }
-        match copy_of(self.operations.as_slice(), name) {
+        match content_of(&self.rows, name) {
             Ok(content) => Ok(content),
             Err(NoMemory) => Err(Fault::NoMemory),
         }
     }
 
     fn write(&mut self, name: &Text, content: &[u8]) -> Result<(), Fault> {
-        let effect = next_call(&mut self.calls, self.failing.as_slice());
-        let Ok(name) = name.copy() else {
+        let Ok(copy) = Bytes::copy_of(self.alloc, content) else {
             return Err(Fault::NoMemory);
         };
-        let Ok(content) = Bytes::copy_of(self.alloc, piece_of(effect, content)) else {
-            return Err(Fault::NoMemory);
-        };
-        perform(
-            &mut self.operations,
-            &mut self.faults,
-            effect,
-            Operation::Write { name, content },
-        )
+        match put_row(self.alloc, &mut self.rows, name, copy) {
+            Ok(()) => {
+                self.log.write(name, content);
+                Ok(())
+            }
+            Err(NoMemory) => Err(Fault::NoMemory),
+        }
     }
 
     fn sync(&mut self, name: &Text) -> Result<(), Failed> {
-        let effect = next_call(&mut self.calls, self.failing.as_slice());
-        let Ok(name) = name.copy() else {
-            return fail(&mut self.faults);
-        };
-        if seen(self.operations.as_slice(), name.as_bytes()).is_none() {
+        if self.rows.get(name.as_bytes()).is_none() {
             return fail(&mut self.faults);
         }
-        perform_or_fail(
-            &mut self.operations,
-            &mut self.faults,
-            effect,
-            Operation::Sync { name },
-        )
+        self.log.sync(name);
+        Ok(())
     }
 
     fn rename(&mut self, from: &Text, to: &Text) -> Result<(), Fault> {
-        let effect = next_call(&mut self.calls, self.failing.as_slice());
-        let Ok(from) = from.copy() else {
-            return Err(Fault::NoMemory);
+        let content = match content_of(&self.rows, from) {
+            Ok(Some(content)) => content,
+            Ok(None) => {
+                self.faults = self.faults.saturating_add(1);
+                return Err(Fault::Failed);
+            }
+            Err(NoMemory) => return Err(Fault::NoMemory),
         };
-        let Ok(to) = to.copy() else {
-            return Err(Fault::NoMemory);
-        };
-        if seen(self.operations.as_slice(), from.as_bytes()).is_none() {
-            self.faults = self.faults.saturating_add(1);
-            return Err(Fault::Failed);
+        match move_row(self.alloc, &mut self.rows, from, to, content) {
+            Ok(()) => {
+                self.log.rename(from, to);
+                Ok(())
+            }
+            Err(NoMemory) => Err(Fault::NoMemory),
         }
-        perform(
-            &mut self.operations,
-            &mut self.faults,
-            effect,
-            Operation::Rename { from, to },
-        )
     }
 
     fn remove(&mut self, name: &Text) -> Result<(), Failed> {
-        let effect = next_call(&mut self.calls, self.failing.as_slice());
-        let Ok(name) = name.copy() else {
-            return fail(&mut self.faults);
-        };
-        perform_or_fail(
-            &mut self.operations,
-            &mut self.faults,
-            effect,
-            Operation::Remove { name },
-        )
+        drop(self.rows.remove(name.as_bytes()));
+        self.log.remove(name);
+        Ok(())
     }
 
     fn sync_dir(&mut self) -> Result<(), Failed> {
-        let effect = next_call(&mut self.calls, self.failing.as_slice());
-        perform_or_fail(
-            &mut self.operations,
-            &mut self.faults,
-            effect,
-            Operation::SyncDirectory,
-        )
+        self.log.sync_directory();
+        Ok(())
     }
 }

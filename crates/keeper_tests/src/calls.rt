@@ -1,4 +1,5 @@
 // The calls of a directory, in memory and of the system.
+use crash_files::CrashFiles;
 use files_disk::{DirFiles, Files, MemFiles};
 use std::fs;
 use std::test::Fail;
@@ -67,6 +68,17 @@ fn files_in_memory_answer_their_calls(rt: HostRuntime) -> Result<(), Fail> {
         2,
         "a file that was absent was synced and renamed"
     );
+    Ok(())
+}
+
+#[test]
+fn files_of_tests_answer_their_calls(rt: HostRuntime) -> Result<(), Fail> {
+    let alloc = rt.alloc();
+    let draft = Text::copy_of(alloc, "domain-1.tmp")?;
+    let name = Text::copy_of(alloc, "domain-1.def")?;
+    let mut files = CrashFiles::new(alloc);
+    assert_eq!(rt; first_wrong(&mut files, &draft, &name), None);
+    assert_eq!(rt; files.faults(), 2);
     Ok(())
 }
 

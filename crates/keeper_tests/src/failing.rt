@@ -1,5 +1,5 @@
 // Calls of a directory that fail.
-use files_disk::{Effect, FailingCall};
+use crash_files::{Effect, FailingCall};
 use std::alloc::Global;
 use virt_types::NoMemory;
 

@@ -2,7 +2,7 @@
 use crate::failing::failing_at;
 use crate::keepers::TestKeeper;
 use crate::names::name;
-use files_disk::MemFiles;
+use crash_files::CrashFiles;
 use std::alloc::Global;
 use std::test::Fail;
 use store_spec::{Image, ImageFault};
@@ -48,7 +48,7 @@ fn a_fault_in_each_call_of_an_image_is_told_in_that_call_alone(
 ) -> Result<(), Fail> {
     let alloc = rt.alloc();
     for number in 3..8u64 {
-        let files = MemFiles::new(alloc).failing(failing_at(alloc, number)?);
+        let files = CrashFiles::new(alloc).failing(failing_at(alloc, number)?);
         let Ok((mut keeper, _found)) = TestKeeper::open(alloc, files) else {
             return Err(Fail::from(NoMemory));
         };

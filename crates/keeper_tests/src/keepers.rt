@@ -1,7 +1,7 @@
 // Keepers over files in memory.
+use crash_files::CrashFiles;
 use def_keeper::Keeper;
-use files_disk::MemFiles;
 use std::marker::Brand;
 
 /// A keeper over files in memory.
-pub(crate) type TestKeeper = Keeper<MemFiles, Brand>;
+pub(crate) type TestKeeper = Keeper<CrashFiles, Brand>;

@@ -1,5 +1,5 @@
-//! Tests of the keeper of definitions over files in memory: a fault in each call, and a crash at each stop. Those files
-//! answer their calls as a real directory does.
+//! Tests of the keeper of definitions over files in memory: a fault in each call, and a crash at each stop, also after
+//! chapters ended. Those files answer their calls as a real directory does.
 #![tactic(auto)]
 
 #[cfg(test)]

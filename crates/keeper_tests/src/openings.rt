@@ -1,8 +1,9 @@
 // A directory of both versions, and faults while it is opened or looked at.
 use crate::failing::failing_at;
 use crate::keepers::TestKeeper;
+use crash_files::CrashFiles;
 use def_keeper::{Found, Keeper, OpenFault, examine};
-use files_disk::{Files, MemFiles};
+use files_disk::Files;
 use std::alloc::Global;
 use std::test::Fail;
 use virt_types::{Fault, NoMemory, OrNoMemory, Text};
@@ -27,7 +28,7 @@ enum Answer {
     NoMemory,
 }
 
-fn answered(opened: Result<(TestKeeper, Found), (MemFiles, OrNoMemory<OpenFault>)>) -> Answer {
+fn answered(opened: Result<(TestKeeper, Found), (CrashFiles, OrNoMemory<OpenFault>)>) -> Answer {
     match opened {
         Ok(opened) => {
             let (_keeper, found) = opened;
@@ -49,7 +50,7 @@ fn answer_of(fault: &OrNoMemory<OpenFault>) -> Answer {
     }
 }
 
-fn put(alloc: Global, files: &mut MemFiles, name: &str, content: &str) -> Result<(), NoMemory> {
+fn put(alloc: Global, files: &mut CrashFiles, name: &str, content: &str) -> Result<(), NoMemory> {
     let name = Text::copy_of(alloc, name)?;
     let written = files.write(&name, content.as_bytes()).is_ok() && files.sync(&name).is_ok();
     if written && files.sync_dir().is_ok() {
@@ -59,8 +60,8 @@ fn put(alloc: Global, files: &mut MemFiles, name: &str, content: &str) -> Result
 }
 
 // A directory of both versions, with a status file and one that reports nothing.
-pub(crate) fn both_versions(alloc: Global) -> Result<MemFiles, NoMemory> {
-    let mut files = MemFiles::new(alloc);
+pub(crate) fn both_versions(alloc: Global) -> Result<CrashFiles, NoMemory> {
+    let mut files = CrashFiles::new(alloc);
     put(alloc, &mut files, TWO, VERSION_2)?;
     put(alloc, &mut files, ONE, VERSION_1)?;
     put(

@@ -2,8 +2,8 @@
 use crate::changes::{Answer, define};
 use crate::keepers::TestKeeper;
 use crate::openings::both_versions;
+use crash_files::CrashFiles;
 use def_keeper::Found;
-use files_disk::MemFiles;
 use std::alloc::Global;
 use std::test::Fail;
 use store_spec::{BookKind, Version};
@@ -22,7 +22,7 @@ fn versions_of(found: &Found) -> (usize, usize) {
 // What a store finds that opens after a crash; none where it doesn't open.
 fn left(
     alloc: Global,
-    files: &MemFiles,
+    files: &CrashFiles,
     moment: usize,
     lost: usize,
 ) -> Result<Option<(usize, usize)>, NoMemory> {
@@ -36,7 +36,7 @@ fn left(
 }
 
 // The first moment from `start` on at which a crash leaves another count of definitions than two.
-fn first_other(alloc: Global, files: &MemFiles, start: usize) -> Result<Option<usize>, NoMemory> {
+fn first_other(alloc: Global, files: &CrashFiles, start: usize) -> Result<Option<usize>, NoMemory> {
     for moment in start..=files.operations().len() {
         for lost in 0..3usize {
             match left(alloc, files, moment, lost)? {

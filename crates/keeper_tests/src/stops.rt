@@ -3,20 +3,21 @@ use crate::changes::{Answer, define, uuid};
 use crate::crashes::{DROPPED_FIRST, THREE_PUTS, is_one_of};
 use crate::failing::failing_so;
 use crate::keepers::TestKeeper;
+use crash_files::{CrashFiles, Effect};
 use def_keeper::Keeper;
 use def_map::DefMap;
-use files_disk::{Effect, MemFiles};
 use std::alloc::Global;
 use std::test::Fail;
 use store_spec::BookKind;
 use virt_types::NoMemory;
 
-fn keeper(alloc: Global, files: MemFiles) -> TestKeeper {
+/// A keeper over these files, which hold no definition.
+pub(crate) fn keeper_over(alloc: Global, files: CrashFiles) -> TestKeeper {
     Keeper::adopt(alloc, files, DefMap::new(alloc))
 }
 
 // Which definitions a keeper finds that opens these files; none where it doesn't open.
-fn standing(alloc: Global, files: MemFiles) -> Result<Option<u32>, NoMemory> {
+fn standing(alloc: Global, files: CrashFiles) -> Result<Option<u32>, NoMemory> {
     let Ok((keeper, _found)) = TestKeeper::open(alloc, files) else {
         return Ok(None);
     };
@@ -30,7 +31,12 @@ fn standing(alloc: Global, files: MemFiles) -> Result<Option<u32>, NoMemory> {
 }
 
 // Whether each crash after so many operations leaves one of these sets, and each of them is left.
-fn leaves(alloc: Global, files: &MemFiles, moment: usize, sets: &[u32]) -> Result<bool, NoMemory> {
+fn leaves(
+    alloc: Global,
+    files: &CrashFiles,
+    moment: usize,
+    sets: &[u32],
+) -> Result<bool, NoMemory> {
     let mut seen = 0u32;
     for lost in 0..4usize {
         for torn in [false, true] {
@@ -44,7 +50,7 @@ fn leaves(alloc: Global, files: &MemFiles, moment: usize, sets: &[u32]) -> Resul
 }
 
 // The first moment at which a crash leaves other sets than these, or the count of operations.
-fn first_other(alloc: Global, files: &MemFiles, rows: &[&[u32]]) -> Result<usize, NoMemory> {
+fn first_other(alloc: Global, files: &CrashFiles, rows: &[&[u32]]) -> Result<usize, NoMemory> {
     for (moment, sets) in rows.iter().enumerate() {
         if !leaves(alloc, files, moment, sets)? {
             return Ok(moment);
@@ -53,10 +59,20 @@ fn first_other(alloc: Global, files: &MemFiles, rows: &[&[u32]]) -> Result<usize
     Ok(files.operations().len())
 }
 
+/// Whether each crash leaves the first of three domains, of which each was put whole.
+pub(crate) fn leaves_first(alloc: Global, files: &CrashFiles) -> Result<bool, NoMemory> {
+    Ok(first_other(alloc, files, &THREE_PUTS)? == 12)
+}
+
+/// Whether each crash leaves what one may of a put, one in doubt that is dropped, and another put.
+pub(crate) fn leaves_others(alloc: Global, files: &CrashFiles) -> Result<bool, NoMemory> {
+    Ok(first_other(alloc, files, &DROPPED_FIRST)? == 13)
+}
+
 #[test]
 fn each_stop_of_three_defines_leaves_the_first_ones(rt: HostRuntime) -> Result<(), Fail> {
     let alloc = rt.alloc();
-    let mut keeper = keeper(alloc, MemFiles::new(alloc));
+    let mut keeper = keeper_over(alloc, CrashFiles::new(alloc));
     assert_eq!(rt;
         define(alloc, &mut keeper, BookKind::Domain, 0, "a")?,
         Answer::Done
@@ -70,18 +86,18 @@ fn each_stop_of_three_defines_leaves_the_first_ones(rt: HostRuntime) -> Result<(
         Answer::Done
     );
     let (files, _) = keeper.close();
-    assert_eq!(rt; first_other(alloc, &files, &THREE_PUTS)?, 12);
+    assert!(rt; leaves_first(alloc, &files)?);
     Ok(())
 }
 
-fn failing(alloc: Global, number: u64, effect: Effect) -> Result<MemFiles, NoMemory> {
-    Ok(MemFiles::new(alloc).failing(failing_so(alloc, number, effect)?))
+fn failing(alloc: Global, number: u64, effect: Effect) -> Result<CrashFiles, NoMemory> {
+    Ok(CrashFiles::new(alloc).failing(failing_so(alloc, number, effect)?))
 }
 
 #[test]
 fn a_change_in_doubt_is_settled_by_the_next(rt: HostRuntime) -> Result<(), Fail> {
     let alloc = rt.alloc();
-    let mut keeper = keeper(alloc, failing(alloc, 8, Effect::Nothing)?);
+    let mut keeper = keeper_over(alloc, failing(alloc, 8, Effect::Nothing)?);
     assert_eq!(rt;
         define(alloc, &mut keeper, BookKind::Domain, 0, "a")?,
         Answer::Done
@@ -96,7 +112,7 @@ fn a_change_in_doubt_is_settled_by_the_next(rt: HostRuntime) -> Result<(), Fail>
         Answer::Done
     );
     let (files, _) = keeper.close();
-    assert_eq!(rt; first_other(alloc, &files, &DROPPED_FIRST)?, 13);
+    assert!(rt; leaves_others(alloc, &files)?);
     Ok(())
 }
 
@@ -105,7 +121,7 @@ fn a_fault_in_each_call_is_told_in_that_call_alone(rt: HostRuntime) -> Result<()
     let alloc = rt.alloc();
     for number in 1..5u64 {
         for effect in [Effect::Nothing, Effect::Half, Effect::Whole] {
-            let mut keeper = keeper(alloc, failing(alloc, number, effect)?);
+            let mut keeper = keeper_over(alloc, failing(alloc, number, effect)?);
             assert_eq!(rt;
                 define(alloc, &mut keeper, BookKind::Domain, 0, "a")?,
                 Answer::Device

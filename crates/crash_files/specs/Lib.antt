@@ -1,0 +1,3 @@
+pub mod Seeing
+pub mod Listing
+pub mod Images

@@ -1,5 +1,0 @@
-use Rattle.files_disk.specs.Images.{IsLeftOf}
-use Rattle.files_disk.proofs.images.tear_all.Given as goal
-
-abbrev pub invariant-loop-operation : goal.invariant-loop-operation
-invariant-loop-operation l = IsLeftOf l.kept l.initial.image → IsLeftOf l.kept l.image

@@ -1,7 +1,0 @@
--- The names that the first operations gave are listed.
-use Rattle.std.proofs.Common.{take}
-use Rattle.files_disk.specs.Listing.{ListsSoFar}
-use Rattle.files_disk.proofs.listing.names_of.Given as goal
-
-abbrev pub invariant-loop-operation : goal.invariant-loop-operation
-invariant-loop-operation l = ListsSoFar l.operations (take l.operation-index l.operations) l.names
