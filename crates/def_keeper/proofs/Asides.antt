@@ -15,7 +15,7 @@ use Rattle.store_spec.proofs.Operating.{bytes_eq_not, put_else}
 use Rattle.store_spec.proofs.Settling.{IsAside}
 use Rattle.def_keeper.specs.declared.mark.DefKey.{DefKey}
 use Rattle.def_map.specs.Map.{found}
-use Rattle.def_keeper.specs.Marks.{StoreHistory, tries_in}
+use Rattle.def_keeper.specs.Marks.{StoreHistory, all_tries}
 use Rattle.def_keeper.specs.Safe.{IsKeptAt}
 use Rattle.def_keeper.proofs.Knowing.{kept_aside}
 
@@ -55,7 +55,7 @@ directory_aside = record { files = λ fs n is. refl; writes_none = λ n is. refl
 module _ (h : StoreHistory) (map : Definitions) (doubt : Option DefKey) where
   -- such an operation keeps what is known of a store, and so do the first of several
   pub at_aside : (told : Told) (o : Operation) → IsAside o → IsKeptAt told h map doubt → IsKeptAt (more told o) h map doubt
-  at_aside told o aside (os, is, kept) = (os ++ o ∷ [], ap (λ (t : Told). more t o) is, kept_aside h.base.begun os o (found h.base.map) map (tries_in h.marks) doubt aside kept)
+  at_aside told o aside (os, is, kept) = (os ++ o ∷ [], ap (λ (t : Told). more t o) is, kept_aside h.base.since os o (found h.base.opened) map (all_tries h) doubt aside kept)
 
   pub all_aside : (told : Told) (os : List Operation) (n : ℕ) → AllByRecursion IsAside os → IsKeptAt told h map doubt → IsKeptAt (all_more told (take n os)) h map doubt
   all_aside told [] zero all kept = kept

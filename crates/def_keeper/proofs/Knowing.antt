@@ -36,8 +36,8 @@ use Rattle.def_keeper.specs.Calls.{AllGood, HasLeft, HasMade, IsSettling, as_ans
 use Rattle.def_keeper.specs.Chapters.{Settles, by, moment_of, most_marks, next_chapter, open_chapter, first_chapter, with_marks}
 use Rattle.def_keeper.specs.Keeping.{IsInDoubt, IsKept, StandsBut, after_all}
 use Rattle.def_map.specs.Map.{MapRows, found}
-use Rattle.def_keeper.specs.Marks.{StoreHistory, acknowledged_in, tries_in}
-use Rattle.def_keeper.specs.Safe.{IsKeptAt, IsMapOf, IsSettledAt, KeepsAll}
+use Rattle.def_keeper.specs.Marks.{StoreHistory, acknowledged_in, all_marks, all_tries, tries_in}
+use Rattle.def_keeper.specs.Safe.{IsAfter, IsKeptAt, IsMapOf, IsSettledAt, KeepsAll}
 use Rattle.files_disk.specs.Putting.{all_more}
 use Rattle.def_keeper.specs.Trying.{HasStopped, Tries, drafting}
 use Rattle.def_map.proofs.MapFinds.{found_none}
@@ -233,20 +233,20 @@ stopped begun told now os base tries reach (change.Put k uuid e) is good t (inr 
 stopped begun told now os base tries reach (change.Drop k uuid) is good t (inr piece) = absurd piece
 
 module _ (number : ℕ) where
-  tries_with : (h : StoreHistory) (marks : List StoreMark) → tries_in (with_marks marks h).marks ≡ tries_in h.marks ++ tries_in marks
-  tries_with h marks = tries_more h.marks marks
+  tries_with : (h : StoreHistory) (marks : List StoreMark) → all_tries (with_marks marks h) ≡ all_tries h ++ tries_in marks
+  tries_with h marks = ap (λ (ms : List StoreMark). tries_in ms) (sym (append_assoc h.base.before h.marks marks)) ∙ tries_more (all_marks h) marks
 
   -- what was in doubt is settled
   pub at_settled : (told now : Told) (h : StoreHistory) (map : Definitions) (key : DefKey) (c : Change) → kind_of c ≡ key.kind → uuid_of c ≡ key.uuid → entry_of c ≡ map key.kind key.uuid → IsChange c
       → Tries c told now (Ok tt) → IsKeptAt told h map (Some key) → IsKeptAt now (with_marks (by number (action.Tried c) ∷ []) h) map None
   at_settled told now h map key c kinds uuids entry good tries kept =
       let os = kept.0 in
-      let t = start_doubt h.base.begun os (found h.base.map) map (tries_in h.marks) c key kinds uuids kept.2 in
-      let disk = all_done h.base.begun os (found h.base.map) (tries_in h.marks) kept.2.reach c good t in (
+      let t = start_doubt h.base.since os (found h.base.opened) map (all_tries h) c key kinds uuids kept.2 in
+      let disk = all_done h.base.since os (found h.base.opened) (all_tries h) kept.2.reach c good t in (
         on os (steps_of c),
         told_more told now os (steps_of c) kept.1 tries,
-        subst (λ (l : List Try). IsKept h.base.begun (on os (steps_of c)) (found h.base.map) l map None) (sym (tries_with h (by number (action.Tried c) ∷ [])))
-            (kept_settled h.base.begun os (on os (steps_of c)) (found h.base.map) map (tries_in h.marks) kept.2.reach c key kinds uuids entry kept.2 disk),
+        subst (λ (l : List Try). IsKept h.base.since (on os (steps_of c)) (found h.base.opened) l map None) (sym (tries_with h (by number (action.Tried c) ∷ [])))
+            (kept_settled h.base.since os (on os (steps_of c)) (found h.base.opened) map (all_tries h) kept.2.reach c key kinds uuids entry kept.2 disk),
       )
 
   -- it could not be settled
@@ -254,12 +254,12 @@ module _ (number : ℕ) where
       → Tries c told now (Err fault.Failed) → IsKeptAt told h map (Some key) → IsKeptAt now (with_marks (by number (action.Tried c) ∷ []) h) map (Some key)
   at_unsettled told now h map key c kinds uuids good tries kept =
       let os = kept.0 in
-      let t = start_doubt h.base.begun os (found h.base.map) map (tries_in h.marks) c key kinds uuids kept.2 in
-      let s = stopped h.base.begun told now os (found h.base.map) (tries_in h.marks) kept.2.reach c kept.1 good t tries in (
+      let t = start_doubt h.base.since os (found h.base.opened) map (all_tries h) c key kinds uuids kept.2 in
+      let s = stopped h.base.since told now os (found h.base.opened) (all_tries h) kept.2.reach c kept.1 good t tries in (
         s.0,
         s.1,
-        subst (λ (l : List Try). IsKept h.base.begun s.0 (found h.base.map) l map (Some key)) (sym (tries_with h (by number (action.Tried c) ∷ [])))
-            (kept_failed h.base.begun s.0 (found h.base.map) map (tries_in h.marks) kept.2.reach c key kinds uuids kept.2.agrees s.2),
+        subst (λ (l : List Try). IsKept h.base.since s.0 (found h.base.opened) l map (Some key)) (sym (tries_with h (by number (action.Tried c) ∷ [])))
+            (kept_failed h.base.since s.0 (found h.base.opened) map (all_tries h) kept.2.reach c key kinds uuids kept.2.agrees s.2),
       )
 
   -- a change is done, and acknowledged
@@ -267,14 +267,14 @@ module _ (number : ℕ) where
       → Tries c told now (Ok tt) → IsKeptAt told h map None → IsKeptAt now (with_marks (by number (action.Changed c (Ok tt) (moment_of now)) ∷ []) h) then None
   at_done told now h map then c good is tries kept =
       let os = kept.0 in
-      let t = start_any h.base.begun os (found h.base.map) map (tries_in h.marks) c kept.2 in
-      let disk = all_done h.base.begun os (found h.base.map) (tries_in h.marks) (length (tries_in h.marks)) c good t in
+      let t = start_any h.base.since os (found h.base.opened) map (all_tries h) c kept.2 in
+      let disk = all_done h.base.since os (found h.base.opened) (all_tries h) (length (all_tries h)) c good t in
       let told_is = told_more told now os (steps_of c) kept.1 tries in (
         on os (steps_of c),
         told_is,
-        subst (λ (l : List Try). IsKept h.base.begun (on os (steps_of c)) (found h.base.map) l then None)
-            (ap (λ (m : ℕ). tries_in h.marks ++ done c m ∷ []) (sym (ap moment_of told_is)) ∙ sym (tries_with h (by number (action.Changed c (Ok tt) (moment_of now)) ∷ [])))
-            (kept_done h.base.begun os (on os (steps_of c)) (found h.base.map) map then (tries_in h.marks) (length (tries_in h.marks)) c is kept.2 disk),
+        subst (λ (l : List Try). IsKept h.base.since (on os (steps_of c)) (found h.base.opened) l then None)
+            (ap (λ (m : ℕ). all_tries h ++ done c m ∷ []) (sym (ap moment_of told_is)) ∙ sym (tries_with h (by number (action.Changed c (Ok tt) (moment_of now)) ∷ [])))
+            (kept_done h.base.since os (on os (steps_of c)) (found h.base.opened) map then (all_tries h) (length (all_tries h)) c is kept.2 disk),
       )
 
   -- a change failed
@@ -283,12 +283,12 @@ module _ (number : ℕ) where
       → IsKeptAt now (with_marks (by number (action.Tried c) ∷ by number (action.Changed c (Err store.Device) moment) ∷ []) h) map (Some (record { kind = kind_of c; uuid = uuid_of c }))
   at_failed told now h map c moment good tries kept =
       let os = kept.0 in
-      let t = start_any h.base.begun os (found h.base.map) map (tries_in h.marks) c kept.2 in
-      let s = stopped h.base.begun told now os (found h.base.map) (tries_in h.marks) (length (tries_in h.marks)) c kept.1 good t tries in (
+      let t = start_any h.base.since os (found h.base.opened) map (all_tries h) c kept.2 in
+      let s = stopped h.base.since told now os (found h.base.opened) (all_tries h) (length (all_tries h)) c kept.1 good t tries in (
         s.0,
         s.1,
-        subst (λ (l : List Try). IsKept h.base.begun s.0 (found h.base.map) l map (Some (record { kind = kind_of c; uuid = uuid_of c }))) (sym (tries_with h (by number (action.Tried c) ∷ by number (action.Changed c (Err store.Device) moment) ∷ [])))
-            (kept_failed h.base.begun s.0 (found h.base.map) map (tries_in h.marks) (length (tries_in h.marks)) c (record { kind = kind_of c; uuid = uuid_of c }) refl refl
+        subst (λ (l : List Try). IsKept h.base.since s.0 (found h.base.opened) l map (Some (record { kind = kind_of c; uuid = uuid_of c }))) (sym (tries_with h (by number (action.Tried c) ∷ by number (action.Changed c (Err store.Device) moment) ∷ [])))
+            (kept_failed h.base.since s.0 (found h.base.opened) map (all_tries h) (length (all_tries h)) c (record { kind = kind_of c; uuid = uuid_of c }) refl refl
             (λ k uuid apart. kept.2.agrees k uuid (λ e. none_some (record { kind = k; uuid = uuid }) e)) s.2),
       )
 
@@ -297,13 +297,13 @@ module _ (number : ℕ) where
   at_drafted told now h map doubt c tries kept = (
     on kept.0 (take tries.0 (steps_of c)),
     told_more told now kept.0 (take tries.0 (steps_of c)) kept.1 tries.2,
-    kept_drafted h.base.begun kept.0 (found h.base.map) map (tries_in h.marks) doubt c tries.0 tries.1 kept.2,
+    kept_drafted h.base.since kept.0 (found h.base.opened) map (all_tries h) doubt c tries.0 tries.1 kept.2,
   )
 
   -- marks that try nothing
   pub at_answered : (told : Told) (h : StoreHistory) (map : Definitions) (doubt : Option DefKey) (marks : List StoreMark) → tries_in marks ≡ [] → IsKeptAt told h map doubt → IsKeptAt told (with_marks marks h) map doubt
   at_answered told h map doubt marks none kept =
-      (kept.0, kept.1, subst (λ (l : List Try). IsKept h.base.begun kept.0 (found h.base.map) l map doubt) (sym (tries_with h marks ∙ ap (λ (l : List Try). tries_in h.marks ++ l) none ∙ append-nil (tries_in h.marks))) kept.2)
+      (kept.0, kept.1, subst (λ (l : List Try). IsKept h.base.since kept.0 (found h.base.opened) l map doubt) (sym (tries_with h marks ∙ ap (λ (l : List Try). all_tries h ++ l) none ∙ append-nil (all_tries h))) kept.2)
 
 -- a map that finds the same
 pub at_alike : (told : Told) (h : StoreHistory) (map then : Definitions) (doubt : Option DefKey) → ((k : BookKind) (uuid : List ℕ) → then k uuid ≡ map k uuid) → IsKeptAt told h map doubt → IsKeptAt told h then doubt
@@ -327,26 +327,36 @@ kept_begins os map settled = record {
 
 pub at_begins : (told : Told) (h : StoreHistory) (rows : MapRows) → IsKeptAt told h (found rows) None → IsKeptAt told (next_chapter told rows h) (found rows) None
 at_begins told h rows kept =
-    let os = kept.0 in
-    let here : IsSettled os (after_all (found h.base.map) (tries_in h.marks)) = kept.2.here in
-    let same : after_all (found h.base.map) (tries_in h.marks) ≡ found rows = (λ i k uuid. sym (kept.2.agrees k uuid (λ e. none_some (record { kind = k; uuid = uuid }) e)) i) in
-    (os, kept.1, subst (λ (n : ℕ). IsKept n os (found rows) [] (found rows) None) (ap moment_of (sym kept.1)) (kept_begins os (found rows) (subst (λ (m : Definitions). IsSettled os m) same here)))
+    (kept.0, kept.1, subst (λ (ms : List StoreMark). IsKept h.base.since kept.0 (found h.base.opened) (tries_in ms) (found rows) None) (sym (append-nil (all_marks h))) kept.2)
 
 -- what is kept is the promise
 pub keeps_all : (told : Told) (h : StoreHistory) (map : Definitions) (doubt : Option DefKey) → IsKeptAt told h map doubt → KeepsAll told h
 keeps_all told h map doubt kept = (kept.0, kept.1, kept.2.goes.prefixes)
 
+-- a map after changes stays the one after those that were acknowledged
+after_one : (base map then : Definitions) (c : Change) (ms ns : List StoreMark) → acknowledged_in ns ≡ c ∷ [] → ((k : BookKind) (uuid : List ℕ) → then k uuid ≡ changed c map k uuid) → IsAfter base (acknowledged_in ms) map → IsAfter base (acknowledged_in (ms ++ ns)) then
+after_one base map then c ms ns one is was k uuid =
+    is k uuid ∙ changed_alike c map (after base (acknowledged_in ms)) k uuid (was k uuid)
+    ∙ ap (λ (m : Definitions). m k uuid) (sym (after_more base (acknowledged_in ms) c))
+    ∙ ap (λ (cs : List Change). after base cs k uuid) (sym (acknowledged_more ms ns ∙ ap (λ (l : List Change). acknowledged_in ms ++ l) one))
+
+after_none : (base map then : Definitions) (ms ns : List StoreMark) → acknowledged_in ns ≡ [] → ((k : BookKind) (uuid : List ℕ) → then k uuid ≡ map k uuid) → IsAfter base (acknowledged_in ms) map → IsAfter base (acknowledged_in (ms ++ ns)) then
+after_none base map then ms ns none same was k uuid =
+    same k uuid ∙ was k uuid
+    ∙ ap (λ (cs : List Change). after base cs k uuid) (sym (acknowledged_more ms ns ∙ ap (λ (l : List Change). acknowledged_in ms ++ l) none ∙ append-nil (acknowledged_in ms)))
+
 -- the map stays that of the acknowledged changes
 pub map_more : (h : StoreHistory) (map then : Definitions) (c : Change) (marks : List StoreMark) → acknowledged_in marks ≡ c ∷ [] → ((k : BookKind) (uuid : List ℕ) → then k uuid ≡ changed c map k uuid) → IsMapOf h map → IsMapOf (with_marks marks h) then
-map_more h map then c marks one is was k uuid =
-    is k uuid ∙ changed_alike c map (after (found h.base.map) (acknowledged_in h.marks)) k uuid (was k uuid)
-    ∙ ap (λ (m : Definitions). m k uuid) (sym (after_more (found h.base.map) (acknowledged_in h.marks) c))
-    ∙ ap (λ (cs : List Change). after (found h.base.map) cs k uuid) (sym (acknowledged_more h.marks marks ∙ ap (λ (l : List Change). acknowledged_in h.marks ++ l) one))
+map_more h map then c marks one is was = record {
+  chapter = after_one (found h.base.map) map then c h.marks marks one is was.chapter;
+  whole = subst (λ (ms : List StoreMark). IsAfter (found h.base.opened) (acknowledged_in ms) then) (append_assoc h.base.before h.marks marks) (after_one (found h.base.opened) map then c (all_marks h) marks one is was.whole);
+}
 
 pub map_same : (h : StoreHistory) (map then : Definitions) (marks : List StoreMark) → acknowledged_in marks ≡ [] → ((k : BookKind) (uuid : List ℕ) → then k uuid ≡ map k uuid) → IsMapOf h map → IsMapOf (with_marks marks h) then
-map_same h map then marks none same was k uuid =
-    same k uuid ∙ was k uuid
-    ∙ ap (λ (cs : List Change). after (found h.base.map) cs k uuid) (sym (acknowledged_more h.marks marks ∙ ap (λ (l : List Change). acknowledged_in h.marks ++ l) none ∙ append-nil (acknowledged_in h.marks)))
+map_same h map then marks none same was = record {
+  chapter = after_none (found h.base.map) map then h.marks marks none same was.chapter;
+  whole = subst (λ (ms : List StoreMark). IsAfter (found h.base.opened) (acknowledged_in ms) then) (append_assoc h.base.before h.marks marks) (after_none (found h.base.opened) map then (all_marks h) marks none same was.whole);
+}
 
 -- a change that leaves what the map has is one that files can express
 pub settling_good : (key : DefKey) (map : Definitions) (c : Change) → IsSettling key map c → AllGood map → IsUuid key.uuid → IsChange c
@@ -448,7 +458,10 @@ unfolding open_chapter
 map_opened told h rows doubt is = by_case (nat_le most_marks (length h.marks) && is_none doubt)
   where
     by_case : (b : Bool) → IsMapOf (cond b (next_chapter told rows h) h) (found rows)
-    by_case true = λ k uuid. refl
+    by_case true = record {
+      chapter = λ k uuid. refl;
+      whole = subst (λ (ms : List StoreMark). IsAfter (found h.base.opened) (acknowledged_in ms) (found rows)) (sym (append-nil (all_marks h))) is.whole;
+    }
     by_case false = is
 
 -- what a keeper knows after a change

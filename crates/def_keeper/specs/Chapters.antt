@@ -8,11 +8,12 @@ use Rattle.store_spec.specs.Changes.{Definitions, entry_of, kind_of, uuid_of}
 use Rattle.def_keeper.specs.declared.mark.DefKey.{DefKey}
 use Rattle.def_keeper.specs.declared.mark.StoreAction.{StoreAction}
 use Rattle.def_keeper.specs.declared.mark.StoreAction.TheVariants as action
+use Rattle.def_keeper.specs.declared.mark.StoreBase.{StoreBase}
 use Rattle.def_keeper.specs.declared.mark.StoreFault.{StoreFault}
 use Rattle.def_keeper.specs.declared.mark.StoreFault.TheVariants as fault
 use Rattle.def_keeper.specs.declared.mark.StoreMark.{StoreMark}
 use Rattle.def_map.specs.Map.{MapRows}
-use Rattle.def_keeper.specs.Marks.{StoreHistory}
+use Rattle.def_keeper.specs.Marks.{StoreHistory, all_marks}
 
 -- how many operations were told
 abbrev pub moment_of : Told → ℕ
@@ -23,13 +24,21 @@ moment_of (Some os) = length os
 abbrev pub most_marks : ℕ
 most_marks = 4096
 
--- the first chapter, from this map and moment
-abbrev pub first_chapter : Told → MapRows → StoreHistory
-first_chapter told map = record { chapter = 0; base = record { map = map; begun = moment_of told }; marks = [] }
+-- what the first chapter begins with: this map and moment
+abbrev pub first_base : Told → MapRows → StoreBase
+first_base told map = record { map = map; begun = moment_of told; opened = map; since = moment_of told; before = [] }
 
--- the next chapter, from this map and moment
+-- what the next chapter begins with: this map and moment, and all marks so far
+abbrev pub base_after : Told → MapRows → StoreHistory → StoreBase
+base_after told map h = record { map = map; begun = moment_of told; opened = h.base.opened; since = h.base.since; before = all_marks h }
+
+-- the first chapter
+abbrev pub first_chapter : Told → MapRows → StoreHistory
+first_chapter told map = record { chapter = 0; base = first_base told map; marks = [] }
+
+-- the next chapter
 abbrev pub next_chapter : Told → MapRows → StoreHistory → StoreHistory
-next_chapter told map h = record { chapter = h.chapter + 1; base = record { map = map; begun = moment_of told }; marks = [] }
+next_chapter told map h = record { chapter = h.chapter + 1; base = base_after told map h; marks = [] }
 
 -- the chapter in which a call leaves its marks: the present one, or, where that is long and nothing is in doubt, the next
 unfoldable pub open_chapter : Told → MapRows → Option DefKey → StoreHistory → StoreHistory

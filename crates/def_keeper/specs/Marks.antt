@@ -33,6 +33,14 @@ abbrev pub acknowledged_in : List StoreMark → List Change
 acknowledged_in [] = []
 acknowledged_in (m ∷ ms) = acknowledged_by m.action ++ acknowledged_in ms
 
+-- all marks since the store was opened: those of the chapters before, and those of this one
+abbrev pub all_marks : StoreHistory → List StoreMark
+all_marks h = h.base.before ++ h.marks
+
+-- all changes that were tried since then, in order
+abbrev pub all_tries : StoreHistory → List Try
+all_tries h = tries_in (all_marks h)
+
 -- the changes of some tries
 abbrev pub changes_of : List Try → List Change
 changes_of tries = map (λ t. t.change) tries

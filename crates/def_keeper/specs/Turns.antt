@@ -1,11 +1,11 @@
 -- What a turn cell sees in a keeper.
-use Rattle.std.specs.Prelude.{Some}
+use Rattle.std.specs.Prelude.{[], Some}
 use Rattle.std.proofs.Common.{le_refl}
 use Rattle.turn_cell.specs.Meaning.{Meaning, NoMarkLowers, NewBaseKeeps}
 use Rattle.files_disk.specs.Telling.{Told}
 use Rattle.def_keeper.specs.declared.mark.StoreBase.{StoreBase}
 use Rattle.def_keeper.specs.declared.mark.StoreMark.{StoreMark}
-use Rattle.def_keeper.specs.Chapters.{moment_of}
+use Rattle.def_keeper.specs.Chapters.{base_after}
 use Rattle.def_keeper.specs.Keeper.{Keeping}
 use Rattle.def_map.specs.Map.{no_rows}
 
@@ -13,12 +13,12 @@ use Rattle.def_map.specs.Map.{no_rows}
 abbrev pub meaning : {F : Type 0} → (F → Told) → Meaning (Keeping F) StoreBase StoreMark (Unit {0})
 meaning told = record {
   history = λ k. k.history;
-  next_base = λ k. record { map = k.map; begun = moment_of (told k.files) };
+  next_base = λ k. base_after (told k.files) k.map k.history;
   rising = λ base marks. 0;
   whose = λ mark. Some mark.number;
   share = λ k number. tt;
   nothing = tt;
-  any_base = record { map = no_rows; begun = 0 };
+  any_base = record { map = no_rows; begun = 0; opened = no_rows; since = 0; before = [] };
 }
 
 pub no_mark_lowers : {F : Type 0} (told : F → Told) → NoMarkLowers (meaning told)

@@ -1,10 +1,10 @@
 // The history of a store: at run time the numbers of its chapter and of its marks.
-ghost use Rattle.std.specs.Prelude.{◌≡◌, ℕ, List, ◌<◌, ◌+◌, ◌^◌, [], length, nat_le};
+ghost use Rattle.std.specs.Prelude.{◌≡◌, List, ◌<◌, ◌+◌, ◌^◌, length, nat_le};
 ghost use Rattle.files_disk.specs.Telling.{Told};
 ghost use Rattle.def_keeper.specs.declared.mark.StoreMark.{StoreMark};
 ghost use Rattle.def_map.specs.Map.{MapRows};
 ghost use Rattle.def_keeper.specs.Marks.{StoreHistory};
-ghost use Rattle.def_keeper.specs.Chapters.{most_marks, next_chapter, with_marks};
+ghost use Rattle.def_keeper.specs.Chapters.{first_chapter, most_marks, next_chapter, with_marks};
 
 use crate::story::Story;
 use std::marker::Model;
@@ -36,10 +36,10 @@ impl Model for Chronicle {
 }
 
 impl Chronicle {
-    /// Chapter 0, which begins with this map and moment and has no mark yet.
+    /// Chapter 0, which begins with this map, at what the files tell, and has no mark yet.
     pub(crate) fn begin() -> Chronicle
-        ghost base: { MapRows × ℕ }
-        ensures { result ≡ record { chapter = 0; base = record { map = base.0; begun = base.1 }; marks = [] } }
+        ghost base: { MapRows × Told }
+        ensures { result ≡ first_chapter base.1 base.0 }
     {
         Chronicle {
             chapter: 0,

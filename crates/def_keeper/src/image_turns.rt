@@ -4,6 +4,7 @@ ghost use Rattle.outside_spec.specs.Faults.{Rose};
 ghost use Rattle.virt_types.specs.Below.types_base.declared.memory.Fault.TheVariants as fault;
 ghost use Rattle.image_store.specs.Storing.{HasDevice, ReadsImage, WritesImage};
 ghost use Rattle.def_keeper.specs.Imaging.{HasRead, HasWritten};
+ghost use Rattle.def_keeper.specs.Safe.{KeepsAll};
 
 use crate::opening::Opening;
 use crate::turns::KeeperTurn;
@@ -23,6 +24,7 @@ fn write_as<F: Files, K: Opening>(
     ensures kept { turn.new.value ≡ record turn.old.value { files = turn.new.value.files; history = turn.new.value.history } }
     ensures cause { IsErrOf result fault.Failed → Rose (F.faults turn.old.value.files) (F.faults turn.new.value.files) }
     ensures faults { F.faults turn.old.value.files ≤ F.faults turn.new.value.files }
+    ensures crash { K.sound → KeepsAll (F.told turn.new.value.files) turn.new.value.history }
     ensures same { turn.new ≡ record turn.old { value = turn.new.value } }
 {
     turn.value().write_image(name, image)
@@ -39,6 +41,7 @@ pub fn write_image_in<F: Files, K: Opening>(
     ensures kept { turn.new.value ≡ record turn.old.value { files = turn.new.value.files; history = turn.new.value.history } }
     ensures cause { IsErrOf result fault.Failed → Rose (F.faults turn.old.value.files) (F.faults turn.new.value.files) }
     ensures faults { F.faults turn.old.value.files ≤ F.faults turn.new.value.files }
+    ensures crash { K.sound → KeepsAll (F.told turn.new.value.files) turn.new.value.history }
     ensures same { turn.new ≡ record turn.old { value = turn.new.value } }
 {
     write_as(turn, name, image)
@@ -56,6 +59,7 @@ fn read_as<F: Files, K: Opening>(
     ensures kept { turn.new.value ≡ record turn.old.value { files = turn.new.value.files; history = turn.new.value.history } }
     ensures device { HasDevice (F.faults turn.old.value.files) (F.faults turn.new.value.files) result }
     ensures faults { F.faults turn.old.value.files ≤ F.faults turn.new.value.files }
+    ensures crash { K.sound → KeepsAll (F.told turn.new.value.files) turn.new.value.history }
     ensures same { turn.new ≡ record turn.old { value = turn.new.value } }
 {
     turn.value().read_image(name)
@@ -72,6 +76,7 @@ pub fn read_image_in<F: Files, K: Opening>(
     ensures kept { turn.new.value ≡ record turn.old.value { files = turn.new.value.files; history = turn.new.value.history } }
     ensures device { HasDevice (F.faults turn.old.value.files) (F.faults turn.new.value.files) result }
     ensures faults { F.faults turn.old.value.files ≤ F.faults turn.new.value.files }
+    ensures crash { K.sound → KeepsAll (F.told turn.new.value.files) turn.new.value.history }
     ensures same { turn.new ≡ record turn.old { value = turn.new.value } }
 {
     read_as(turn, name)

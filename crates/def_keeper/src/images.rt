@@ -6,6 +6,7 @@ ghost use Rattle.image_store.specs.Storing.{HasDevice, ReadsImage, WritesImage};
 ghost use Rattle.def_keeper.specs.declared.mark.StoreMark.{StoreMark};
 ghost use Rattle.def_keeper.specs.Chapters.{with_marks};
 ghost use Rattle.def_keeper.specs.Imaging.{HasRead, HasWritten};
+ghost use Rattle.def_keeper.specs.Safe.{KeepsAll};
 
 use crate::chronicle::{Chronicle, MOST};
 use crate::keeper::Keeper;
@@ -121,6 +122,7 @@ impl<F: Files, K: Opening> Keeper<F, K> {
         ensures same { self.new ≡ record self.old { files = self.new.files; history = self.new.history } }
         ensures cause { IsErrOf result fault.Failed → Rose (F.faults self.old.files) (F.faults self.new.files) }
         ensures faults { F.faults self.old.files ≤ F.faults self.new.files }
+        ensures crash { K.sound → KeepsAll (F.told self.new.files) self.new.history }
     {
         write_in(
             self.alloc,
@@ -141,6 +143,7 @@ impl<F: Files, K: Opening> Keeper<F, K> {
         ensures same { self.new ≡ record self.old { files = self.new.files; history = self.new.history } }
         ensures device { HasDevice (F.faults self.old.files) (F.faults self.new.files) result }
         ensures faults { F.faults self.old.files ≤ F.faults self.new.files }
+        ensures crash { K.sound → KeepsAll (F.told self.new.files) self.new.history }
     {
         read_in(self.alloc, &mut self.files, &mut self.chronicle, name)
     }

@@ -68,8 +68,8 @@ fn turn<F: Files>(chronicle: &mut Chronicle, _files: &F, _map: &DefMap)
 
 // The first chapter, which begins with this map, at what the files tell now.
 fn begin<F: Files>(_files: &F, _map: &DefMap) -> Chronicle
-    ghost base: { MapRows × ℕ }
-    ensures { result ≡ record { chapter = 0; base = record { map = base.0; begun = base.1 }; marks = [] } }
+    ghost base: { MapRows × Told }
+    ensures { result ≡ first_chapter base.1 base.0 }
 {
     Chronicle::begin()
 }
@@ -108,6 +108,7 @@ impl<F: Files, K: Opening> Keeper<F, K> {
         ensures marks { HasLeft number change self.old.doubt (found self.old.map) (moment_of (F.told self.new.files)) (open_chapter (F.told self.old.files) self.old.map self.old.doubt self.old.history) self.new.history result }
         ensures device { HasDevice (F.faults self.old.files) (F.faults self.new.files) result }
         ensures faults { F.faults self.old.files ≤ F.faults self.new.files }
+        ensures crash { K.sound → KeepsAll (F.told self.new.files) self.new.history }
     {
         known_change(&change);
         open_next(&self.files, &self.map, &mut self.chronicle, &self.doubt);
@@ -124,9 +125,9 @@ impl<F: Files, K: Opening> Keeper<F, K> {
         }
     }
 
-    /// The definitions. What a crash leaves at any moment since the chapter began, inside calls too,
-    /// is the map after the first of the changes that were tried, with every one that was
-    /// acknowledged by then.
+    /// The definitions. What a crash leaves at any moment since the store was opened, inside calls
+    /// too, is the map after the first of all the changes that were tried since then, with every one
+    /// that was acknowledged by then.
     pub fn map(&self) -> &DefMap
         ensures value { result.now ≡ self.now.map }
         ensures of_acknowledged { IsMapOf self.now.history (found self.now.map) }

@@ -1,5 +1,6 @@
 // What happened to a store of definitions, for contracts.
 use def_map::DefMap;
+use std::collections::LinkedList;
 use store_spec::{BookKind, Change, Image, ImageFault};
 use virt_types::{Failed, Name, Uuid};
 
@@ -73,4 +74,10 @@ pub struct StoreBase {
     pub map: DefMap,
     /// How many operations the store had told.
     pub begun: u64,
+    /// The definitions with which the store was opened.
+    pub opened: DefMap,
+    /// How many operations it had told then.
+    pub since: u64,
+    /// The marks of all chapters before this one, the oldest first.
+    pub before: LinkedList<StoreMark>,
 }

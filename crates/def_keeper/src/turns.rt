@@ -4,6 +4,7 @@ ghost use Rattle.store_spec.specs.declared.kind.BookKind.{BookKind as TheKind};
 ghost use Rattle.store_spec.specs.Changes.{changed};
 ghost use Rattle.def_keeper.specs.Calls.{CanBeMade, HasDevice, HasLeft, IsDoubtAfter, IsQuiet, Refuses};
 ghost use Rattle.def_keeper.specs.Chapters.{moment_of, open_chapter};
+ghost use Rattle.def_keeper.specs.Safe.{KeepsAll};
 ghost use Rattle.def_map.specs.Map.{found};
 
 use crate::keeper::Keeper;
@@ -37,6 +38,7 @@ fn change_as<F: Files, K: Opening>(
     ensures marks { HasLeft number change turn.old.value.doubt (found turn.old.value.map) (moment_of (F.told turn.new.value.files)) (open_chapter (F.told turn.old.value.files) turn.old.value.map turn.old.value.doubt turn.old.value.history) turn.new.value.history result }
     ensures device { HasDevice (F.faults turn.old.value.files) (F.faults turn.new.value.files) result }
     ensures faults { F.faults turn.old.value.files ≤ F.faults turn.new.value.files }
+    ensures crash { K.sound → KeepsAll (F.told turn.new.value.files) turn.new.value.history }
     ensures same { turn.new ≡ record turn.old { value = turn.new.value } }
 {
     turn.value().change(change)
@@ -58,6 +60,7 @@ pub fn change_in<F: Files, K: Opening>(
     ensures marks { HasLeft turn.old.pass.number change turn.old.value.doubt (found turn.old.value.map) (moment_of (F.told turn.new.value.files)) (open_chapter (F.told turn.old.value.files) turn.old.value.map turn.old.value.doubt turn.old.value.history) turn.new.value.history result }
     ensures device { HasDevice (F.faults turn.old.value.files) (F.faults turn.new.value.files) result }
     ensures faults { F.faults turn.old.value.files ≤ F.faults turn.new.value.files }
+    ensures crash { K.sound → KeepsAll (F.told turn.new.value.files) turn.new.value.history }
     ensures same { turn.new ≡ record turn.old { value = turn.new.value } }
 {
     change_as(turn, change)

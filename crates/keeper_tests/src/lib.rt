@@ -7,6 +7,8 @@ mod calls;
 #[cfg(test)]
 mod changes;
 #[cfg(test)]
+mod chapters;
+#[cfg(test)]
 mod crashes;
 #[cfg(test)]
 mod failing;

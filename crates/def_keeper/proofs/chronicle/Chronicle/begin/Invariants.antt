@@ -1,5 +1,5 @@
-use Rattle.std.proofs.Common.{[]}
+use Rattle.def_keeper.specs.Chapters.{first_chapter}
 use Rattle.def_keeper.proofs.chronicle.Chronicle.begin.Given as goal
 
 abbrev pub ghost-named : goal.ghost-named
-ghost-named g a = record { chapter = 0; base = record { map = g.base.0; begun = g.base.1 }; marks = [] }
+ghost-named g a = first_chapter g.base.1 g.base.0
