@@ -6,7 +6,7 @@ mod comparing;
 mod keeping;
 mod outcome;
 mod reading;
-mod replacing;
+mod storing;
 
 pub use comparing::same_status;
 pub use def_keeper::{Keeper, KeeperPass, Opening};

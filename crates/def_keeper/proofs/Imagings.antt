@@ -42,7 +42,7 @@ pub record Answers (old new : StoreHistory) : Type 0 where
   pub tries : tries_in more ≡ []
   pub none : acknowledged_in more ≡ []
 
-same_history : (old new : StoreHistory) → new ≡ old → Answers old new
+pub same_history : (old new : StoreHistory) → new ≡ old → Answers old new
 same_history old new same = record { more = []; is = same ∙ (λ k. record old { marks = sym (append-nil old.marks) k }); tries = refl; none = refl }
 
 pub written_answers : (number : ℕ) (name : List ℕ) (i : Image) (old new : StoreHistory) (r : Result (Unit {0}) Fault) → HasWritten number name i old new r → Answers old new

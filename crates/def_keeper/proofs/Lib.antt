@@ -9,7 +9,8 @@ pub mod Orders
 pub mod Tidies
 pub mod OpenedSo
 pub mod Asides
-pub mod Booting
 pub mod Imagings
+pub mod Booting
+pub mod StatusStops
 pub mod Examines
 pub mod OpeningCrashes

@@ -2,17 +2,19 @@
 use Rattle.std.specs.Prelude.{Option}
 use Rattle.files_disk.specs.Telling.{Told}
 use Rattle.def_keeper.specs.declared.mark.DefKey.{DefKey}
+use Rattle.def_keeper.specs.Boots.{PlaceRows}
 use Rattle.def_keeper.specs.Calls.{AllGood}
 use Rattle.def_map.specs.Map.{MapRows, found}
 use Rattle.def_keeper.specs.Marks.{StoreHistory}
 use Rattle.def_keeper.specs.Safe.{IsKeptAt, IsMapOf}
 
--- the files, the map, what happened in the chapter, and of which definition the directory is in doubt
+-- the files, the map, what happened, of which definition the directory is in doubt, and which statuses were put last
 pub record Keeping (F : Type 0) : Type 0 where
   pub files : F
   pub map : MapRows
   pub history : StoreHistory
   pub doubt : Option DefKey
+  pub places : PlaceRows
 
 -- where the store was sound when it was opened, each crash leaves what was promised; the map is that of the
 -- acknowledged changes on every store, and each entry is one that a file may hold

@@ -13,7 +13,8 @@ use crate::good::known_change;
 use crate::keep::change_in;
 use crate::mark::{DefKey, StoreFault};
 use crate::opening::Opening;
-use def_map::DefMap;
+use crate::places::StatusPlace;
+use def_map::{DefMap, Keyed};
 use files_disk::Files;
 use std::alloc::Global;
 use std::marker::{Model, PhantomData};
@@ -28,6 +29,7 @@ pub struct Keeper<F: Files, K: Opening> {
     pub(crate) map: DefMap,
     pub(crate) chronicle: Chronicle,
     pub(crate) doubt: Option<DefKey>,
+    pub(crate) places: Keyed<StatusPlace>,
     pub(crate) of: PhantomData<K>,
 }
 
@@ -36,7 +38,7 @@ impl<F: Files, K: Opening> Model for Keeper<F, K> {
 
     ghost Value = { Keeping F };
 
-    ghost view = { λ k. record { files = k.files; map = k.map; history = k.chronicle; doubt = k.doubt } };
+    ghost view = { λ k. record { files = k.files; map = k.map; history = k.chronicle; doubt = k.doubt; places = k.places } };
 
     ghost invariant = { λ k. IsSafe K.sound (F.told k.files) k.map k.chronicle k.doubt };
 }
@@ -79,7 +81,7 @@ impl<F: Files, K: Opening> Keeper<F, K> {
     pub fn adopt(alloc: Global, files: F, map: DefMap) -> Keeper<F, K>
         requires sound { K.sound → IsSettledAt (F.told files) (found map) }
         requires good { AllGood (found map) }
-        ensures { result ≡ record { files = files; map = map; history = first_chapter (F.told files) map; doubt = None } }
+        ensures { result ≡ record { files = files; map = map; history = first_chapter (F.told files) map; doubt = None; places = [] } }
     {
         let chronicle = begin(&files, &map);
         Keeper {
@@ -88,6 +90,7 @@ impl<F: Files, K: Opening> Keeper<F, K> {
             map,
             chronicle,
             doubt: None,
+            places: Keyed::new(alloc),
             of: PhantomData,
         }
     }

@@ -2,7 +2,7 @@
 use def_map::DefMap;
 use std::collections::LinkedList;
 use store_spec::{BookKind, Change, Image, ImageFault};
-use virt_types::{Failed, Name, Uuid};
+use virt_types::{Failed, Fault, Front, Name, Status, Uuid};
 
 /// Of which kind a definition is, and its identifier.
 #[derive(Clone, Copy, Debug, PartialEq, Eq)]
@@ -57,6 +57,17 @@ pub enum StoreAction {
         name: Name,
         /// The answer.
         answer: Result<Image, ImageFault>,
+    },
+    /// The status of the boot in a slot was to be put, or that none is live there.
+    StatusKept {
+        /// The slot of the domain.
+        slot: u32,
+        /// The place of the slot's history that the status is of.
+        at: Front,
+        /// The status; none where no boot is live.
+        status: Option<Status>,
+        /// The answer.
+        answer: Result<(), Fault>,
     },
 }
 

@@ -14,7 +14,8 @@ use Rattle.turn_cell.specs.Passes.{Enters, Turned, left_by}
 use Rattle.turn_cell.specs.Turning.{Changes, HasTurned, Went}
 use Rattle.virt_types.specs.Below.types_base.declared.memory.NoMemory.{NoMemory}
 use Rattle.virt_types.specs.declared.status.Status.{Status}
-use Rattle.held_tasks.specs.Statuses.{OnlyLooks}
+use Rattle.held_tasks.specs.Statuses.{OnlyLooks, end_of}
+use Rattle.virt_types.specs.Below.types_base.declared.caller.Front.{Front}
 
 abbrev DomainTurn : Type 0
 DomainTurn = Turned Celled Base (Mark ℕ) CellShare
@@ -58,3 +59,7 @@ module _ (before : DomainPass) (turn now : DomainTurn) (after : DomainPass) (ent
       let given : status ≡ boot_status (state_of (history_of turn.value)) = subst (λ (r : Result (Option Status) NoMemory). IfOk r (λ s. s ≡ boot_status (state_of (history_of turn.value)))) is reads in
       let seen : after.seen ≡ history_of turn.value = seen_is ∙ sym (ap history_of enters.value) in
       given ∙ sym (ap (λ (h : DomainHistory). boot_status (state_of h)) seen)
+
+  -- and its place is that of the end of the history that was seen
+  pub place_seen : (at : Front) → at ≡ end_of (history_of turn.value) → at ≡ end_of after.seen
+  place_seen at is = is ∙ sym (ap (λ (h : DomainHistory). end_of h) (seen_is ∙ sym (ap history_of enters.value)))

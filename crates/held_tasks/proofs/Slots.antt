@@ -46,7 +46,7 @@ keeps_empty old new keeps free fresh = keeps fresh ∙ free
 module _ {F E G : Type 0} (told : F → Told) (stores : F → ℕ) (maker : G → ℕ) (ends faults : E → ℕ) (unheard : E → Option (List GuestEvent)) where
   pub served_in : (who : Who) (t : Task) (slot : ℕ) (row after : DriverRow G) (o : Outcome) (l l' : ListPassed) (s mid s' : StorePass) (domains domains' before rest : List DomainPass) (old first last new : DomainPass)
       (guests guests' : CountingMaker G) (r : Reply) (place : Option Front) (seen : Seen) → row ≡ row_with l s domains guests → domains ≡ before ++ old ∷ rest → length before ≡ slot
-      → HasServedTask told ends faults unheard who t s mid (maker guests.maker) (maker guests'.maker) first last r place seen → HasReported told stores t old first last new mid s' guests.unkept guests'.unkept
+      → HasServedTask told ends faults unheard who t s mid (maker guests.maker) (maker guests'.maker) first last r place seen → HasReported told stores slot t old first last new mid s' guests.unkept guests'.unkept
       → LetsGo slot seen.front seen.occupied l l' → domains' ≡ before ++ new ∷ rest → after ≡ row_with l' s' domains' guests' → o.reply ≡ r → RestsAt slot place o → IsServedIn told stores maker ends faults unheard who t slot row after o
   served_in who t slot row after o l l' s mid s' domains domains' before rest old first last new guests guests' r place seen from there at serves reports goes put made says rests =
       let base : IsServedIn told stores maker ends faults unheard who t slot (row_with l s domains guests) (row_with l' s' domains' guests') o = record {

@@ -17,6 +17,7 @@ use Rattle.driver_cells.specs.OfObjects.{DomainPass}
 use Rattle.driver_cells.specs.OfOutcomes.{DomainPass as KnownPass, HasLeft, IsLater, Known, StandsAt, level}
 use Rattle.driver_cells.specs.OfTasks.{Answers, ReadsNow}
 use Rattle.files_disk.specs.Telling.{Told}
+use Rattle.history_spec.specs.Chapter.{tagged}
 use Rattle.list_replies.proofs.Below.outcome_spec.Staying.{stands_stays}
 use Rattle.list_replies.specs.Below.outcome_spec.Done.{IsCallOf, IsDone, call_in}
 use Rattle.row_desk.specs.Views.{StorePass}
@@ -65,7 +66,7 @@ no_more xs ys is = is ∙ append-nil xs
 
 read_saw : (before after : DomainPass) (status : StatusRead) → HasReadStatus before after status → SawMore before after
 read_saw before after read.NotDue it = absurd it
-read_saw before after (read.Read status) it = record {
+read_saw before after (read.Read status at) it = record {
   later = later_went meaning 1 [] before after it.0.went;
   same = it.0.went.same;
   share = it.0.share;
@@ -160,30 +161,30 @@ pub record WentOn (before after : StorePass) : Type 0 where
 same_went : (before after : StorePass) → after ≡ before → WentOn before after
 same_went before after same = subst (WentOn before) (sym same) (record { later = later_itself level (known before); cell = refl; parts = refl })
 
-module _ {F : Type 0} (told : F → Told) (stores : F → ℕ) where
-  kept_went : (was is : Option Status) (before after : StorePass) (result : StatusKept) → KeepsStatus told stores was is before after result → WentOn before after
-  kept_went was is before after came.Unchanged it = same_went before after it.1
-  kept_went was is before after came.Done it = record { later = later_went (store_meaning told) 1 [] before after it.1.went; cell = it.1.went.same.cell; parts = it.1.went.same.parts }
-  kept_went was is before after came.Failed it = record { later = later_went (store_meaning told) 1 [] before after it.1.went; cell = it.1.went.same.cell; parts = it.1.went.same.parts }
-  kept_went was is before after came.NoMemory it = record { later = later_went (store_meaning told) 1 [] before after it.1.went; cell = it.1.went.same.cell; parts = it.1.went.same.parts }
-  kept_went was is before after came.Spent it = record {
+module _ {F : Type 0} (told : F → Told) (stores : F → ℕ) (slot : ℕ) where
+  kept_went : (at : Front) (was is : Option Status) (before after : StorePass) (result : StatusKept) → KeepsStatus told stores slot at was is before after result → WentOn before after
+  kept_went at was is before after came.Unchanged it = same_went before after it.1
+  kept_went at was is before after came.Done it = record { later = later_went (store_meaning told) 1 (tagged after.seen.chapter it.1.more) before after it.1.went; cell = it.1.went.same.cell; parts = it.1.went.same.parts }
+  kept_went at was is before after came.Failed it = record { later = later_went (store_meaning told) 1 (tagged after.seen.chapter it.1.more) before after it.1.went; cell = it.1.went.same.cell; parts = it.1.went.same.parts }
+  kept_went at was is before after came.NoMemory it = record { later = later_went (store_meaning told) 1 (tagged after.seen.chapter it.1.more) before after it.1.went; cell = it.1.went.same.cell; parts = it.1.went.same.parts }
+  kept_went at was is before after came.Spent it = record {
     later = later_spent level before after it.1.spent;
     cell = ap (λ (p : StorePass). p.cell) it.1.spent;
     parts = ap (λ (p : StorePass). p.parts) it.1.spent;
   }
 
-  pub told_went : (was is : StatusRead) (before after : StorePass) (result : StatusKept) → IsTold told stores was is before after result → WentOn before after
-  told_went (read.Read was) (read.Read is) before after result it = kept_went was is before after result it
-  told_went (read.Read was) read.NotDue before after result it = same_went before after it.0
-  told_went (read.Read was) read.NoMemory before after result it = same_went before after it.0
-  told_went (read.Read was) read.Spent before after result it = same_went before after it.0
+  pub told_went : (was is : StatusRead) (before after : StorePass) (result : StatusKept) → IsTold told stores slot was is before after result → WentOn before after
+  told_went (read.Read was from) (read.Read is at) before after result it = kept_went at was is before after result it
+  told_went (read.Read was from) read.NotDue before after result it = same_went before after it.0
+  told_went (read.Read was from) read.NoMemory before after result it = same_went before after it.0
+  told_went (read.Read was from) read.Spent before after result it = same_went before after it.0
   told_went read.NotDue is before after result it = same_went before after it.0
   told_went read.NoMemory is before after result it = same_went before after it.0
   told_went read.Spent is before after result it = same_went before after it.0
 
 -- ---- both
 
-module _ {F : Type 0} {told : F → Told} {stores : F → ℕ} {t : Task} {old first last new : DomainPass} {store_was store_is : StorePass} {unkept_was unkept_is : ℕ} (h : HasReported told stores t old first last new store_was store_is unkept_was unkept_is) where
+module _ {F : Type 0} {told : F → Told} {stores : F → ℕ} {slot : ℕ} {t : Task} {old first last new : DomainPass} {store_was store_is : StorePass} {unkept_was unkept_is : ℕ} (h : HasReported told stores slot t old first last new store_was store_is unkept_was unkept_is) where
   pub saw_first : SawMore old first
   saw_first = looked_saw t old first h.was h.looks
 
@@ -191,4 +192,4 @@ module _ {F : Type 0} {told : F → Told} {stores : F → ℕ} {t : Task} {old f
   saw_last = looked_saw t last new h.is h.looks_again
 
   pub store_went : WentOn store_was store_is
-  store_went = told_went told stores h.was h.is store_was store_is h.kept h.tells
+  store_went = told_went told stores slot h.was h.is store_was store_is h.kept h.tells

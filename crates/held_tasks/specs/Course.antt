@@ -68,7 +68,7 @@ module _ {G : Type 0} where
       pub domains : Replaces slot old new before.domains after.domains
       pub serves :
           HasServedTask told ends faults unheard who t before.store mid (maker before.guests.maker) (maker after.guests.maker) first last o.reply place seen
-      pub reports : HasReported told stores t old first last new mid after.store before.guests.unkept after.guests.unkept
+      pub reports : HasReported told stores slot t old first last new mid after.store before.guests.unkept after.guests.unkept
       pub lets_go : LetsGo slot seen.front seen.occupied before.list after.list
       pub rests : RestsAt slot place o
 

@@ -1,5 +1,5 @@
 -- The status of a domain's boot around a task, and what the store is told of it.
-use Rattle.std.specs.Prelude.{◌≡◌, ℕ, [], true}
+use Rattle.std.specs.Prelude.{◌≡◌, ℕ, [], length, true}
 use Rattle.boot_status.specs.Keeping.{KeepsStatus}
 use Rattle.boot_status.specs.Reporting.{boot_status}
 use Rattle.boot_status.specs.declared.outcome.StatusKept.{StatusKept}
@@ -11,8 +11,10 @@ use Rattle.driver_cells.specs.OfObjects.{DomainPass}
 use Rattle.driver_cells.specs.OfOutcomes.{state_of}
 use Rattle.files_disk.specs.Telling.{Told}
 use Rattle.row_desk.specs.Views.{StorePass}
+use Rattle.history_spec.specs.declared.history.History.{History}
 use Rattle.turn_cell.specs.Known.{HasMarks}
 use Rattle.turn_cell.specs.Turning.{Went}
+use Rattle.virt_types.specs.Below.types_base.declared.caller.Front.{Front}
 use Rattle.held_tasks.specs.Counting.{Counts}
 use Rattle.held_tasks.specs.declared.status.StatusRead.{StatusRead}
 use Rattle.held_tasks.specs.declared.status.StatusRead.TheVariants as read
@@ -24,10 +26,15 @@ pub record OnlyLooks (before after : DomainPass) : Type 0 where
   pub share : after.share ≡ before.share
   pub own : HasMarks meaning after.number after.mine after.seen
 
--- in such a turn the status was read, of the state at the end of the history that was seen; or no ticket was left
+-- how far a history has come
+abbrev pub end_of : {B M : Type 0} → History B M → Front
+end_of h = record { chapter = h.chapter; marks = length h.marks }
+
+-- in such a turn the status was read, of the state at the end of the history that was seen, with the place of that end; or no
+-- ticket was left
 abbrev pub HasReadStatus : DomainPass → DomainPass → StatusRead → Type 0
 HasReadStatus before after read.NotDue = ⊥
-HasReadStatus before after (read.Read status) = OnlyLooks before after × (status ≡ boot_status (state_of after.seen))
+HasReadStatus before after (read.Read status at) = OnlyLooks before after × (status ≡ boot_status (state_of after.seen)) × (at ≡ end_of after.seen)
 HasReadStatus before after read.NoMemory = OnlyLooks before after
 HasReadStatus before after read.Spent = after ≡ record before { spent = true }
 
@@ -42,11 +49,11 @@ unread read.NoMemory = came.NoMemory
 unread read.Spent = came.Spent
 unread other = came.Unchanged
 
-module _ {F : Type 0} (told : F → Told) (stores : F → ℕ) where
+module _ {F : Type 0} (told : F → Told) (stores : F → ℕ) (slot : ℕ) where
   -- where it was read both times, the store was told what changed; else nothing was done
   abbrev pub IsTold : StatusRead → StatusRead → StorePass → StorePass → StatusKept → Type 0
-  IsTold (read.Read was) (read.Read is) before after kept = KeepsStatus told stores was is before after kept
-  IsTold (read.Read was) is before after kept = (after ≡ before) × (kept ≡ unread is)
+  IsTold (read.Read was from) (read.Read is at) before after kept = KeepsStatus told stores slot at was is before after kept
+  IsTold (read.Read was from) is before after kept = (after ≡ before) × (kept ≡ unread is)
   IsTold was is before after kept = (after ≡ before) × (kept ≡ unread was)
 
   -- the status was read before the task and after it, the store was told what changed, and a status that could not be kept

@@ -63,7 +63,7 @@ pub(crate) fn serve_in_slot<R: Wait, G: Maker, F: Files + Drop, K: Opening>(
     let (means, pass, tasked) = serve_with(rt, alloc, &cells.store, domain, means, pass, who, task);
     let (pass, after) = look(rt, domain, pass, task);
     let Means { guests, store } = means;
-    let (store, kept) = tell(rt, &cells.store, store, before, after);
+    let (store, kept) = tell(rt, &cells.store, store, slot, before, after);
     let Tasked { reply, place, seen } = tasked;
     let held = list.into_pass();
     let list = give_back(rt, &cells.list, held, slot, seen.front, seen.occupied);

@@ -3,7 +3,7 @@ ghost use Rattle.std.specs.Prelude.{◌≡◌, IfOk};
 ghost use Rattle.boot_status.specs.Reporting.{boot_status};
 ghost use Rattle.driver_cells.specs.OfCells.{history_of};
 ghost use Rattle.driver_cells.specs.OfOutcomes.{state_of};
-ghost use Rattle.held_tasks.specs.Statuses.{HasLooked, HasReadStatus, IsTold};
+ghost use Rattle.held_tasks.specs.Statuses.{HasLooked, HasReadStatus, IsTold, end_of};
 ghost use Rattle.turn_cell.specs.Turning.{SamePass};
 
 use boot_status::{Keeper, KeeperPass, Opening, StatusKept, keep_status, status_of};
@@ -12,8 +12,8 @@ use files_disk::Files;
 use list_replies::Task;
 use monitor_link::{Ears, Killer, Monitor};
 use std::sync::Wait;
-use turn_cell::{CellOf, Turn, TurnCell};
-use virt_types::{NoMemory, Status};
+use turn_cell::{CellOf, Kept, Turn, TurnCell};
+use virt_types::{Front, NoMemory, Status};
 
 /// What was read of the status of a domain's boot.
 #[derive(Drop)]
@@ -21,21 +21,32 @@ pub enum StatusRead {
     /// It was not read, since the task changes nothing.
     NotDue,
     /// The status of the boot that is live; none where none is.
-    Read(Option<Status>),
+    Read {
+        /// The status.
+        status: Option<Status>,
+        /// The place of the domain's history that it is of.
+        at: Front,
+    },
     /// There was no memory for it.
     NoMemory,
     /// No ticket was left.
     Spent,
 }
 
-// The status, as the domain is in this turn.
+// The status, as the domain is in this turn, and how far its history has come.
 fn status_in<M: Monitor + Drop, E: Ears + Drop, Z: Killer + Drop>(
     turn: &mut Turn<DomainCell<M, E, Z>>,
-) -> Result<Option<Status>, NoMemory>
-    ensures status { IfOk result (λ status. status ≡ boot_status (state_of (history_of turn.old.value))) }
+) -> (Result<Option<Status>, NoMemory>, Front)
+    ensures status { IfOk result.0 (λ status. status ≡ boot_status (state_of (history_of turn.old.value))) }
+    ensures place { result.1 ≡ end_of (history_of turn.old.value) }
     ensures same { turn.new ≡ turn.old }
 {
-    status_of(turn.value().state())
+    let cell = turn.value();
+    let at = Front {
+        chapter: cell.chapter(),
+        marks: cell.marks(),
+    };
+    (status_of(cell.state()), at)
 }
 
 // Takes a turn of the domain, and reads the status in it.
@@ -52,10 +63,10 @@ fn read_status<R: Wait, M: Monitor + Drop, E: Ears + Drop, Z: Killer + Drop>(
         Ok(turn) => turn,
         Err((pass, _)) => return (pass, StatusRead::Spent),
     };
-    let status = status_in(&mut turn);
+    let (status, at) = status_in(&mut turn);
     let pass = cell.leave(turn);
     match status {
-        Ok(status) => (pass, StatusRead::Read(status)),
+        Ok(status) => (pass, StatusRead::Read { status, at }),
         Err(NoMemory) => (pass, StatusRead::NoMemory),
     }
 }
@@ -83,22 +94,25 @@ pub(crate) fn tell<R: Wait, F: Files + Drop, K: Opening>(
     rt: &R,
     store: &TurnCell<Keeper<F, K>>,
     pass: KeeperPass<F, K>,
+    slot: u32,
     before: StatusRead,
     after: StatusRead,
 ) -> (KeeperPass<F, K>, StatusKept)
     requires { pass.cell ≡ store.now }
-    ensures told { IsTold F.told F.faults before after pass result.0 result.1 }
+    ensures told { IsTold F.told F.faults slot before after pass result.0 result.1 }
     ensures same { SamePass pass result.0 }
 {
     match before {
         StatusRead::NotDue => (pass, StatusKept::Unchanged),
         StatusRead::NoMemory => (pass, StatusKept::NoMemory),
         StatusRead::Spent => (pass, StatusKept::Spent),
-        StatusRead::Read(before) => match after {
+        StatusRead::Read { status: before, .. } => match after {
             StatusRead::NotDue => (pass, StatusKept::Unchanged),
             StatusRead::NoMemory => (pass, StatusKept::NoMemory),
             StatusRead::Spent => (pass, StatusKept::Spent),
-            StatusRead::Read(after) => keep_status(rt, store, pass, &before, &after),
+            StatusRead::Read { status, at } => {
+                keep_status(rt, store, pass, slot, at, &before, &status)
+            }
         },
     }
 }

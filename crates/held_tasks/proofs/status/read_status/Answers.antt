@@ -1,4 +1,4 @@
-use Rattle.held_tasks.proofs.Reading.{leaves_all, only_looks, status_seen}
+use Rattle.held_tasks.proofs.Reading.{leaves_all, only_looks, place_seen, status_seen}
 use Rattle.held_tasks.proofs.status.read_status.Goals as goal
 
 pub leave-pass-requires-clause-goes_on : goal.leave-pass-requires-clause-goes_on
@@ -15,7 +15,7 @@ returns-in-Ok-status g c =
     let looks = only_looks c.args.pass c.in-Ok.turn c.status_in-status.new.turn c.leave-pass.result c.in-Ok.ensures.turn c.status_in-status.ensures.same c.leave-pass.ensures in
     let seen = status_seen c.args.pass c.in-Ok.turn c.status_in-status.new.turn c.leave-pass.result c.in-Ok.ensures.turn c.status_in-status.ensures.same c.leave-pass.ensures c.in-Ok-status.status c.status_in-status.result c.in-Ok-status.is
     c.status_in-status.ensures.status in
-    record { read = (looks, seen); same = looks.went.same }
+    record { read = (looks, seen, place_seen c.args.pass c.in-Ok.turn c.status_in-status.new.turn c.leave-pass.result c.in-Ok.ensures.turn c.status_in-status.ensures.same c.leave-pass.ensures c.status_in-status.result.1 c.status_in-status.ensures.place); same = looks.went.same }
 
 pub returns-in-Err-status : goal.returns-in-Err-status
 returns-in-Err-status g c =
