@@ -9,12 +9,24 @@ import random
 
 from suite.cases import Failed, case, check
 from suite.daemon import Place, Session
-from suite.directory import Change, Drop, Entry, Map, Mark, Put, judge, read_directory
+from suite.directory import Change, Drop, Entry, Map, Mark, Put, changed, judge, read_directory
 from suite.samples import definition, named
 from suite.wire import Domain, Refusal, show
 
 #: How many changes are asked for at once, before a kill.
 BURST = 12
+
+#: How many changes a daemon makes before it is killed among more of them: chapters of its store end.
+BEFORE = 10_000
+
+#: How many of these are asked for at once.
+STREAM = 100
+
+#: How many daemons are killed so.
+KILLS = 40
+
+#: How many calls change the states of guests before a kill among them.
+STATE_CALLS = 24
 
 
 def text_of(place: Place, domain: Domain) -> str:
@@ -71,8 +83,14 @@ def check_next_daemon(place: Place, found: Map) -> None:
 def _burst_and_kill(
     place: Place, draw: Changes, stored: set[Domain], waits: int
 ) -> tuple[list[Change], int]:
+    """Start a daemon, and kill it in a burst of changes; the changes and the replies."""
+    return _burst_of(Session(place), draw, stored, waits)
+
+
+def _burst_of(
+    session: Session, draw: Changes, stored: set[Domain], waits: int
+) -> tuple[list[Change], int]:
     """Ask for a burst of changes, kill after so many replies; the changes and the replies."""
-    session = Session(place)
     changes = []
     serials = []
     for _ in range(BURST):
@@ -194,6 +212,77 @@ def during_a_save(place: Place) -> None:
             raise Failed("an image was restored that is not there")
         check(0, again.finish().status, "the exit status")
         (place.directory / "s.img").unlink(missing_ok=True)
+
+
+def _stream(session: Session, draw: Changes, stored: set[Domain], count: int) -> list[Change]:
+    """Ask for so many changes, all of them answered; the changes."""
+    changes = []
+    for start in range(0, count, STREAM):
+        serials = []
+        for _ in range(min(STREAM, count - start)):
+            (name, *values), change = draw.draw(stored)
+            changes.append(change)
+            serials.append(session.begin(name, *values))
+        for serial in serials:
+            packet = session.reply_of(serial)
+            if packet.status != 0:
+                raise Failed(f"a change is refused: {show(packet)}")
+    return changes
+
+
+def _after(base: Map, changes: list[Change]) -> Map:
+    """The map after these changes."""
+    for change in changes:
+        base = changed(base, change)
+    return base
+
+
+@case("kills", f"{KILLS} kills among changes, each after {BEFORE} others, lose none", long=True)
+def after_many_changes(place: Place) -> None:
+    chance = random.Random(21)
+    draw = Changes(place, chance)
+    for _ in range(KILLS):
+        base = read_directory(place.directory)
+        stored = {domain for domain in draw.domains if domain.identifier in base}
+        session = Session(place)
+        base = _after(base, _stream(session, draw, stored, BEFORE))
+        changes, replies = _burst_of(session, draw, stored, chance.randrange(BURST + 1))
+        judge(base, changes, replies, read_directory(place.directory))
+    check_next_daemon(place, read_directory(place.directory))
+
+
+def _status(domain: Domain, state: int) -> bytes:
+    """The status file of a domain whose first boot is in this state."""
+    return f"run 1 boot=1 state={state} op=0 phase=0 name={domain.name}\n".encode()
+
+
+@case("kills", f"Of {KILLS} kills each leaves for every guest its last status, or none")
+def among_states(place: Place) -> None:
+    chance = random.Random(22)
+    domains = [named(f"web{number}", number) for number in range(4)]
+    for _ in range(KILLS):
+        session = Session(place)
+        #: The states of each domain, from its start on, and how many of them are answered.
+        states = {domain: [1] for domain in domains}
+        answered = {domain: 0 for domain in domains}
+        for domain in domains:
+            session.call("DOMAIN_CREATE_XML", definition(domain), 0)
+        asked = []
+        for _ in range(STATE_CALLS):
+            domain = chance.choice(domains)
+            name, state = chance.choice((("DOMAIN_SUSPEND", 3), ("DOMAIN_RESUME", 1)))
+            states[domain].append(state)
+            asked.append((session.begin(name, domain), domain))
+        for serial, domain in asked[: chance.randrange(STATE_CALLS + 1)]:
+            session.reply_of(serial)
+            answered[domain] += 1
+        session.kill()
+        for domain in domains:
+            path = place.directory / f"run-{domain.identifier}.sta"
+            left = path.read_bytes() if path.exists() else None
+            later = [_status(domain, state) for state in states[domain][answered[domain] :]]
+            if left is not None and left not in later:
+                raise Failed(f"{domain.name} is told of as {left!r}, and not as one of {later}")
 
 
 @case("kills", "Two hundred rounds of changes and kills on one directory", long=True)
