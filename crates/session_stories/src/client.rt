@@ -53,19 +53,19 @@ impl<H: Wait> StorySource<H> {
                 return NOTHING;
             };
             let next = self.taken.saturating_add(1);
-            match *step {
+            match step {
                 Step::Call(asked) => {
                     self.taken = next;
                     return asked.packet();
                 }
                 Step::Repeat(asked, until) => {
-                    if !self.is_repeated(until) {
+                    if !self.is_repeated(*until) {
                         self.taken = next;
                     }
                     return asked.packet();
                 }
-                Step::Wait(signal, times) => self.signals.wait_for(&self.rt, signal, times),
-                Step::Give(signal) => self.signals.give(signal),
+                Step::Wait(signal, times) => self.signals.wait_for(&self.rt, *signal, *times),
+                Step::Give(signal) => self.signals.give(*signal),
             }
             self.taken = next;
         }

@@ -2,8 +2,11 @@
 ghost use Rattle.std.specs.Prelude.{◌∷◌, [], IfSome};
 ghost use Rattle.driver_sessions.specs.OfDrivers.{IsReadyRow, IsRowOf, IsWhole};
 
-use crate::scene::{Scene, ServedSession, StorySession};
-use driver_sessions::{Driver, DriverRow, Left, MakerOf, serve_and_close};
+use crate::lines::Lines;
+use crate::scene::{Scene, StorySession};
+use crate::stories::Part;
+use crate::told::told;
+use driver_sessions::{Driver, DriverRow, MakerOf, serve_and_close};
 use files_disk::MemFiles;
 use guest_model::SimGuests;
 use std::alloc::Global;
@@ -11,6 +14,7 @@ use std::marker::Brand;
 use std::sync::Wait;
 use std::thread::Threads;
 use story_guests::StoryGuests;
+use types_base::NoMemory;
 
 /// What makes the guests of a story.
 type Makers<H> = StoryGuests<H, SimGuests<H>>;
@@ -35,18 +39,31 @@ fn open<H: Wait + Copy + Send + Sync>(
     }
 }
 
-/// Serves the sessions, each in a thread of its own, and closes the driver. None where it could not be closed, or there was no
-/// memory.
+// What is told of the sessions, once each was served in a thread of its own and the driver was closed. None where it could not be
+// closed, or there was no memory.
+fn serve<H: Threads + Wait + Copy + Send + Sync>(
+    scene: &Scene<H>,
+    guests: Makers<H>,
+    sessions: Vec<StorySession<H>>,
+) -> Option<Lines> {
+    let (driver, row) = open(scene.alloc, guests)?;
+    let left = serve_and_close(&scene.rt, scene.alloc, driver, row, sessions)?;
+    Some(told(scene.alloc, left.served.as_slice()))
+}
+
+/// Plays a story: a session for each part.
 pub(crate) fn play<H: Threads + Wait + Copy + Send + Sync>(
     scene: &Scene<H>,
-    sessions: Vec<StorySession<H>>,
-) -> Option<Vec<ServedSession<H>>> {
-    let guests = scene.guests().ok()?;
-    let (driver, row) = open(scene.alloc, guests)?;
-    let Left {
-        served,
-        files: _,
-        books: _,
-    } = serve_and_close(&scene.rt, scene.alloc, driver, row, sessions)?;
-    Some(served)
+    parts: &[Part],
+) -> Result<Lines, NoMemory> {
+    let guests = scene.guests()?;
+    let sessions = scene.sessions(parts)?;
+    match serve(scene, guests, sessions) {
+        Some(lines) => Ok(lines),
+        None => {
+            let mut lines = Lines::new(scene.alloc);
+            lines.put("  not closed");
+            Ok(lines)
+        }
+    }
 }

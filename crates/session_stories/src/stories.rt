@@ -3,7 +3,6 @@ use crate::asked::Asked;
 use story_guests::{Manner, Signal, Withheld};
 
 /// What a client does next.
-#[derive(Clone, Copy)]
 pub(crate) enum Step {
     /// It makes this call.
     Call(Asked),
@@ -16,7 +15,6 @@ pub(crate) enum Step {
 }
 
 /// What one client does, and where its session is held up.
-#[derive(Clone, Copy)]
 pub(crate) struct Part {
     pub(crate) steps: &'static [Step],
     /// What its session waits for before each call.
@@ -26,7 +24,6 @@ pub(crate) struct Part {
 }
 
 /// A story.
-#[derive(Clone, Copy)]
 pub(crate) struct Story {
     pub(crate) title: &'static str,
     /// Which answer the guest withholds.
@@ -34,7 +31,7 @@ pub(crate) struct Story {
     pub(crate) parts: &'static [Part],
 }
 
-pub(crate) const STORIES: [Story; 3] = [
+pub(crate) const STORIES: &[Story] = &[
     Story {
         title: "the answer to a suspend is withheld until an info was answered",
         manner: Manner::Withholds(Withheld::Stop, Signal::Told),
