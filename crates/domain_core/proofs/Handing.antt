@@ -116,7 +116,7 @@ handed old new t left was_out was turned held away out out_now made link before 
       monitor = λ is. ap has_monitor f ∙ h.monitor is ∙ ap is_some (sym to);
     }
 
-pub ticket_has : {M : Type 0} (t : Option (Ticket M)) (has out : Bool) → HasMonitor has t → (is_some t ≡ true → has ≡ out) → HasMonitor out t
+pub ticket_has : {G M E Z : Type 0} (t : Option (Ticket G M E Z)) (has out : Bool) → HasMonitor has t → (is_some t ≡ true → has ≡ out) → HasMonitor out t
 ticket_has None has out h e = tt
 ticket_has (Some t) has out h e = h ∙ e refl
 
@@ -125,7 +125,7 @@ back_turned n x old new (core_back.Done r) h = (h.0, h.1)
 back_turned n x old new (core_back.Away y) h = (h.0, h.1)
 back_turned n x old new (core_back.Phased st) h = (h.0, h.1)
 
-pub look_handed : {M : Type 0} (old new : Turning) (n : ℕ) (who : Who) (d : Call) (f : First) (looked : Looked) (r : Look M) (out out_now made : Option ℕ) (link before now : Option Linked) → CanLook old.cell n who d f → IsCell old out link
+pub look_handed : {G M E Z : Type 0} (old new : Turning) (n : ℕ) (who : Who) (d : Call) (f : First) (looked : Looked) (r : Look G M E Z) (out out_now made : Option ℕ) (link before now : Option Linked) → CanLook old.cell n who d f → IsCell old out link
     → Looks n who d f old new looked → looked_of r ≡ looked → made ≡ made_boot (standing_of new.cell) → before ≡ kept_link made link → now ≡ link_by (is_some (look_ticket r)) before → out_now ≡ out_by (is_some (look_ticket r)) made out
     → Handed (is_some (look_ticket r)) new out_now before now
 look_handed old new n who d f looked r out out_now made link before now can h looks same e g k l =
@@ -133,7 +133,7 @@ look_handed old new n who d f looked r out out_now made link before now can h lo
     handed old new (step.Look n who d f) turned.0 out link turned.1 h (is_some (look_ticket r)) out out_now made (kept_link (made_boot (standing_of new.cell)) link) before now
     (look_hands old new n who d f r out link can h.linked (subst (λ (x : Looked). Looks n who d f old new x) (sym same) looks)) e (g ∙ ap (λ (m : Option ℕ). kept_link m link) e) k l
 
-pub phase_handed : {M : Type 0} (old new : Turning) (n : ℕ) (who : Who) (looked : CorePhase) (r : PhaseLook M) (out out_now made : Option ℕ) (link before now : Option Linked) → IsCell old out link
+pub phase_handed : {G M E Z : Type 0} (old new : Turning) (n : ℕ) (who : Who) (looked : CorePhase) (r : PhaseLook G M E Z) (out out_now made : Option ℕ) (link before now : Option Linked) → IsCell old out link
     → Phases n who old new looked → phased_of r ≡ looked → made ≡ made_boot (standing_of new.cell) → before ≡ kept_link made link → now ≡ link_by (is_some (phase_ticket r)) before → out_now ≡ out_by (is_some (phase_ticket r)) made out
     → Handed (is_some (phase_ticket r)) new out_now before now
 phase_handed old new n who looked r out out_now made link before now h looks same e g k l =
@@ -141,7 +141,7 @@ phase_handed old new n who looked r out out_now made link before now h looks sam
     handed old new (step.Phase n who) turned.0 out link turned.1 h (is_some (phase_ticket r)) out out_now made (kept_link (made_boot (standing_of new.cell)) link) before now
     (phase_hands old new n who r out link h.linked (subst (λ (x : CorePhase). Phases n who old new x) (sym same) looks)) e (g ∙ ap (λ (m : Option ℕ). kept_link m link) e) k l
 
-pub back_handed : {M : Type 0} (old new : Turning) (n : ℕ) (x : Answer) (sent fresh : Bool) (left : CoreBack) (r : Back M) (out out_now made heard : Option ℕ) (link home before now : Option Linked) → IsAnswered old.cell sent x fresh → IsCell old out link
+pub back_handed : {G M E Z : Type 0} (old new : Turning) (n : ℕ) (x : Answer) (sent fresh : Bool) (left : CoreBack) (r : Back G M E Z) (out out_now made heard : Option ℕ) (link home before now : Option Linked) → IsAnswered old.cell sent x fresh → IsCell old out link
     → GoesBack n x old new left → back_of r ≡ left → made ≡ made_boot (standing_of new.cell) → heard ≡ boot_heard new.cell.ears → home ≡ with_monitor out link → before ≡ link_made fresh heard made home
     → now ≡ link_by (is_some (back_ticket r)) before → out_now ≡ out_by (is_some (back_ticket r)) made None → Handed (is_some (back_ticket r)) new out_now before now
 back_handed old new n x sent fresh left r out out_now made heard link home before now answered h goes same e told in_home g k l =

@@ -20,15 +20,15 @@ use crate::cell::DomainCell;
 use crate::{Back, Look, Ticket, hand_back, hand_look, keep, keep_or_take, put_monitor};
 use domain_spec::First;
 use history_spec::Stamp;
-use monitor_link::{Ears, Killer, Link, Monitor};
+use monitor_link::{Guests, Link};
 use std::alloc::Global;
 use virt_types::{Answer, Call, Reply, Who};
 
-impl<M: Monitor + Drop, E: Ears + Drop, Z: Killer + Drop> DomainCell<M, E, Z> {
+impl<G: Guests> DomainCell<G> {
     /// A call looks: it is let in, and is done at once or asks somebody; or it is excluded and waits; or it
     /// may not wait, since 32 others do. It neither begins an operation nor takes one up. Where it asks it gets the
     /// monitor of the guest that is there. Where there is no memory nothing is left of it.
-    pub fn look(&mut self, alloc: Global, by: Stamp, who: Who, call: &Call, first: First) -> Look<M>
+    pub fn look(&mut self, alloc: Global, by: Stamp, who: Who, call: &Call, first: First) -> Look<G>
         requires can { CanLook (cell_in self.old) by.number who call.now first }
         requires known { IsKnownFirst first (cell_in self.old) }
         ensures looks { Looks by.number who call.now first self.old.core.turning self.new.core.turning (looked_of result) }
@@ -50,14 +50,14 @@ impl<M: Monitor + Drop, E: Ears + Drop, Z: Killer + Drop> DomainCell<M, E, Z> {
     pub fn back(
         &mut self,
         by: Stamp,
-        ticket: Ticket<M>,
+        ticket: Ticket<G>,
         answer: Answer,
-        made: Option<Link<M, E, Z>>,
-    ) -> Back<M>
+        made: Option<Link<G>>,
+    ) -> Back<G>
         requires can { CanTake (cell_in self.old) (step.Back by.number answer) }
         requires ticket { is_some ticket.monitor ≡ is_some self.old.out }
         requires answered { IsAnswered (cell_in self.old) (is_some ticket.monitor) answer (is_some made) }
-        requires counted { IsCounted M.ends M.faults ticket.monitor answer }
+        requires counted { IsCounted G.M.ends G.M.faults ticket.monitor answer }
         ensures back { GoesBack by.number answer self.old.core.turning self.new.core.turning (back_of result) }
         ensures excluded { self.new.core.excluded ≡ None }
         ensures out { self.new.out ≡ out_by (is_some (back_ticket result)) (made_boot (standing_in self.new)) None }

@@ -15,7 +15,7 @@ ghost use Rattle.core_step_laws.specs.Steady.{IsSteady};
 
 use crate::{DomainTurns, Here};
 use core_steps::Chronicle;
-use monitor_link::{Ears, Killer, Monitor};
+use monitor_link::Guests;
 use std::alloc::Global;
 use std::marker::Model;
 use virt_types::{DomainDef, Front, NoMemory, Query, Reply, State};
@@ -24,13 +24,13 @@ use virt_types::{DomainDef, Front, NoMemory, Query, Reply, State};
 /// or a client is one step of it. The guest's monitor goes out with the ticket of the open call; its ears with a pass
 /// that hears.
 #[derive(Drop)]
-pub struct DomainCell<M, E, Z> {
+pub struct DomainCell<G: Guests> {
     pub(crate) turns: DomainTurns,
-    pub(crate) link: Option<Here<M, E, Z>>,
+    pub(crate) link: Option<Here<G>>,
     pub(crate) out: Option<u64>,
 }
 
-impl<M, E, Z> Model for DomainCell<M, E, Z> {
+impl<G: Guests> Model for DomainCell<G> {
     ghost use Rattle.domain_core.specs.Celled.{Celled, IsCell};
 
     ghost Value = { Celled };
@@ -40,14 +40,14 @@ impl<M, E, Z> Model for DomainCell<M, E, Z> {
     ghost invariant = { λ c. IsCell c.turns.turning c.out c.link };
 }
 
-impl<M: Monitor + Drop, E: Ears + Drop, Z: Killer + Drop> DomainCell<M, E, Z> {
+impl<G: Guests> DomainCell<G> {
     /// A domain as the store was opened: with this stored definition and its autostart, or vacant. Nobody waits
     /// or is registered.
     pub fn new(
         alloc: Global,
         stored: Option<DomainDef>,
         autostart: bool,
-    ) -> Result<DomainCell<M, E, Z>, NoMemory>
+    ) -> Result<DomainCell<G>, NoMemory>
         ensures { IfOk result (λ c. c ≡ new_cell stored autostart) }
     {
         Ok(DomainCell {

@@ -15,11 +15,11 @@ use crate::keep;
 use core_steps::WatchFault;
 use event_queue::Taken;
 use history_spec::Stamp;
-use monitor_link::{Ears, Killer, Monitor};
+use monitor_link::Guests;
 use std::alloc::Global;
 use virt_types::{NoMemory, Who};
 
-impl<M: Monitor + Drop, E: Ears + Drop, Z: Killer + Drop> DomainCell<M, E, Z> {
+impl<G: Guests> DomainCell<G> {
     /// Registers a client for the transitions that come from now on, under the least number below 16 that no
     /// registration has.
     pub fn watch(&mut self, alloc: Global, by: Stamp) -> Result<u32, WatchFault>

@@ -16,11 +16,11 @@ use crate::cell::DomainCell;
 use crate::{PhaseLook, hand_phase, keep};
 use core_steps::OperationLook;
 use history_spec::Stamp;
-use monitor_link::{Ears, Killer, Monitor};
+use monitor_link::Guests;
 use std::alloc::Global;
 use virt_types::{Call, Reply, Who};
 
-impl<M: Monitor + Drop, E: Ears + Drop, Z: Killer + Drop> DomainCell<M, E, Z> {
+impl<G: Guests> DomainCell<G> {
     /// A call looks that begins an operation: where nothing is held it is let in, and the operation begins, or the
     /// call is done since its tests refuse it; else it waits, or may not, since 32 others do.
     pub fn begin_op(&mut self, alloc: Global, by: Stamp, who: Who, call: &Call) -> OperationLook
@@ -53,7 +53,7 @@ impl<M: Monitor + Drop, E: Ears + Drop, Z: Killer + Drop> DomainCell<M, E, Z> {
 
     /// The due phase of the operation that this caller has open: it is let in where no normal job is open, and else
     /// is excluded and leaves nothing. Where it asks it gets the monitor of the guest that is there.
-    pub fn phase(&mut self, alloc: Global, by: Stamp, who: Who) -> PhaseLook<M>
+    pub fn phase(&mut self, alloc: Global, by: Stamp, who: Who) -> PhaseLook<G>
         requires due { IsDue (standing_in self.old).operation by.number who }
         ensures phases { Phases by.number who self.old.core.turning self.new.core.turning (phased_of result) }
         ensures excluded { self.new.core.excluded ≡ None }

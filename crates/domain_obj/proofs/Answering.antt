@@ -57,7 +57,7 @@ back_leaves : (before : DomainPass) (turn : DomainTurn) (mid : Celled) (asked : 
 back_leaves before turn mid asked x r c asks enters steady was is goes =
     answers_leave turn.value.core.turning mid.core.turning turn.pass.number x r c asks asked goes steady (ap (λ (s : Share). s.call) (sym (kept_found before turn enters)) ∙ was) is
 
-pub back_may_leave : {M : Type 0} (before : DomainPass) (first turn mid now : DomainTurn) (asked : Ask) (x : Answer) (r : Back M) → IsAsked before asked → Enters meaning before first → turn ≡ first → IsSteady (standing_in first.value)
+pub back_may_leave : {G M E Z : Type 0} (before : DomainPass) (first turn mid now : DomainTurn) (asked : Ask) (x : Answer) (r : Back G M E Z) → IsAsked before asked → Enters meaning before first → turn ≡ first → IsSteady (standing_in first.value)
     → GoesBackIn turn.pass.number x turn.value mid.value r → mid ≡ record turn { value = mid.value } → now ≡ mid → (more : List (Mark ℕ)) × Changes meaning now.pass.number more now.entry now.value
 back_may_leave before first turn mid now asked x r last entered begun steady goes same told =
     let enters : Enters meaning before turn = subst (λ (t : DomainTurn). Enters meaning before t) (sym begun) entered in
@@ -71,9 +71,9 @@ back_may_leave before first turn mid now asked x r last entered begun steady goe
           (subst (λ (v : Celled). Changes meaning n (own whose n leaves.0) turn.value v) (sym value) (back_changes n x turn.value mid.value leaves.0 leaves.1 goes.others)),
     )
 
-pub answered_once : {M : Type 0} (before after : DomainPass) (first turn mid now : DomainTurn) (asked : Ask) (x : Answer) (b : Back M) (said : Answered M) (place : Front) → TellsBack (standing_in mid.value).operation b said → IsLastPlace place mid.value → IsAsked before asked → Enters meaning before first → turn ≡ first
+pub answered_once : {G M E Z : Type 0} (before after : DomainPass) (first turn mid now : DomainTurn) (asked : Ask) (x : Answer) (b : Back G M E Z) (said : Answered G M E Z) (place : Front) → TellsBack (standing_in mid.value).operation b said → IsLastPlace place mid.value → IsAsked before asked → Enters meaning before first → turn ≡ first
     → IsSteady (standing_in first.value) → GoesBackIn turn.pass.number x turn.value mid.value b → mid ≡ record turn { value = mid.value } → now ≡ mid → IsLegalHistory (history_of mid.value) → after ≡ left_by meaning now → HasAnswered asked x before after said place
-answered_once {M} before after first turn mid now asked x b said place tells at last entered begun steady goes same told legal left =
+answered_once {G} {M} {E} {Z} before after first turn mid now asked x b said place tells at last entered begun steady goes same told legal left =
     let enters : Enters meaning before turn = subst (λ (t : DomainTurn). Enters meaning before t) (sym begun) entered in
     let steady_now : IsSteady (standing_in turn.value) = subst (λ (t : DomainTurn). IsSteady (standing_in t.value)) (sym begun) steady in
     let (c, was, asks, is) = open_call before.share.kept.call asked last in
@@ -112,7 +112,7 @@ answered_once {M} before after first turn mid now asked x b said place tells at 
       share_was = ap (λ (v : Celled). cell_share v before.number) enters.value ∙ enters.share;
       share_is = share;
       same_chapter = leaves.1.chapter;
-      ticket = subst (λ (t : Option (Ticket M)). HasMonitor (is_some mid.value.out) t) (ticket_told (standing_in mid.value).operation b said tells) goes.ticket;
+      ticket = subst (λ (t : Option (Ticket G M E Z)). HasMonitor (is_some mid.value.out) t) (ticket_told (standing_in mid.value).operation b said tells) goes.ticket;
       waits =
           back_waits n x turn.value.core.turning mid.value.core.turning r after.share.kept.call goes_so
           (ap (λ (s : Share). s.call) (sym kept_now));

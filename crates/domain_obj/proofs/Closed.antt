@@ -55,8 +55,8 @@ done_normal old new n x r o h was nested =
 
 -- what became of it is told so
 
-module _ {M : Type 0} where
-  pub back_told : (q : Option OpenOperation) (b : Back M) (said : Answered M) → TellsBack q b said → back_of b ≡ answered_of said
+module _ {G M E Z : Type 0} where
+  pub back_told : (q : Option OpenOperation) (b : Back G M E Z) (said : Answered G M E Z) → TellsBack q b said → back_of b ≡ answered_of said
   back_told q (back.Done r) (answered.Done s) h = ap (λ (x : Reply). core_back.Done x) (sym h)
   back_told q (back.Done r) (answered.Away t x) h = absurd h
   back_told q (back.Done r) (answered.Phased s) h = absurd h
@@ -67,19 +67,19 @@ module _ {M : Type 0} where
   back_told q (back.Phased st) (answered.Away t x) h = absurd h
   back_told q (back.Phased st) (answered.Phased s) h = ap (λ (z : Step). core_back.Phased z) (leads_step q st s h)
 
-  pub ticket_told : (q : Option OpenOperation) (b : Back M) (said : Answered M) → TellsBack q b said → back_ticket b ≡ answered_ticket said
+  pub ticket_told : (q : Option OpenOperation) (b : Back G M E Z) (said : Answered G M E Z) → TellsBack q b said → back_ticket b ≡ answered_ticket said
   ticket_told q (back.Done r) (answered.Done s) h = refl
   ticket_told q (back.Done r) (answered.Away t x) h = absurd h
   ticket_told q (back.Done r) (answered.Phased s) h = refl
   ticket_told q (back.Away t x) (answered.Done s) h = absurd h
-  ticket_told q (back.Away t x) (answered.Away u y) h = ap (λ (z : Ticket M). Some z) (sym h.0)
+  ticket_told q (back.Away t x) (answered.Away u y) h = ap (λ (z : Ticket G M E Z). Some z) (sym h.0)
   ticket_told q (back.Away t x) (answered.Phased s) h = absurd h
   ticket_told q (back.Phased st) (answered.Done s) h = refl
   ticket_told q (back.Phased st) (answered.Away t x) h = absurd h
   ticket_told q (back.Phased st) (answered.Phased s) h = refl
 
   -- how it was closed
-  pub closed_so : (old new : Turning) (n : ℕ) (x : Answer) (c : OpenCall) (y : Ask) (s t : Share) (left : List (Mark ℕ)) (b : Back M) (said : Answered M) → GoesBack n x old new (back_of b) → (share_of old.cell n).call ≡ Some c
+  pub closed_so : (old new : Turning) (n : ℕ) (x : Answer) (c : OpenCall) (y : Ask) (s t : Share) (left : List (Mark ℕ)) (b : Back G M E Z) (said : Answered G M E Z) → GoesBack n x old new (back_of b) → (share_of old.cell n).call ≡ Some c
       → AreOf whose n left → HasTurned old new (step.Back n x) left → BackLeaves n c y x s t (answered_of said) left → TellsBack (standing_of new.cell).operation b said → IsClosedSo n c left said
   closed_so old new n x c y s t left (back.Done r) (answered.Done q) goes was of turned leaves tells = done_normal old new n x r c goes was
   closed_so old new n x c y s t left (back.Away u z) (answered.Done q) goes was of turned leaves tells = absurd tells

@@ -128,7 +128,7 @@ no_marks : (c : ℕ) (ms : List (Mark ℕ)) → ms ≡ [] → tagged c ms ≡ []
 no_marks c ms e = ap (λ (l : List (Mark ℕ)). tagged c l) e
 
 -- it asks on
-pub keeps_on : {M : Type 0} (first now after : DomainPass) (asked next_ask : Ask) (sent : Bool) (next : Ticket M) (report report_now report_then : List (Ask × Answer)) (x : Answer) (place : Front) → Keeps first now asked sent report report_now
+pub keeps_on : {G M E Z : Type 0} (first now after : DomainPass) (asked next_ask : Ask) (sent : Bool) (next : Ticket G M E Z) (report report_now report_then : List (Ask × Answer)) (x : Answer) (place : Front) → Keeps first now asked sent report report_now
     → report_then ≡ report_now ++ told (asked ∷ []) (x ∷ []) → HasAnswered asked x now after (answered.Away next next_ask) place → Keeps first after next_ask (is_some next.monitor) report report_then
 keeps_on first now after asked next_ask sent next report report_now report_then x place k then_is h =
     let l = h.leaves in
@@ -177,7 +177,7 @@ closed_share after number new is none =
     }
 
 -- it is closed by this mark, which says all that it was told
-closes_by : {M : Type 0} (first now after : DomainPass) (asked : Ask) (sent : Bool) (report report_now : List (Ask × Answer)) (x : Answer) (r : Answered M) (place : Front) (k : Keeps first now asked sent report report_now) (h : HasAnswered asked x now after r place) (asks : List Ask) (answers : List Answer)
+closes_by : {G M E Z : Type 0} (first now after : DomainPass) (asked : Ask) (sent : Bool) (report report_now : List (Ask × Answer)) (x : Answer) (r : Answered G M E Z) (place : Front) (k : Keeps first now asked sent report report_now) (h : HasAnswered asked x now after r place) (asks : List Ask) (answers : List Answer)
     (m own_mark : Mark ℕ) → own whose now.number h.left ≡ own_mark ∷ [] → own_mark ≡ m → told asks answers ≡ told_then h.call asked x → after.share.kept.call ≡ None
     → IsFinishedBy first after (k.more ++ told (asked ∷ []) (x ∷ [])) place k.still.was asks answers m
 closes_by first now after asked sent report report_now x r place k h asks answers m own_mark own_is is told_is none =
@@ -209,8 +209,8 @@ phase_as : (n m : ℕ) (j k : OpenJob) (phase : Phase) (asks : List Ask) (answer
 phase_as n m j k phase asks answers next events e f = ap (λ (i : ℕ). mark.Phase i j.who phase asks answers next events) e ∙ ap (λ (o : OpenJob). mark.Phase m o.who phase asks answers next events) f
 
 -- it is done
-pub finishes : {M : Type 0} (first now after : DomainPass) (asked : Ask) (sent : Bool) (report report_now report_then : List (Ask × Answer)) (x : Answer) (r : Reply) (place : Front) → Keeps first now asked sent report report_now
-    → report_then ≡ report_now ++ told (asked ∷ []) (x ∷ []) → HasAnswered {M = M} asked x now after (answered.Done r) place
+pub finishes : {G M E Z : Type 0} (first now after : DomainPass) (asked : Ask) (sent : Bool) (report report_now report_then : List (Ask × Answer)) (x : Answer) (r : Reply) (place : Front) → Keeps first now asked sent report report_now
+    → report_then ≡ report_now ++ told (asked ∷ []) (x ∷ []) → HasAnswered {G = G} {M = M} {E = E} {Z = Z} asked x now after (answered.Done r) place
     → (more : List (Ask × Answer)) × (report_then ≡ report ++ more) × IsFinished first after more r place
 finishes first now after asked sent report report_now report_then x r place k then_is h =
     let l = h.leaves in
@@ -233,8 +233,8 @@ finishes first now after asked sent report report_now report_then x r place k th
     )
 
 -- the phase is done
-pub phases : {M : Type 0} (first now after : DomainPass) (asked : Ask) (sent : Bool) (report report_now report_then : List (Ask × Answer)) (x : Answer) (said : Next) (place : Front) → Keeps first now asked sent report report_now
-    → report_then ≡ report_now ++ told (asked ∷ []) (x ∷ []) → HasAnswered {M = M} asked x now after (answered.Phased said) place
+pub phases : {G M E Z : Type 0} (first now after : DomainPass) (asked : Ask) (sent : Bool) (report report_now report_then : List (Ask × Answer)) (x : Answer) (said : Next) (place : Front) → Keeps first now asked sent report report_now
+    → report_then ≡ report_now ++ told (asked ∷ []) (x ∷ []) → HasAnswered {G = G} {M = M} {E = E} {Z = Z} asked x now after (answered.Phased said) place
     → (more : List (Ask × Answer)) × (report_then ≡ report ++ more) × IsPhased first after more said place
 phases first now after asked sent report report_now report_then x said place k then_is h =
     let l = h.leaves in

@@ -63,13 +63,13 @@ phase_change n who a mid new r renewed phases others =
     let adds = phase_adds n who mid new leaves.0 leaves.1 others in
     (own whose n leaves.0, if_can_then n who (own whose n leaves.0) a mid new renewed adds.change adds.chapter)
 
-step_change : {M : Type 0} (n : ℕ) (who : Who) (a mid new : Celled) (r : Phasing M) → IsRenewedIfCan n who a mid → GoesOnIn n who mid new r → (more : List (Mark ℕ)) × Changes meaning n more a new
+step_change : {G M E Z : Type 0} (n : ℕ) (who : Who) (a mid new : Celled) (r : Phasing G M E Z) → IsRenewedIfCan n who a mid → GoesOnIn n who mid new r → (more : List (Mark ℕ)) × Changes meaning n more a new
 step_change n who a mid new (phasing.Away t x) renewed h = phase_change n who a mid new (core_look.Away x) renewed h.phases h.others
 step_change n who a mid new (phasing.Phased said) renewed (st, h, leads) = phase_change n who a mid new (core_look.Phased st) renewed h.phases h.others
 step_change n who a mid new phasing.Excluded renewed h = phase_change n who a mid new core_look.Excluded renewed h.phases h.others
 step_change n who a mid new phasing.NoMemory renewed h = phase_change n who a mid new core_look.NoMemory renewed h.phases h.others
 
-pub step_leaves : {M : Type 0} (who : Who) (before : DomainPass) (turn mid now : DomainTurn) (r : Phasing M) → Enters meaning before turn → RenewsAndGoesOn turn.pass.number who turn.value mid.value r → mid ≡ record turn { value = mid.value } → now ≡ mid
+pub step_leaves : {G M E Z : Type 0} (who : Who) (before : DomainPass) (turn mid now : DomainTurn) (r : Phasing G M E Z) → Enters meaning before turn → RenewsAndGoesOn turn.pass.number who turn.value mid.value r → mid ≡ record turn { value = mid.value } → now ≡ mid
     → (more : List (Mark ℕ)) × Changes meaning now.pass.number more now.entry now.value
 step_leaves who before turn mid now r enters (renewed, if_can, goes) same told =
     let value : now.value ≡ mid.value = ap (λ (t : DomainTurn). t.value) told in
@@ -93,7 +93,7 @@ is_left before after turn mid now enters same told legal counted left =
       left = left;
     }
 
-pub stepped_once : {M : Type 0} (who : Who) (o : OpenOperation) (before after : DomainPass) (turn mid now : DomainTurn) (place : Front) (r : Phasing M) → Enters meaning before turn → IsDueFor who o before → RenewsAndGoesOn turn.pass.number who turn.value mid.value r
+pub stepped_once : {G M E Z : Type 0} (who : Who) (o : OpenOperation) (before after : DomainPass) (turn mid now : DomainTurn) (place : Front) (r : Phasing G M E Z) → Enters meaning before turn → IsDueFor who o before → RenewsAndGoesOn turn.pass.number who turn.value mid.value r
     → mid ≡ record turn { value = mid.value } → now ≡ mid → IsLastPlace place mid.value → IsLegalHistory (history_of mid.value) → IsCounted (at_base (cell_in mid.value).base) → after ≡ left_by meaning now → HasStepped who o before after place r
 stepped_once who o before after turn mid now place r enters due (renewed, if_can, goes) same told at legal counted left =
     let value : mid.value ≡ now.value = ap (λ (t : DomainTurn). t.value) (sym told) in

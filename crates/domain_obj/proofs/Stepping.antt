@@ -106,7 +106,7 @@ its_operation n who o p before mid due same is = some_operation p o (sym is ∙ 
 
 -- the phase asks
 
-away_phase : {M : Type 0} (n : ℕ) (who : Who) (o : OpenOperation) (before after : DomainPass) (a mid new : Celled) (t : Ticket M) (x : Ask) (left : List (Mark ℕ)) → IsDueFor who o before → cell_share mid n ≡ before.share → PhasesIn n who mid new (look.Away t x)
+away_phase : {G M E Z : Type 0} (n : ℕ) (who : Who) (o : OpenOperation) (before after : DomainPass) (a mid new : Celled) (t : Ticket G M E Z) (x : Ask) (left : List (Mark ℕ)) → IsDueFor who o before → cell_share mid n ≡ before.share → PhasesIn n who mid new (look.Away t x)
     → HasTurned mid.core.turning new.core.turning (step.Phase n who) left → PhaseLeaves n who (live_in (cell_in mid)) (share_of (cell_in mid) n) (share_of (cell_in new) n) (core_look.Away x) left → PassGoes n before after a new (own whose n left)
     → IsPhaseAway who o before after x (is_some t.monitor)
 away_phase n who o before after a mid new t x left due same h turned (p, was, stays, its) goes =
@@ -141,8 +141,8 @@ away_phase n who o before after a mid new t x left due same h turned (p, was, st
 
 -- the phase is done
 
-done_phase : {M : Type 0} (n : ℕ) (who : Who) (o : OpenOperation) (before after : DomainPass) (a mid new : Celled) (st : Step) (said : Next) (place : Front) (left : List (Mark ℕ)) → IsDueFor who o before → cell_share mid n ≡ before.share
-    → PhasesIn {M = M} n who mid new (look.Phased st) → Leads (standing_in new).operation st said → HasTurned mid.core.turning new.core.turning (step.Phase n who) left
+done_phase : {G M E Z : Type 0} (n : ℕ) (who : Who) (o : OpenOperation) (before after : DomainPass) (a mid new : Celled) (st : Step) (said : Next) (place : Front) (left : List (Mark ℕ)) → IsDueFor who o before → cell_share mid n ≡ before.share
+    → PhasesIn {G = G} {M = M} {E = E} {Z = Z} n who mid new (look.Phased st) → Leads (standing_in new).operation st said → HasTurned mid.core.turning new.core.turning (step.Phase n who) left
     → PhaseLeaves n who (live_in (cell_in mid)) (share_of (cell_in mid) n) (share_of (cell_in new) n) (core_look.Phased st) left → PassGoes n before after a new (own whose n left) → Adds n mid new left → IsLastPlace place new
     → (p : PhaseDone) × IsPhaseDone who o 1 p before after said place × (told p.asks p.answers ≡ [])
 done_phase n who o before after a mid new st said place left due same h leads turned (q, was, phased) goes adds at =
@@ -201,7 +201,7 @@ goes_of who before after turn now mid left l renewed adds =
     let n = turn.pass.number in
     pass_goes before after turn now (own whose n left) l (if_can_then n who (own whose n left) turn.value mid now.value renewed adds.change adds.chapter)
 
-pub stepped : {M : Type 0} (who : Who) (o : OpenOperation) (before after : DomainPass) (turn now : DomainTurn) (mid : Celled) (place : Front) (r : Phasing M) → IsLeft before after turn now → IsDueFor who o before → IsRenewedIfCan turn.pass.number who turn.value mid
+pub stepped : {G M E Z : Type 0} (who : Who) (o : OpenOperation) (before after : DomainPass) (turn now : DomainTurn) (mid : Celled) (place : Front) (r : Phasing G M E Z) → IsLeft before after turn now → IsDueFor who o before → IsRenewedIfCan turn.pass.number who turn.value mid
     → cell_share mid turn.pass.number ≡ before.share → GoesOnIn turn.pass.number who mid now.value r → IsLastPlace place now.value → HasStepped who o before after place r
 stepped who o before after turn now mid place (phasing.Away t x) l due renewed same h at =
     let n = turn.pass.number in

@@ -99,8 +99,8 @@ pub record IsExcludedNow (before after : DomainPass) : Type 0 where
   pub held : IsHeld (standing_after after.seen).job
 
 -- what the turn of a due phase leaves of the pass
-module _ {M : Type 0} where
-  abbrev pub HasStepped : Who → OpenOperation → DomainPass → DomainPass → Front → Phasing M → Type 0
+module _ {G M E Z : Type 0} where
+  abbrev pub HasStepped : Who → OpenOperation → DomainPass → DomainPass → Front → Phasing G M E Z → Type 0
   HasStepped who o before after place (phasing.Away t x) = IsPhaseAway who o before after x (is_some t.monitor)
   HasStepped who o before after place (phasing.Phased said) = (p : PhaseDone) × IsPhaseDone who o 1 p before after said place × (told p.asks p.answers ≡ [])
   HasStepped who o before after place phasing.Excluded = IsExcludedNow before after

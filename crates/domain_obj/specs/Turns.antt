@@ -34,33 +34,33 @@ abbrev pub BackWaits : CoreBack → Option OpenCall → Type 0
 BackWaits (core_back.Away x) call = AwaitsAnswer call
 BackWaits other call = Unit {0}
 
-module _ {M : Type 0} where
+module _ {G M E Z : Type 0} where
   -- the same without tickets, and without what the caller of an operation is told that rests
-  abbrev pub answered_of : Answered M → CoreBack
+  abbrev pub answered_of : Answered G M E Z → CoreBack
   answered_of (answered.Done r) = core_back.Done r
   answered_of (answered.Away t x) = core_back.Away x
   answered_of (answered.Phased said) = core_back.Phased (step_of said)
 
   -- the ticket that goes out
-  abbrev pub answered_ticket : Answered M → Option (Ticket M)
+  abbrev pub answered_ticket : Answered G M E Z → Option (Ticket G M E Z)
   answered_ticket (answered.Away t x) = Some t
   answered_ticket other = None
 
   -- what became of a call, or a phase, is told so, over the operation as it is
-  abbrev pub TellsBack : Option OpenOperation → Back M → Answered M → Type 0
+  abbrev pub TellsBack : Option OpenOperation → Back G M E Z → Answered G M E Z → Type 0
   TellsBack o (back.Done r) (answered.Done said) = said ≡ r
   TellsBack o (back.Away t x) (answered.Away ticket asked) = (ticket ≡ t) × (asked ≡ x)
   TellsBack o (back.Phased st) (answered.Phased said) = Leads o st said
   TellsBack o other said = ⊥
 
   -- a call that is done was no phase; and of a phase that is done is told what the Phase among these marks led to
-  abbrev pub IsClosedSo : ℕ → OpenCall → List (Mark ℕ) → Answered M → Type 0
+  abbrev pub IsClosedSo : ℕ → OpenCall → List (Mark ℕ) → Answered G M E Z → Type 0
   IsClosedSo n call left (answered.Done r) = call.job.job ≡ job.Nested → ⊥
   IsClosedSo n call left (answered.Away t x) = Unit {0}
   IsClosedSo n call left (answered.Phased said) = (next : Outcome) × HasLedTo n next left × IsTold next said
 
   -- a pass took one turn, in which its open call, which had asked this last, was answered so
-  pub record HasAnswered (asked : Ask) (x : Answer) (before after : DomainPass) (result : Answered M) (place : Front) : Type 0 where
+  pub record HasAnswered (asked : Ask) (x : Answer) (before after : DomainPass) (result : Answered G M E Z) (place : Front) : Type 0 where
     pub old : Celled
     pub new : Celled
     pub left : List (Mark ℕ)

@@ -7,7 +7,7 @@ use crate::calls::{Answered, answer_once};
 use crate::next::Next;
 use crate::turns::DomainPass;
 use domain_core::{DomainCell, Ticket};
-use monitor_link::{Ears, Killer, Monitor};
+use monitor_link::Guests;
 use std::alloc::Global;
 use std::sync::Wait;
 use turn_cell::TurnCell;
@@ -26,15 +26,15 @@ pub enum Finished {
 
 /// Asks until the call, or the phase, is done that the pass has open: each ask goes to the desk while the pass has no turn,
 /// and each answer comes in a turn of its own.
-pub fn finish<M: Monitor + Drop, E: Ears + Drop, Z: Killer + Drop, D: Desk<M, E, Z>, R: Wait>(
+pub fn finish<G: Guests, D: Desk<G>, R: Wait>(
     rt: &R,
-    cell: &TurnCell<DomainCell<M, E, Z>>,
+    cell: &TurnCell<DomainCell<G>>,
     alloc: Global,
-    pass: DomainPass<M, E, Z>,
-    ticket: Ticket<M>,
+    pass: DomainPass<G>,
+    ticket: Ticket<G>,
     asked: Ask,
     desk: &mut D,
-) -> (DomainPass<M, E, Z>, Finished)
+) -> (DomainPass<G>, Finished)
     requires own { pass.cell ≡ cell.now }
     requires away { IsAway pass asked (is_some ticket.monitor) }
     ensures { HasFinished pass result.0 (D.report desk.old) (D.report desk.new) result.1 }

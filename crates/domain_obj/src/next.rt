@@ -5,7 +5,7 @@ ghost use Rattle.domain_core.specs.Celled.{standing_in};
 
 use crate::turns::DomainTurn;
 use domain_core::Step;
-use monitor_link::{Ears, Killer, Monitor};
+use monitor_link::Guests;
 use std::alloc::Global;
 use virt_types::Reply;
 
@@ -22,11 +22,7 @@ pub enum Next {
 }
 
 /// What a phase led to that was done in this turn; where the operation rests, with what its call is told.
-pub fn next_in<M: Monitor + Drop, E: Ears + Drop, Z: Killer + Drop>(
-    turn: &mut DomainTurn<M, E, Z>,
-    alloc: Global,
-    step: Step,
-) -> Next
+pub fn next_in<G: Guests>(turn: &mut DomainTurn<G>, alloc: Global, step: Step) -> Next
     ensures next { Leads (standing_in turn.old.value).operation step result }
     ensures same { turn.new ≡ turn.old }
 {

@@ -9,7 +9,7 @@ use crate::scene::Scene;
 use crate::stories::Step;
 use crate::words::{hushed_word, is_full, put_info, put_reply, state_of};
 use domain_obj::{Desk, DomainObj, DomainPass, Queried};
-use monitor_link::{Ears, Killer, Monitor};
+use monitor_link::Guests;
 use std::sync::Wait;
 use story_guests::{MOST_RESTS, Signal};
 use virt_types::{Reply, Who};
@@ -42,16 +42,16 @@ fn put_called<H>(scene: &Scene<H>, row: &mut Row, asked: Asked, reply: &Reply) {
 }
 
 // A call, which the desk may hold before a phase.
-fn call_once<M: Monitor + Drop, E: Ears + Drop, Z: Killer + Drop, D: Desk<M, E, Z>, H: Wait>(
+fn call_once<G: Guests, D: Desk<G>, H: Wait>(
     scene: &Scene<H>,
-    obj: &DomainObj<M, E, Z>,
-    pass: DomainPass<M, E, Z>,
+    obj: &DomainObj<G>,
+    pass: DomainPass<G>,
     desk: &mut HoldingDesk<H, D>,
     who: Who,
     asked: Asked,
     held_before: Option<u64>,
     row: &mut Row,
-) -> DomainPass<M, E, Z>
+) -> DomainPass<G>
     requires { IsPartOf obj.now pass }
     ensures { IsPartOf obj.now result }
 {
@@ -66,11 +66,11 @@ fn call_once<M: Monitor + Drop, E: Ears + Drop, Z: Killer + Drop, D: Desk<M, E, 
 }
 
 // Reads the state.
-fn read_once<M: Monitor + Drop, E: Ears + Drop, Z: Killer + Drop, H: Wait>(
+fn read_once<G: Guests, H: Wait>(
     scene: &Scene<H>,
-    obj: &DomainObj<M, E, Z>,
-    pass: DomainPass<M, E, Z>,
-) -> (DomainPass<M, E, Z>, Queried)
+    obj: &DomainObj<G>,
+    pass: DomainPass<G>,
+) -> (DomainPass<G>, Queried)
     requires { IsPartOf obj.now pass }
     ensures { IsPartOf obj.now result.0 }
 {
@@ -78,12 +78,12 @@ fn read_once<M: Monitor + Drop, E: Ears + Drop, Z: Killer + Drop, H: Wait>(
 }
 
 // Hears the guest.
-fn hear_all<M: Monitor + Drop, E: Ears + Drop, Z: Killer + Drop, H: Wait>(
+fn hear_all<G: Guests, H: Wait>(
     scene: &Scene<H>,
-    obj: &DomainObj<M, E, Z>,
-    pass: DomainPass<M, E, Z>,
+    obj: &DomainObj<G>,
+    pass: DomainPass<G>,
     row: &mut Row,
-) -> DomainPass<M, E, Z>
+) -> DomainPass<G>
     requires { IsPartOf obj.now pass }
     ensures { IsPartOf obj.now result }
 {
@@ -95,13 +95,13 @@ fn hear_all<M: Monitor + Drop, E: Ears + Drop, Z: Killer + Drop, H: Wait>(
 }
 
 // Reads the state until a signal, and writes it each time that it is another one than before.
-fn watch<M: Monitor + Drop, E: Ears + Drop, Z: Killer + Drop, H: Wait>(
+fn watch<G: Guests, H: Wait>(
     scene: &Scene<H>,
-    obj: &DomainObj<M, E, Z>,
-    pass: DomainPass<M, E, Z>,
+    obj: &DomainObj<G>,
+    pass: DomainPass<G>,
     until: Signal,
     row: &mut Row,
-) -> DomainPass<M, E, Z>
+) -> DomainPass<G>
     requires { IsPartOf obj.now pass }
     ensures { IsPartOf obj.now result }
 {
@@ -124,15 +124,15 @@ fn watch<M: Monitor + Drop, E: Ears + Drop, Z: Killer + Drop, H: Wait>(
 }
 
 // One step.
-fn take_step<M: Monitor + Drop, E: Ears + Drop, Z: Killer + Drop, D: Desk<M, E, Z>, H: Wait>(
+fn take_step<G: Guests, D: Desk<G>, H: Wait>(
     scene: &Scene<H>,
-    obj: &DomainObj<M, E, Z>,
-    pass: DomainPass<M, E, Z>,
+    obj: &DomainObj<G>,
+    pass: DomainPass<G>,
     desk: &mut HoldingDesk<H, D>,
     who: Who,
     step: Step,
     row: &mut Row,
-) -> DomainPass<M, E, Z>
+) -> DomainPass<G>
     requires { IsPartOf obj.now pass }
     ensures { IsPartOf obj.now result }
 {
@@ -160,17 +160,11 @@ fn take_step<M: Monitor + Drop, E: Ears + Drop, Z: Killer + Drop, D: Desk<M, E, 
 }
 
 /// All steps, one after the other.
-pub(crate) fn act<
-    M: Monitor + Drop,
-    E: Ears + Drop,
-    Z: Killer + Drop,
-    D: Desk<M, E, Z> + Drop,
-    H: Wait + Copy,
->(
+pub(crate) fn act<G: Guests, D: Desk<G> + Drop, H: Wait + Copy>(
     scene: &Scene<H>,
-    obj: &DomainObj<M, E, Z>,
-    actor: Actor<DomainPass<M, E, Z>, HoldingDesk<H, D>>,
-) -> Acted<DomainPass<M, E, Z>>
+    obj: &DomainObj<G>,
+    actor: Actor<DomainPass<G>, HoldingDesk<H, D>>,
+) -> Acted<DomainPass<G>>
     requires { IsPartOf obj.now actor.pass }
     ensures { IsPartOf obj.now result.pass }
 {

@@ -5,7 +5,7 @@ ghost use Rattle.domain_spec.specs.Call.{begins, takes_up};
 ghost use Rattle.domain_stories.specs.Free.{IsFree, Stays};
 
 use domain_obj::{Desk, DomainObj, DomainPass, Hushed, Queried, takes_up};
-use monitor_link::{Ears, Killer, Monitor};
+use monitor_link::Guests;
 use std::alloc::Global;
 use std::sync::Wait;
 use virt_types::{Call, Query, Reply, Who};
@@ -29,15 +29,15 @@ fn does_begin(call: &Call) -> bool
 }
 
 // A call that begins an operation or takes one up.
-fn operate<M: Monitor + Drop, E: Ears + Drop, Z: Killer + Drop, D: Desk<M, E, Z>, R: Wait>(
+fn operate<G: Guests, D: Desk<G>, R: Wait>(
     rt: &R,
     alloc: Global,
-    obj: &DomainObj<M, E, Z>,
-    pass: DomainPass<M, E, Z>,
+    obj: &DomainObj<G>,
+    pass: DomainPass<G>,
     who: Who,
     call: &Call,
     desk: &mut D,
-) -> (DomainPass<M, E, Z>, Reply)
+) -> (DomainPass<G>, Reply)
     requires own { pass.cell ≡ obj.now }
     requires free { IsFree pass }
     requires operates { Operates call.now }
@@ -48,15 +48,15 @@ fn operate<M: Monitor + Drop, E: Ears + Drop, Z: Killer + Drop, D: Desk<M, E, Z>
 }
 
 // Another call.
-fn run<M: Monitor + Drop, E: Ears + Drop, Z: Killer + Drop, D: Desk<M, E, Z>, R: Wait>(
+fn run<G: Guests, D: Desk<G>, R: Wait>(
     rt: &R,
     alloc: Global,
-    obj: &DomainObj<M, E, Z>,
-    pass: DomainPass<M, E, Z>,
+    obj: &DomainObj<G>,
+    pass: DomainPass<G>,
     who: Who,
     call: &Call,
     desk: &mut D,
-) -> (DomainPass<M, E, Z>, Reply)
+) -> (DomainPass<G>, Reply)
     requires own { pass.cell ≡ obj.now }
     requires free { IsFree pass }
     requires begins { begins call.now ≡ None }
@@ -68,21 +68,15 @@ fn run<M: Monitor + Drop, E: Ears + Drop, Z: Killer + Drop, D: Desk<M, E, Z>, R:
 }
 
 /// A call to its end, whichever it is.
-pub(crate) fn do_call<
-    M: Monitor + Drop,
-    E: Ears + Drop,
-    Z: Killer + Drop,
-    D: Desk<M, E, Z>,
-    R: Wait,
->(
+pub(crate) fn do_call<G: Guests, D: Desk<G>, R: Wait>(
     rt: &R,
     alloc: Global,
-    obj: &DomainObj<M, E, Z>,
-    pass: DomainPass<M, E, Z>,
+    obj: &DomainObj<G>,
+    pass: DomainPass<G>,
     who: Who,
     call: &Call,
     desk: &mut D,
-) -> (DomainPass<M, E, Z>, Reply)
+) -> (DomainPass<G>, Reply)
     requires own { pass.cell ≡ obj.now }
     requires free { IsFree pass }
     ensures { Stays pass result.0 }
@@ -97,12 +91,12 @@ pub(crate) fn do_call<
 }
 
 /// What the domain has is read.
-pub(crate) fn read_info<M: Monitor + Drop, E: Ears + Drop, Z: Killer + Drop, R: Wait>(
+pub(crate) fn read_info<G: Guests, R: Wait>(
     rt: &R,
     alloc: Global,
-    obj: &DomainObj<M, E, Z>,
-    pass: DomainPass<M, E, Z>,
-) -> (DomainPass<M, E, Z>, Queried)
+    obj: &DomainObj<G>,
+    pass: DomainPass<G>,
+) -> (DomainPass<G>, Queried)
     requires own { pass.cell ≡ obj.now }
     requires free { IsFree pass }
     ensures { Stays pass result.0 }
@@ -111,12 +105,12 @@ pub(crate) fn read_info<M: Monitor + Drop, E: Ears + Drop, Z: Killer + Drop, R: 
 }
 
 /// The guest is heard.
-pub(crate) fn hear<M: Monitor + Drop, E: Ears + Drop, Z: Killer + Drop, R: Wait>(
+pub(crate) fn hear<G: Guests, R: Wait>(
     rt: &R,
     alloc: Global,
-    obj: &DomainObj<M, E, Z>,
-    pass: DomainPass<M, E, Z>,
-) -> (DomainPass<M, E, Z>, Hushed)
+    obj: &DomainObj<G>,
+    pass: DomainPass<G>,
+) -> (DomainPass<G>, Hushed)
     requires own { pass.cell ≡ obj.now }
     requires free { IsFree pass }
     ensures { Stays pass result.0 }

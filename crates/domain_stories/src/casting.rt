@@ -8,7 +8,7 @@ use crate::passes::{cut_off, join};
 use crate::row::Row;
 use crate::stories::Step;
 use domain_obj::{Chronicle, DomainObj, DomainPass};
-use monitor_link::{Ears, Killer, Monitor};
+use monitor_link::Guests;
 use std::alloc::Global;
 use std::sync::Wait;
 use virt_types::NoMemory;
@@ -31,11 +31,11 @@ pub(crate) struct Home<P> {
 }
 
 // A pass is cut off for a part.
-fn cast_one<M: Monitor + Drop, E: Ears + Drop, Z: Killer + Drop, D: Drop>(
-    obj: &DomainObj<M, E, Z>,
-    home: Home<DomainPass<M, E, Z>>,
+fn cast_one<G: Guests, D: Drop>(
+    obj: &DomainObj<G>,
+    home: Home<DomainPass<G>>,
     part: Role<D>,
-) -> (Home<DomainPass<M, E, Z>>, Actor<DomainPass<M, E, Z>, D>)
+) -> (Home<DomainPass<G>>, Actor<DomainPass<G>, D>)
     requires home { IsHome obj.now home.pass home.out }
     requires few { home.out < 100 }
     ensures home { IsHome obj.now result.0.pass result.0.out }
@@ -59,18 +59,12 @@ fn cast_one<M: Monitor + Drop, E: Ears + Drop, Z: Killer + Drop, D: Drop>(
 }
 
 /// Each part gets a pass; those past the hundredth get none.
-pub(crate) fn cast<M: Monitor + Drop, E: Ears + Drop, Z: Killer + Drop, D: Drop>(
+pub(crate) fn cast<G: Guests, D: Drop>(
     alloc: Global,
-    obj: &DomainObj<M, E, Z>,
-    home: Home<DomainPass<M, E, Z>>,
+    obj: &DomainObj<G>,
+    home: Home<DomainPass<G>>,
     parts: Vec<Role<D>>,
-) -> Result<
-    (
-        Home<DomainPass<M, E, Z>>,
-        Vec<Actor<DomainPass<M, E, Z>, D>>,
-    ),
-    NoMemory,
->
+) -> Result<(Home<DomainPass<G>>, Vec<Actor<DomainPass<G>, D>>), NoMemory>
     requires { IsHome obj.now home.pass home.out }
     ensures home { IfOk result (λ r. IsHome obj.now r.0.pass r.0.out) }
     ensures actors { IfOk result (λ r. All (λ actor. IsPartOf obj.now actor.pass) r.1.items) }
@@ -89,12 +83,12 @@ pub(crate) fn cast<M: Monitor + Drop, E: Ears + Drop, Z: Killer + Drop, D: Drop>
 }
 
 // A pass comes back, if a ticket is left for it.
-fn come_back<M: Monitor + Drop, E: Ears + Drop, Z: Killer + Drop, H: Wait>(
+fn come_back<G: Guests, H: Wait>(
     rt: &H,
-    obj: &DomainObj<M, E, Z>,
-    home: Home<DomainPass<M, E, Z>>,
-    pass: DomainPass<M, E, Z>,
-) -> Home<DomainPass<M, E, Z>>
+    obj: &DomainObj<G>,
+    home: Home<DomainPass<G>>,
+    pass: DomainPass<G>,
+) -> Home<DomainPass<G>>
     requires home { IsHome obj.now home.pass home.out }
     requires part { IsPartOf obj.now pass }
     ensures { IsHome obj.now result.pass result.out }
@@ -110,13 +104,13 @@ fn come_back<M: Monitor + Drop, E: Ears + Drop, Z: Killer + Drop, H: Wait>(
 }
 
 /// All passes come back, and what was told is gathered, that of the last first.
-pub(crate) fn gather<M: Monitor + Drop, E: Ears + Drop, Z: Killer + Drop, H: Wait>(
+pub(crate) fn gather<G: Guests, H: Wait>(
     rt: &H,
     alloc: Global,
-    obj: &DomainObj<M, E, Z>,
-    home: Home<DomainPass<M, E, Z>>,
-    all: Vec<Acted<DomainPass<M, E, Z>>>,
-) -> Result<(Home<DomainPass<M, E, Z>>, Vec<Row>), NoMemory>
+    obj: &DomainObj<G>,
+    home: Home<DomainPass<G>>,
+    all: Vec<Acted<DomainPass<G>>>,
+) -> Result<(Home<DomainPass<G>>, Vec<Row>), NoMemory>
     requires home { IsHome obj.now home.pass home.out }
     requires acted { All (λ one. IsPartOf obj.now one.pass) all.items }
     ensures { IfOk result (λ r. IsHome obj.now r.0.pass r.0.out) }
@@ -133,9 +127,9 @@ pub(crate) fn gather<M: Monitor + Drop, E: Ears + Drop, Z: Killer + Drop, H: Wai
 }
 
 /// The history of a domain to which all passes came back.
-pub(crate) fn history_of<M: Monitor + Drop, E: Ears + Drop, Z: Killer + Drop>(
-    obj: DomainObj<M, E, Z>,
-    home: Home<DomainPass<M, E, Z>>,
+pub(crate) fn history_of<G: Guests>(
+    obj: DomainObj<G>,
+    home: Home<DomainPass<G>>,
 ) -> Option<Chronicle>
     requires { IsHome obj home.pass home.out }
 {

@@ -2,7 +2,7 @@
 ghost use Rattle.std.specs.Prelude.{◌≡◌, [], ◌∷◌, ◌++◌, is_some};
 
 use domain_obj::{Desk, DomainPass, Ticket};
-use monitor_link::{Ears, Killer, Link, Monitor};
+use monitor_link::{Guests, Link};
 use std::sync::Wait;
 use story_guests::{SharedSignals, Signal};
 use virt_types::{Answer, Ask};
@@ -36,20 +36,19 @@ impl<H, D> HoldingDesk<H, D> {
     }
 }
 
-impl<H: Wait, M: Monitor + Drop, E: Ears + Drop, Z: Killer + Drop, D: Desk<M, E, Z>> Desk<M, E, Z>
-    for HoldingDesk<H, D> {
+impl<H: Wait, G: Guests, D: Desk<G>> Desk<G> for HoldingDesk<H, D> {
     ghost report = { λ d. D.report d.desk };
 
     fn ask(
         &mut self,
-        pass: &DomainPass<M, E, Z>,
-        ticket: &mut Ticket<M>,
+        pass: &DomainPass<G>,
+        ticket: &mut Ticket<G>,
         asked: &Ask,
-    ) -> (Answer, Option<Link<M, E, Z>>) {
+    ) -> (Answer, Option<Link<G>>) {
         self.desk.ask(pass, ticket, asked)
     }
 
-    fn between(&mut self, pass: &DomainPass<M, E, Z>) {
+    fn between(&mut self, pass: &DomainPass<G>) {
         self.phases = self.phases.saturating_add(1);
         if self.held_before == Some(self.phases) {
             self.signals.hold(&self.rt, Signal::Free);

@@ -9,7 +9,6 @@ mod casting;
 mod counting;
 mod definition;
 mod desk;
-mod maker;
 mod passes;
 mod plain_desk;
 mod report;

@@ -3,17 +3,17 @@ ghost use Rattle.std.specs.Prelude.{◌≡◌, ◌+◌, ◌-◌, ◌^◌, ◌<�
 ghost use Rattle.domain_stories.specs.Free.{IsFree};
 
 use domain_obj::{DomainObj, DomainPass};
-use monitor_link::{Ears, Killer, Monitor};
+use monitor_link::Guests;
 use std::alloc::Global;
 use std::sync::Wait;
 use virt_types::{DomainDef, NoMemory};
 
 /// A domain that is defined so and shut off, whose first turn has this ticket, and its first pass.
-pub(crate) fn first_pass<M: Monitor + Drop, E: Ears + Drop, Z: Killer + Drop>(
+pub(crate) fn first_pass<G: Guests>(
     alloc: Global,
     stored: DomainDef,
     first_ticket: u64,
-) -> Result<(DomainObj<M, E, Z>, DomainPass<M, E, Z>), NoMemory>
+) -> Result<(DomainObj<G>, DomainPass<G>), NoMemory>
     requires { first_ticket ≤ 2 ^ 62 }
     ensures cell { IfOk result (λ made. made.1.cell ≡ made.0) }
     ensures parts { IfOk result (λ made. made.1.parts ≡ 2 ^ 62) }
@@ -23,10 +23,10 @@ pub(crate) fn first_pass<M: Monitor + Drop, E: Ears + Drop, Z: Killer + Drop>(
 }
 
 /// Cuts a pass off.
-pub(crate) fn cut_off<M: Monitor + Drop, E: Ears + Drop, Z: Killer + Drop>(
-    obj: &DomainObj<M, E, Z>,
-    pass: DomainPass<M, E, Z>,
-) -> (DomainPass<M, E, Z>, DomainPass<M, E, Z>)
+pub(crate) fn cut_off<G: Guests>(
+    obj: &DomainObj<G>,
+    pass: DomainPass<G>,
+) -> (DomainPass<G>, DomainPass<G>)
     requires own { pass.cell ≡ obj.now }
     requires parts { 1 < pass.parts }
     requires free { IsFree pass }
@@ -42,12 +42,12 @@ pub(crate) fn cut_off<M: Monitor + Drop, E: Ears + Drop, Z: Killer + Drop>(
 
 /// A pass joins another one again, in a turn of its own. Where no ticket is left for that, the other one comes back as it was,
 /// as the error.
-pub(crate) fn join<M: Monitor + Drop, E: Ears + Drop, Z: Killer + Drop, R: Wait>(
+pub(crate) fn join<G: Guests, R: Wait>(
     rt: &R,
-    obj: &DomainObj<M, E, Z>,
-    one: DomainPass<M, E, Z>,
-    other: DomainPass<M, E, Z>,
-) -> Result<DomainPass<M, E, Z>, DomainPass<M, E, Z>>
+    obj: &DomainObj<G>,
+    one: DomainPass<G>,
+    other: DomainPass<G>,
+) -> Result<DomainPass<G>, DomainPass<G>>
     requires own { one.cell ≡ obj.now }
     requires other_own { other.cell ≡ obj.now }
     requires free { IsFree one }

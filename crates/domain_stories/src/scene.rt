@@ -4,34 +4,26 @@ ghost use Rattle.domain_stories.specs.Free.{IsFree};
 
 use crate::definition::definition;
 use crate::desk::HoldingDesk;
-use crate::maker::MakerOf;
 use crate::passes::first_pass;
 use crate::plain_desk::PlainDesk;
 use domain_obj::{DomainObj, DomainPass};
-use guest_model::{SimEars, SimGuests, SimKiller, SimMonitor};
+use guest_model::SimGuests;
 use std::alloc::Global;
 use std::sync::{Arc, Wait};
-use story_guests::{
-    Manner, SharedSignals, Signals, StoryEars, StoryGuests, StoryKiller, StoryMonitor,
-};
+use story_guests::{Manner, SharedSignals, Signals, StoryGuests};
 use virt_types::NoMemory;
 
+/// What makes the guests of a story.
+pub(crate) type SceneGuests<H> = StoryGuests<H, SimGuests<H>>;
+
 /// A domain of a story.
-pub(crate) type StoryObj<H> = DomainObj<
-    StoryMonitor<H, SimMonitor<H>>,
-    StoryEars<SimEars<H>>,
-    StoryKiller<SimKiller<H>>,
->;
+pub(crate) type StoryObj<H> = DomainObj<SceneGuests<H>>;
 
 /// A pass of it.
-pub(crate) type StoryPass<H> = DomainPass<
-    StoryMonitor<H, SimMonitor<H>>,
-    StoryEars<SimEars<H>>,
-    StoryKiller<SimKiller<H>>,
->;
+pub(crate) type StoryPass<H> = DomainPass<SceneGuests<H>>;
 
 /// A desk of its guests.
-pub(crate) type StoryDesk<H> = HoldingDesk<H, PlainDesk<MakerOf<StoryGuests<H, SimGuests<H>>>>>;
+pub(crate) type StoryDesk<H> = HoldingDesk<H, PlainDesk<SceneGuests<H>>>;
 
 /// What is the same for all threads of a story.
 #[derive(Drop)]
@@ -62,7 +54,7 @@ impl<H: Wait + Copy + Send + Sync> Scene<H> {
         let for_guests = Arc::try_clone(&self.signals)?;
         let guests = SimGuests::new(self.rt, self.alloc);
         let guests = StoryGuests::new(self.rt, guests, for_guests, self.manner);
-        Ok(HoldingDesk::new(self.rt, signals, PlainDesk::new(MakerOf { guests })))
+        Ok(HoldingDesk::new(self.rt, signals, PlainDesk::new(guests)))
     }
 
     /// A domain, whose first turn has this ticket, and its first pass.

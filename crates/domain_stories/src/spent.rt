@@ -8,7 +8,7 @@ use crate::rows::put_end;
 use crate::scene::Scene;
 use crate::words::{put_info, put_reply};
 use domain_obj::{Desk, DomainObj, DomainPass};
-use monitor_link::{Ears, Killer, Monitor};
+use monitor_link::Guests;
 use std::alloc::Global;
 use std::sync::Wait;
 use story_guests::Manner;
@@ -25,11 +25,11 @@ const WHO: Who = Who {
 };
 
 // The state is read, and then the guest is to be suspended.
-fn spend<M: Monitor + Drop, E: Ears + Drop, Z: Killer + Drop, D: Desk<M, E, Z>, R: Wait>(
+fn spend<G: Guests, D: Desk<G>, R: Wait>(
     rt: &R,
     alloc: Global,
-    obj: DomainObj<M, E, Z>,
-    pass: DomainPass<M, E, Z>,
+    obj: DomainObj<G>,
+    pass: DomainPass<G>,
     desk: &mut D,
 ) -> Result<String, NoMemory>
     requires own { pass.cell ≡ obj }

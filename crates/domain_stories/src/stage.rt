@@ -6,13 +6,12 @@ ghost use Rattle.domain_stories.specs.Free.{IsPartOf};
 use crate::acting::{Acted, Actor, act};
 use crate::casting::{Home, Role, cast, gather, history_of};
 use crate::desk::HoldingDesk;
-use crate::maker::MakerOf;
 use crate::plain_desk::PlainDesk;
 use crate::row::Row;
 use crate::scene::{Scene, StoryDesk};
 use crate::stories::Part;
 use domain_obj::{Chronicle, Desk, DomainObj, DomainPass};
-use monitor_link::{Ears, Guests, Killer, Monitor};
+use domain_threads::ThreadGuests;
 use std::alloc::{AllocError, Global};
 use std::sync::Wait;
 use std::thread::{Threads, map_vec};
@@ -26,24 +25,18 @@ pub(crate) struct Played {
 }
 
 // All act, each in a thread of its own.
-fn act_all<
-    M: Monitor + Drop + Send,
-    E: Ears + Drop + Send,
-    Z: Killer + Drop + Send,
-    D: Desk<M, E, Z> + Drop + Send,
-    H: Threads + Wait + Copy + Send + Sync,
->(
+fn act_all<G: ThreadGuests, D: Desk<G> + Drop + Send, H: Threads + Wait + Copy + Send + Sync>(
     scene: &Scene<H>,
-    obj: &DomainObj<M, E, Z>,
-    actors: Vec<Actor<DomainPass<M, E, Z>, HoldingDesk<H, D>>>,
-) -> Result<Vec<Acted<DomainPass<M, E, Z>>>, AllocError>
+    obj: &DomainObj<G>,
+    actors: Vec<Actor<DomainPass<G>, HoldingDesk<H, D>>>,
+) -> Result<Vec<Acted<DomainPass<G>>>, AllocError>
     requires { All (λ actor. IsPartOf obj.now actor.pass) actors.items }
     ensures { IfOk result (λ all. All (λ one. IsPartOf obj.now one.pass) all.items) }
 {
     map_vec(
         &scene.rt,
         actors,
-        &|actor: Actor<DomainPass<M, E, Z>, HoldingDesk<H, D>>| -> Acted<DomainPass<M, E, Z>>
+        &|actor: Actor<DomainPass<G>, HoldingDesk<H, D>>| -> Acted<DomainPass<G>>
             requires { IsPartOf obj.now actor.pass }
             ensures { IsPartOf obj.entry.now result.pass }
         { act(scene, obj, actor) },
@@ -51,16 +44,10 @@ fn act_all<
 }
 
 // All parts are played, each in a thread, and what was told is in their order.
-fn play_on<
-    M: Monitor + Drop + Send,
-    E: Ears + Drop + Send,
-    Z: Killer + Drop + Send,
-    D: Desk<M, E, Z> + Drop + Send,
-    H: Threads + Wait + Copy + Send + Sync,
->(
+fn play_on<G: ThreadGuests, D: Desk<G> + Drop + Send, H: Threads + Wait + Copy + Send + Sync>(
     scene: &Scene<H>,
-    obj: DomainObj<M, E, Z>,
-    home: Home<DomainPass<M, E, Z>>,
+    obj: DomainObj<G>,
+    home: Home<DomainPass<G>>,
     parts: Vec<Role<HoldingDesk<H, D>>>,
 ) -> Result<Played, NoMemory>
     requires { IsHome obj home.pass home.out }
@@ -74,11 +61,11 @@ fn play_on<
 }
 
 // The same with plain desks behind those that hold calls, for such guests.
-fn play_for<G: Guests + Drop + Send, H: Threads + Wait + Copy + Send + Sync>(
+fn play_for<G: ThreadGuests + Drop + Send, H: Threads + Wait + Copy + Send + Sync>(
     scene: &Scene<H>,
-    obj: DomainObj<G::M, G::E, G::Z>,
-    home: Home<DomainPass<G::M, G::E, G::Z>>,
-    parts: Vec<Role<HoldingDesk<H, PlainDesk<MakerOf<G>>>>>,
+    obj: DomainObj<G>,
+    home: Home<DomainPass<G>>,
+    parts: Vec<Role<HoldingDesk<H, PlainDesk<G>>>>,
 ) -> Result<Played, NoMemory>
     requires { IsHome obj home.pass home.out }
 {

@@ -8,7 +8,7 @@ use crate::{DomainTurn, end_long_chapter, give_up_in};
 use domain_core::{OperationLook, takes_up};
 use history_spec::Stamp;
 use job_rules::JobRecord;
-use monitor_link::{Ears, Killer, Monitor};
+use monitor_link::Guests;
 use std::alloc::Global;
 use virt_types::{Call, Reply, Who};
 
@@ -31,8 +31,8 @@ pub enum Entry {
 
 // A call looks whether its operation may begin, under this number.
 #[tactic(auto, using(domain_core::proofs::Shares::free_begin))]
-fn begin_as<M: Monitor + Drop, E: Ears + Drop, Z: Killer + Drop>(
-    turn: &mut DomainTurn<M, E, Z>,
+fn begin_as<G: Guests>(
+    turn: &mut DomainTurn<G>,
     alloc: Global,
     who: Who,
     call: &Call,
@@ -49,8 +49,8 @@ fn begin_as<M: Monitor + Drop, E: Ears + Drop, Z: Killer + Drop>(
 
 // A call looks whether it may take an operation up, under this number.
 #[tactic(auto, using(domain_core::proofs::Shares::free_take_up))]
-fn take_up_as<M: Monitor + Drop, E: Ears + Drop, Z: Killer + Drop>(
-    turn: &mut DomainTurn<M, E, Z>,
+fn take_up_as<G: Guests>(
+    turn: &mut DomainTurn<G>,
     alloc: Global,
     who: Who,
     call: &Call,
@@ -66,8 +66,8 @@ fn take_up_as<M: Monitor + Drop, E: Ears + Drop, Z: Killer + Drop>(
 }
 
 // A call looks whether its operation may begin, or be taken up, under the number of the pass that has the turn.
-fn look_for<M: Monitor + Drop, E: Ears + Drop, Z: Killer + Drop>(
-    turn: &mut DomainTurn<M, E, Z>,
+fn look_for<G: Guests>(
+    turn: &mut DomainTurn<G>,
     alloc: Global,
     who: Who,
     call: &Call,
@@ -84,8 +84,8 @@ fn look_for<M: Monitor + Drop, E: Ears + Drop, Z: Killer + Drop>(
 }
 
 // It looks, and where it is excluded, and both its turns, with this one, and its looks are enough, gives up.
-fn enter_or_give_up<M: Monitor + Drop, E: Ears + Drop, Z: Killer + Drop>(
-    turn: &mut DomainTurn<M, E, Z>,
+fn enter_or_give_up<G: Guests>(
+    turn: &mut DomainTurn<G>,
     alloc: Global,
     who: Who,
     call: &Call,
@@ -117,8 +117,8 @@ fn enter_or_give_up<M: Monitor + Drop, E: Ears + Drop, Z: Killer + Drop>(
 
 /// A long chapter ends, and then the call looks whether its operation may begin, or be taken up; where it is excluded it
 /// gives up, if both its turns, with this one, and its looks are enough.
-pub fn enter_in<M: Monitor + Drop, E: Ears + Drop, Z: Killer + Drop>(
-    turn: &mut DomainTurn<M, E, Z>,
+pub fn enter_in<G: Guests>(
+    turn: &mut DomainTurn<G>,
     alloc: Global,
     who: Who,
     call: &Call,
