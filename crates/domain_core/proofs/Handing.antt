@@ -1,5 +1,5 @@
 -- What the parts of a turn leave of the link, joined.
-use Rattle.std.proofs.Common.{◌≡◌, ◌≢◌, ℕ, List, [], IfOk, OnErr, OnOk, Result, Ok, Err, is_some, Bool, true, false, Option, None, Some, refl, sym, ap, ◌∙◌, subst}
+use Rattle.std.proofs.Common.{◌≡◌, ◌≢◌, ℕ, List, [], IfOk, OnErr, OnOk, Result, Ok, Err, is_some, Bool, true, false, Option, None, Some, refl, sym, ap, ◌∙◌, subst, inl, inr}
 use Rattle.domain_spec.specs.Types.{Answer, Ask, Call, Who}
 use Rattle.domain_spec.specs.Types.ask
 use Rattle.domain_spec.specs.declared.core_step.CoreStep.{CoreStep}
@@ -9,7 +9,7 @@ use Rattle.domain_spec.specs.declared.mark.Mark.{Mark}
 use Rattle.domain_spec.specs.declared.standing.Standing.{Standing}
 use Rattle.domain_spec.specs.Asks.{is_ended_answer, is_lost_answer}
 use Rattle.domain_spec.specs.CanTake.{CanLook, CanTake}
-use Rattle.domain_spec.specs.Cell.{Cell, LentEars, Queue, standing_of}
+use Rattle.domain_spec.specs.Cell.{Cell, LentEars, Queue, share_of, standing_of}
 use Rattle.domain_spec.specs.Lawful.{IsUnsent}
 use Rattle.domain_core.specs.Answering.{MayAnswer, MayGoBack}
 use Rattle.domain_core.specs.Clients.{with_queue}
@@ -26,6 +26,9 @@ use Rattle.domain_core.specs.declared.ticket.Back.{Back}
 use Rattle.domain_core.specs.declared.ticket.Look.{Look}
 use Rattle.domain_core.specs.declared.ticket.PhaseLook.{PhaseLook}
 use Rattle.domain_core.specs.declared.ticket.Ticket.{Ticket}
+use Rattle.domain_core.specs.Entering.{LooksFor}
+use Rattle.domain_core.specs.Shares.{IsFree}
+use Rattle.domain_core.proofs.Shares.{free_begin, free_take_up}
 use Rattle.domain_core.proofs.Linking.{Hands, IsAside, same_keeps, aside_linked, back_hands, begin_linked, look_hands, operation_turned, phase_hands, take_up_linked}
 use Rattle.domain_spec.proofs.TurnProofs.{holds_after, holds_led}
 use Rattle.core_step_laws.specs.Steady.{IsSteady}
@@ -77,15 +80,12 @@ operation_kept old new t marks n who d r out made link now h looks linked e f =
     let turned = operation_turned t marks n who d old new r looks in
     cell_after old new t turned.0 out out link now turned.1 h (kept_by new out made link now linked e f)
 
-pub begin_kept : (old new : Turning) (marks : List (Mark ℕ)) (n : ℕ) (who : Who) (d : Call) (r : OperationLook) (out made : Option ℕ) (link now : Option Linked) → CanTake old.cell (step.BeginOp n who d) → IsCell old out link
-    → OperationLooks (step.BeginOp n who d) marks n who d old new r → made ≡ made_boot (standing_of new.cell) → now ≡ kept_link made link → IsCell new out now
-begin_kept old new marks n who d r out made link now can h looks e f =
-    operation_kept old new (step.BeginOp n who d) marks n who d r out made link now h looks (begin_linked old new n who d marks r out link can h.linked looks) e f
-
-pub take_up_kept : (old new : Turning) (marks : List (Mark ℕ)) (n : ℕ) (who : Who) (d : Call) (r : OperationLook) (out made : Option ℕ) (link now : Option Linked) → CanTake old.cell (step.TakeUp n who d) → IsCell old out link
-    → OperationLooks (step.TakeUp n who d) marks n who d old new r → made ≡ made_boot (standing_of new.cell) → now ≡ kept_link made link → IsCell new out now
-take_up_kept old new marks n who d r out made link now can h looks e f =
-    operation_kept old new (step.TakeUp n who d) marks n who d r out made link now h looks (take_up_linked old new n who d marks r out link can h.linked looks) e f
+pub enter_kept : (old new : Turning) (n : ℕ) (who : Who) (d : Call) (r : OperationLook) (out made : Option ℕ) (link now : Option Linked) → IsFree (share_of old.cell n) who → IsCell old out link → LooksFor n who d old new r
+    → made ≡ made_boot (standing_of new.cell) → now ≡ kept_link made link → IsCell new out now
+enter_kept old new n who d r out made link now free h (inl (begins, looks)) e f =
+    operation_kept old new (step.BeginOp n who d) _ n who d r out made link now h looks (begin_linked old new n who d _ r out link (free_begin old.cell n who d free begins) h.linked looks) e f
+enter_kept old new n who d r out made link now free h (inr (takes, looks)) e f =
+    operation_kept old new (step.TakeUp n who d) _ n who d r out made link now h looks (take_up_linked old new n who d _ r out link (free_take_up old.cell n who d free takes) h.linked looks) e f
 
 -- a chapter's end, or where there was no memory for it the caller that waits no more
 

@@ -3,6 +3,7 @@ pub mod Celled
 pub mod Changing
 pub mod Clients
 pub mod Core
+pub mod Entering
 pub mod Held
 pub mod Keeping
 pub mod Linked
