@@ -10,7 +10,7 @@ ghost use Rattle.core_steps.specs.Turning.{Takes};
 ghost use Rattle.core_step_laws.specs.Shares.{KeepsOthers};
 ghost use Rattle.core_steps.specs.ClientLaws.{IsDropping, IsTaking};
 
-use crate::turns::{DomainTurns, are_apart};
+use crate::turns::{DomainTurns, facts};
 use core_steps::{WatchFault, drop_events, rotate, take_events, unwatch, watch};
 use event_queue::Taken;
 use history_spec::Stamp;
@@ -26,13 +26,10 @@ impl DomainTurns {
         ensures others { KeepsOthers by.number self.old.turning.cell self.new.turning.cell }
         ensures excluded { self.new.excluded ≡ None }
     {
-        self.kept.is_away();
-        self.kept.state();
-        are_apart(&self.kept);
+        facts(&self.kept);
         self.excluded = None;
         let watched = watch(&mut self.kept, self.rooms.len(), alloc, by);
-        self.kept.is_away();
-        self.kept.state();
+        facts(&self.kept);
         watched
     }
 
@@ -44,13 +41,10 @@ impl DomainTurns {
         ensures others { KeepsOthers by.number self.old.turning.cell self.new.turning.cell }
         ensures excluded { self.new.excluded ≡ None }
     {
-        self.kept.is_away();
-        self.kept.state();
-        self.kept.has(client);
+        facts(&self.kept);
         self.excluded = None;
         unwatch(&mut self.kept, by, client);
-        self.kept.is_away();
-        self.kept.state();
+        facts(&self.kept);
     }
 
     /// Hands out all that pends for a client, or its loss, once, where nothing does. Where there is no memory
@@ -64,9 +58,7 @@ impl DomainTurns {
         ensures others { KeepsOthers by.number self.old.turning.cell self.new.turning.cell }
         ensures excluded { self.new.excluded ≡ None }
     {
-        self.kept.is_away();
-        self.kept.state();
-        self.kept.has(client);
+        facts(&self.kept);
         self.excluded = None;
         drop(by);
         take_events(&mut self.kept, alloc, client)
@@ -80,9 +72,7 @@ impl DomainTurns {
         ensures others { KeepsOthers by.number self.old.turning.cell self.new.turning.cell }
         ensures excluded { self.new.excluded ≡ None }
     {
-        self.kept.is_away();
-        self.kept.state();
-        self.kept.has(client);
+        facts(&self.kept);
         self.excluded = None;
         drop(by);
         drop_events(&mut self.kept, client);
@@ -100,9 +90,7 @@ impl DomainTurns {
         ensures others { KeepsOthers by.number self.old.turning.cell self.new.turning.cell }
         ensures excluded { self.new.excluded ≡ None }
     {
-        self.kept.is_away();
-        self.kept.state();
-        are_apart(&self.kept);
+        facts(&self.kept);
         self.excluded = None;
         let rotated = rotate(
             &mut self.kept,
@@ -112,8 +100,7 @@ impl DomainTurns {
             by,
             who,
         );
-        self.kept.is_away();
-        self.kept.state();
+        facts(&self.kept);
         rotated
     }
 }

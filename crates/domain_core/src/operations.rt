@@ -14,7 +14,7 @@ ghost use Rattle.core_step_laws.specs.Queued.{queue_by};
 ghost use Rattle.core_step_laws.specs.Shares.{KeepsOthers};
 
 use crate::looking::keep_refusal;
-use crate::turns::{DomainTurns, are_apart};
+use crate::turns::{DomainTurns, facts};
 use core_steps::{
     OperationLook, PhaseLook, Queue, Record, Refusable, begin_op, end_op, phase, rooms_lent,
     take_up, takes_up,
@@ -97,9 +97,7 @@ impl DomainTurns {
         ensures others { KeepsOthers by.number self.old.turning.cell self.new.turning.cell }
         ensures excluded { self.new.excluded ≡ excluded_so who call.now result }
     {
-        self.kept.is_away();
-        self.kept.state();
-        are_apart(&self.kept);
+        facts(&self.kept);
         let looked = enter_on(
             &mut self.kept,
             &mut self.queue,
@@ -110,8 +108,7 @@ impl DomainTurns {
             who,
             call,
         );
-        self.kept.is_away();
-        self.kept.state();
+        facts(&self.kept);
         looked
     }
 
@@ -123,14 +120,11 @@ impl DomainTurns {
         ensures others { KeepsOthers by.number self.old.turning.cell self.new.turning.cell }
         ensures excluded { self.new.excluded ≡ None }
     {
-        self.kept.is_away();
-        self.kept.state();
-        are_apart(&self.kept);
+        facts(&self.kept);
         self.excluded = None;
         let lent = rooms_lent(&self.ears);
         let looked = phase(&mut self.kept, &mut self.rooms, lent, alloc, by, who);
-        self.kept.is_away();
-        self.kept.state();
+        facts(&self.kept);
         looked
     }
 
@@ -141,13 +135,10 @@ impl DomainTurns {
         ensures others { KeepsOthers by.number self.old.turning.cell self.new.turning.cell }
         ensures excluded { self.new.excluded ≡ None }
     {
-        self.kept.is_away();
-        self.kept.state();
-        are_apart(&self.kept);
+        facts(&self.kept);
         self.excluded = None;
         let reply = end_op(&mut self.kept, alloc, by, who);
-        self.kept.is_away();
-        self.kept.state();
+        facts(&self.kept);
         reply
     }
 }

@@ -25,7 +25,7 @@ returns-clause-looks c =
     let free = subst (λ (v : Core). IsFree (share_of v.turning.cell a.by.number) a.who) (sym c.self.view_is) c.requires.free in
     subst (λ (v : Core). LooksFor a.by.number a.who a.call.now v.turning (turning l.new.kept l.new.queue i.held.items i.ears) l.result) c.self.view_is
     (enter_turn i.kept l.new.kept i.queue l.new.queue i.held.items i.ears i.excluded (vec_len i.rooms) (vec_capacity i.held) a.by.number a.who a.call.now l.result c.self.invariant free
-    c.state.ensures.lost c.is_away.ensures.waits c.is_away.ensures.room c.state-2.ensures.lost c.is_away-2.ensures.waits l.ensures.looks)
+    c.facts.ensures.lost c.facts.ensures.waits c.facts.ensures.room c.facts-2.ensures.lost c.facts-2.ensures.waits l.ensures.looks)
 
 pub returns-clause-others : goal.returns-clause-others
 returns-clause-others c =
@@ -33,7 +33,7 @@ returns-clause-others c =
     let i = c.self.inside in
     let l = c.enter_on-looked in
     enter_others a.self.now i.kept l.new.kept i.queue l.new.queue i.held.items i.ears i.excluded a.by.number a.who a.call.now l.result c.self.view_is (returns-clause-looks c) l.ensures.looks
-    c.are_apart.ensures c.is_away.ensures.waits c.is_away-2.ensures.waits
+    c.facts.ensures.apart c.facts.ensures.waits c.facts-2.ensures.waits
 
 pub returns-clause-queue : goal.returns-clause-queue
 returns-clause-queue c =
