@@ -6,6 +6,7 @@ pub mod Core
 pub mod Entering
 pub mod Held
 pub mod Keeping
+pub mod Leading
 pub mod Linked
 pub mod Meaning
 pub mod OfOperations

@@ -1,7 +1,5 @@
 // A domain's cell: a domain between two turns, with the link of its guest.
 ghost use Rattle.std.specs.Prelude.{◌≡◌, IfOk, is_some, length};
-ghost use Rattle.core_steps.specs.Resting.{rested_in};
-ghost use Rattle.core_steps.specs.OfLedger.{IsToldAtEnd};
 ghost use Rattle.domain_spec.specs.Fold.{at_base};
 ghost use Rattle.domain_spec.specs.Laws.{IsCounted};
 ghost use Rattle.domain_spec.specs.Legal.{IsLegal};
@@ -97,14 +95,6 @@ impl<G: Guests> DomainCell<G> {
         ensures { result ≡ is_some (standing_in self.now).job }
     {
         self.turns.has_job()
-    }
-
-    /// The reply of the phase that led the operation to rest: what the call is told that came so far, or, where there
-    /// is no memory for one more copy of it, that.
-    pub fn rest_reply(&self, alloc: Global) -> Reply
-        ensures { IsToldAtEnd (rested_in (standing_in self.now).operation) result }
-    {
-        self.turns.rest_reply(alloc)
     }
 
     /// The place of the chapter's last mark that is no boot's end, no guest's event and no cut; before all marks

@@ -6,7 +6,7 @@ ghost use Rattle.domain_core.specs.Entering.{LooksFor, Operates};
 ghost use Rattle.domain_core.specs.Shares.{IsFree};
 ghost use Rattle.domain_core.specs.Celled.{KeepsOtherShares, cell_in, standing_in};
 ghost use Rattle.domain_core.specs.Held.{out_by};
-ghost use Rattle.domain_core.specs.Tickets.{HasMonitor, phase_ticket, phased_of};
+ghost use Rattle.domain_core.specs.Tickets.{HasMonitor, LeadsOn, phase_ticket, phased_of};
 ghost use Rattle.core_step_laws.specs.Made.{made_boot};
 ghost use Rattle.core_steps.specs.OperationEnding.{CanEnd, Ends};
 ghost use Rattle.core_steps.specs.Phasing.{IsDue, Phases};
@@ -42,6 +42,7 @@ impl<G: Guests> DomainCell<G> {
     pub fn phase(&mut self, alloc: Global, by: Stamp, who: Who) -> PhaseLook<G>
         requires due { IsDue (standing_in self.old).operation by.number who }
         ensures phases { Phases by.number who self.old.core.turning self.new.core.turning (phased_of result) }
+        ensures leads { LeadsOn (standing_in self.new).operation result }
         ensures excluded { self.new.core.excluded ≡ None }
         ensures out { self.new.out ≡ out_by (is_some (phase_ticket result)) (made_boot (standing_in self.new)) self.old.out }
         ensures ticket { HasMonitor (is_some self.new.out) (phase_ticket result) }
@@ -50,7 +51,14 @@ impl<G: Guests> DomainCell<G> {
         let looked = self.turns.phase(alloc, by, who);
         let made = self.turns.made();
         keep(&mut self.link, made);
-        hand_phase(looked, &mut self.link, &mut self.out, made)
+        hand_phase(
+            looked,
+            &self.turns,
+            alloc,
+            &mut self.link,
+            &mut self.out,
+            made,
+        )
     }
 
     /// The operation that this caller has open, and that is over, ends with the reply of its last phase.

@@ -16,6 +16,7 @@ mod laws;
 mod link;
 mod looking;
 mod made;
+mod next;
 mod operations;
 mod ticket;
 mod turns;
@@ -29,5 +30,6 @@ pub use laws::{
     operation_shares_end, operation_shares_phase,
 };
 pub use link::{Here, keep, keep_or_take, kill, put_ears, put_monitor, take_ears, take_monitor};
+pub use next::Next;
 pub use ticket::{Back, Look, PhaseLook, Ticket, hand_back, hand_look, hand_phase};
 pub use turns::DomainTurns;

@@ -8,7 +8,6 @@ pub mod Finishing
 pub mod Going
 pub mod Hearing
 pub mod InTurn
-pub mod Leading
 pub mod Lending
 pub mod Looking
 pub mod OfCells

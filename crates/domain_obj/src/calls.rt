@@ -2,42 +2,16 @@
 ghost use Rattle.std.specs.Prelude.{◌≡◌, IfErr, IfOk, is_some};
 ghost use Rattle.domain_obj.specs.Asking.{MayBeAnswered};
 ghost use Rattle.domain_obj.specs.Running.{IsSpent};
-ghost use Rattle.domain_obj.specs.Turns.{HasAnswered, TellsBack};
-ghost use Rattle.domain_core.specs.Celled.{standing_in};
+ghost use Rattle.domain_obj.specs.Turns.{HasAnswered};
 ghost use Rattle.domain_core.specs.Tickets.{IsCounted};
 
-use crate::next::{Next, next_in};
-use crate::turns::{DomainPass, DomainTurn, back_in, last_in, told_legal};
+use crate::turns::{DomainPass, back_in, last_in, told_legal};
 use domain_core::{Back, DomainCell, Ticket};
 use monitor_link::{Guests, Link};
 use std::alloc::Global;
 use std::sync::Wait;
 use turn_cell::TurnCell;
-use virt_types::{Answer, Ask, Front, Reply};
-
-/// What became of a call, or a phase, whose ask was answered.
-#[derive(Drop)]
-pub enum Answered<G: Guests> {
-    /// The call is done; its caller is told this.
-    Done(Reply),
-    /// It asks this next.
-    Away(Ticket<G>, Ask),
-    /// The phase is done, and leads on so.
-    Phased(Next),
-}
-
-// What became of it is told in the turn in which it was answered: where its operation rests now, that may be taken up in the
-// next one.
-fn told_in<G: Guests>(turn: &mut DomainTurn<G>, alloc: Global, left: Back<G>) -> Answered<G>
-    ensures tells { TellsBack (standing_in turn.old.value).operation left result }
-    ensures same { turn.new ≡ turn.old }
-{
-    match left {
-        Back::Done(reply) => Answered::Done(reply),
-        Back::Away(ticket, asked) => Answered::Away(ticket, asked),
-        Back::Phased(step) => Answered::Phased(next_in(turn, alloc, step)),
-    }
-}
+use virt_types::{Answer, Ask, Front};
 
 /// Takes a turn, in which the open call of the pass is answered, which had asked this last; with the place of the chapter's
 /// last mark of some pass. A pass for which no ticket is left comes back as the error.
@@ -50,7 +24,7 @@ pub fn answer_once<G: Guests, R: Wait>(
     asked: &Ask,
     answer: Answer,
     made: Option<Link<G>>,
-) -> Result<(DomainPass<G>, Answered<G>, Front), DomainPass<G>>
+) -> Result<(DomainPass<G>, Back<G>, Front), DomainPass<G>>
     requires own { pass.cell ≡ cell.now }
     requires may { MayBeAnswered pass asked.now (is_some ticket.monitor) answer (is_some made) }
     requires counted { IsCounted G.M.ends G.M.faults ticket.monitor answer }
@@ -62,9 +36,8 @@ pub fn answer_once<G: Guests, R: Wait>(
         Err((pass, _)) => return Err(pass),
     };
     told_legal(&mut turn);
-    let left = back_in(&mut turn, ticket, answer, made);
-    let answered = told_in(&mut turn, alloc, left);
+    let left = back_in(&mut turn, alloc, ticket, answer, made);
     let place = last_in(&mut turn);
     told_legal(&mut turn);
-    Ok((cell.leave(turn), answered, place))
+    Ok((cell.leave(turn), left, place))
 }

@@ -3,10 +3,9 @@ ghost use Rattle.std.specs.Prelude.{◌≡◌, is_some};
 ghost use Rattle.domain_obj.specs.Finishing.{HasFinished, IsAway};
 
 use crate::asking::Desk;
-use crate::calls::{Answered, answer_once};
-use crate::next::Next;
+use crate::calls::answer_once;
 use crate::turns::DomainPass;
-use domain_core::{DomainCell, Ticket};
+use domain_core::{Back, DomainCell, Next, Ticket};
 use monitor_link::Guests;
 use std::alloc::Global;
 use std::sync::Wait;
@@ -45,14 +44,14 @@ pub fn finish<G: Guests, D: Desk<G>, R: Wait>(
     for _ in rt.forever() {
         let (answer, made) = desk.ask(&pass, &mut ticket, &asked);
         match answer_once(rt, cell, alloc, pass, ticket, &asked, answer, made) {
-            Ok((after, answered, place)) => match answered {
-                Answered::Away(next, ask) => {
+            Ok((after, left, place)) => match left {
+                Back::Away(next, ask) => {
                     pass = after;
                     ticket = next;
                     asked = ask;
                 }
-                Answered::Done(reply) => return (after, Finished::Done(reply, place)),
-                Answered::Phased(next) => return (after, Finished::Phased(next, place)),
+                Back::Done(reply) => return (after, Finished::Done(reply, place)),
+                Back::Phased(next) => return (after, Finished::Phased(next, place)),
             },
             Err(after) => return (after, Finished::Spent),
         }

@@ -2,12 +2,11 @@
 ghost use Rattle.std.specs.Prelude.{◌≡◌, ◌<◌, ◌^◌, ℕ};
 ghost use Rattle.domain_spec.specs.CanTake.{WaitsAsNoOther};
 ghost use Rattle.domain_core.specs.Celled.{cell_in, standing_in};
-ghost use Rattle.domain_obj.specs.Going.{EndsIn, GoesOnIn, IsRenewedIfCan, MayEnd, MayGoOn, PhasesIn, RenewsAndGoesOn};
+ghost use Rattle.domain_obj.specs.Going.{EndsIn, IsRenewedIfCan, MayEnd, MayGoOn, PhasesIn, RenewsAndGoesOn};
 ghost use Rattle.domain_core.specs.OfTurns.{CanEnd};
 ghost use Rattle.domain_core.specs.OfTurns.{IsDue};
 
-use crate::operating::phasing::Phasing;
-use crate::{DomainTurn, end_long_chapter, next_in};
+use crate::{DomainTurn, end_long_chapter};
 use domain_core::PhaseLook;
 use history_spec::Stamp;
 use monitor_link::Guests;
@@ -38,23 +37,18 @@ fn phase_as<G: Guests>(turn: &mut DomainTurn<G>, alloc: Global, who: Who) -> Pha
     turn.value().phase(alloc, by, who)
 }
 
-// The due phase looks, under the number of the pass that has the turn; where it is done, with what it led to.
-fn go_on<G: Guests>(turn: &mut DomainTurn<G>, alloc: Global, who: Who) -> Phasing<G>
+// The same under the number of the pass that has the turn.
+fn go_on<G: Guests>(turn: &mut DomainTurn<G>, alloc: Global, who: Who) -> PhaseLook<G>
     requires due { IsDue (standing_in turn.old.value).operation turn.old.pass.number who }
-    ensures goes { GoesOnIn turn.old.pass.number who turn.old.value turn.new.value result }
+    ensures phases { PhasesIn turn.old.pass.number who turn.old.value turn.new.value result }
     ensures same { turn.new ≡ record turn.old { value = turn.new.value } }
 {
-    match phase_as(turn, alloc, who) {
-        PhaseLook::Away(ticket, asked) => Phasing::Away(ticket, asked),
-        PhaseLook::Phased(step) => Phasing::Phased(next_in(turn, alloc, step)),
-        PhaseLook::Excluded => Phasing::Excluded,
-        PhaseLook::NoMemory => Phasing::NoMemory,
-    }
+    phase_as(turn, alloc, who)
 }
 
 /// A long chapter ends, if there is memory for the next one, and then the due phase of the operation that the pass has
 /// open is let in where no normal job is open.
-pub fn phase_in<G: Guests>(turn: &mut DomainTurn<G>, alloc: Global, who: Who) -> Phasing<G>
+pub fn phase_in<G: Guests>(turn: &mut DomainTurn<G>, alloc: Global, who: Who) -> PhaseLook<G>
     requires may { MayGoOn turn.old.pass.number who turn.old.value }
     requires chapter { turn.old.value.core.turning.chapter < 2 ^ 62 }
     ensures goes { RenewsAndGoesOn turn.old.pass.number who turn.old.value turn.new.value result }

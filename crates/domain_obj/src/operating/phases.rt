@@ -5,9 +5,9 @@ ghost use Rattle.domain_obj.specs.Phases.{HasFinishedPhase, HasRunPhase, HasRunP
 ghost use Rattle.domain_obj.specs.Phasing.{IsDueFor};
 ghost use Rattle.domain_spec.specs.declared.open.OpenOperation.{OpenOperation};
 
-use crate::operating::phasing::{Phasing, end_once, phase_once};
+use crate::operating::phasing::{end_once, phase_once};
 use crate::{Desk, DomainPass, Finished, Next, finish};
-use domain_core::{DomainCell, Ticket};
+use domain_core::{DomainCell, PhaseLook, Ticket};
 use monitor_link::Guests;
 use std::alloc::Global;
 use std::sync::Wait;
@@ -76,11 +76,11 @@ fn run_phase<G: Guests, D: Desk<G>, R: Wait>(
     for _ in rt.forever() {
         desk.between(&pass);
         match phase_once(rt, cell, alloc, pass, who) {
-            Ok((after, phasing, place)) => match phasing {
-                Phasing::Excluded => pass = cell.rest(rt, after),
-                Phasing::NoMemory => pass = cell.rest(rt, after),
-                Phasing::Phased(next) => return (after, OnePhase::Phased(next, place)),
-                Phasing::Away(ticket, asked) => {
+            Ok((after, looked, place)) => match looked {
+                PhaseLook::Excluded => pass = cell.rest(rt, after),
+                PhaseLook::NoMemory => pass = cell.rest(rt, after),
+                PhaseLook::Phased(next) => return (after, OnePhase::Phased(next, place)),
+                PhaseLook::Away(ticket, asked) => {
                     return finish_phase(rt, cell, alloc, after, ticket, asked, desk);
                 }
             },

@@ -3,12 +3,11 @@ use Rattle.std.specs.Prelude.{Option}
 use Rattle.domain_spec.specs.declared.open.OpenOperation.{OpenOperation}
 use Rattle.domain_spec.specs.declared.step.Outcome.{Outcome}
 use Rattle.domain_spec.specs.declared.step.Outcome.TheVariants as outcome
-use Rattle.domain_obj.specs.declared.next.Next.{Next}
-use Rattle.domain_obj.specs.declared.next.Next.TheVariants as next
-use Rattle.domain_core.specs.OfTurns.{IsToldAtEnd}
-use Rattle.domain_core.specs.OfTurns.{Step}
-use Rattle.domain_core.specs.OfTurns.step_variants as step
-use Rattle.domain_core.specs.OfTurns.{rested_in}
+use Rattle.domain_core.specs.declared.next.Next.{Next}
+use Rattle.domain_core.specs.declared.next.Next.TheVariants as next
+use Rattle.core_steps.specs.OfLedger.{IsToldAtEnd, Step}
+use Rattle.core_steps.specs.OfLedger.step_variants as step
+use Rattle.core_steps.specs.Resting.{rested_in}
 
 -- an outcome is told so: where the operation rests, its reply, or that there was no memory for one more copy
 abbrev pub IsTold : Outcome → Next → Type 0
