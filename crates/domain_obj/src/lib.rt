@@ -6,6 +6,7 @@ mod asking;
 mod attempting;
 mod attempts;
 mod calls;
+mod clients;
 mod ending;
 mod ends;
 mod finishing;
@@ -26,7 +27,8 @@ mod turns;
 
 pub use asking::Desk;
 pub use calls::{Answered, answer_once};
-pub use domain_core::{Chronicle, DomainCell, Ticket, takes_up};
+pub use clients::Took;
+pub use domain_core::{Chronicle, DomainCell, Ticket, WatchFault, takes_up};
 pub use ending::Called;
 pub use ends::Hushed;
 pub use finishing::{Finished, finish};
