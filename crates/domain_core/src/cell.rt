@@ -10,6 +10,8 @@ ghost use Rattle.domain_core.specs.Celled.{cell_in, new_cell, standing_in};
 ghost use Rattle.domain_core.specs.Meaning.{history_of};
 ghost use Rattle.domain_core.specs.Held.{IsOutWith};
 ghost use Rattle.core_step_laws.specs.Steady.{IsSteady};
+ghost use Rattle.core_owed.specs.Owing.{IsOwing};
+ghost use Rattle.event_queue.specs.Listening.{has_client, registrations};
 
 use crate::{DomainTurns, Here};
 use core_steps::Chronicle;
@@ -118,14 +120,25 @@ impl<G: Guests> DomainCell<G> {
         turns.into_history()
     }
 
-    /// The history is legal and its boots are counted, what was asked stays what is asked, and a monitor is out only
-    /// while a call is open. It does nothing.
+    /// Whether this client is registered.
+    pub fn has(&self, client: u32) -> bool
+        ensures { result ≡ has_client self.now.core.turning.listeners client }
+    {
+        self.turns.has(client)
+    }
+
+    /// The history is legal and its boots are counted, what was asked stays what is asked, a monitor is out only while
+    /// a call is open, and what pends for each listener, with what was taken, is what its history owes. It does
+    /// nothing.
     pub fn holds(&self)
         ensures legal { IsLegal (at_base (cell_in self.now).base) (cell_in self.now).marks }
         ensures counted { IsCounted (at_base (cell_in self.now).base) }
         ensures steady { IsSteady (standing_in self.now) }
         ensures out { IsOutWith (standing_in self.now) self.now.out }
+        ensures owed { IsOwing (cell_in self.now) }
+        ensures listeners { (cell_in self.now).registrations ≡ registrations self.now.core.turning.listeners }
     {
+        self.turns.listens();
         let _out = self.out;
     }
 }

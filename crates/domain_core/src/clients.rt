@@ -4,7 +4,7 @@ ghost use Rattle.domain_spec.specs.CanTake.{CanTake};
 ghost use Rattle.domain_spec.specs.Kept.{left_queue};
 ghost use Rattle.domain_spec.specs.declared.core_step.CoreStep.TheVariants as step;
 ghost use Rattle.domain_core.specs.Clients.{WatchesSo, with_queue};
-ghost use Rattle.event_queue.specs.Listening.{HandsOut, listening_of};
+ghost use Rattle.event_queue.specs.Listening.{HandsOut, dropped_by, listening_of};
 ghost use Rattle.domain_spec.specs.declared.mark.Mark.TheVariants as mark;
 ghost use Rattle.core_steps.specs.Turning.{Takes};
 ghost use Rattle.core_step_laws.specs.Shares.{KeepsOthers};
@@ -69,6 +69,7 @@ impl DomainTurns {
     pub fn drop_events(&mut self, by: Stamp, client: u32)
         requires can { CanTake self.old.turning.cell (step.Take by.number client) }
         ensures drops { IsDropping by.number client self.old.turning self.new.turning }
+        ensures listeners { self.new.turning.listeners ≡ dropped_by self.old.turning.listeners client }
         ensures others { KeepsOthers by.number self.old.turning.cell self.new.turning.cell }
         ensures excluded { self.new.excluded ≡ None }
     {

@@ -1,6 +1,7 @@
 pub mod Asking
 pub mod Attempting
 pub mod Called
+pub mod Clients
 pub mod Ending
 pub mod Entered
 pub mod Entering

@@ -6,6 +6,7 @@ mod asking;
 mod attempting;
 mod attempts;
 mod calls;
+mod clients;
 mod ending;
 mod ends;
 mod finishing;
@@ -25,7 +26,8 @@ mod turns;
 
 pub use asking::Desk;
 pub use calls::answer_once;
-pub use domain_core::{Back, Chronicle, DomainCell, Next, Ticket, takes_up};
+pub use clients::Took;
+pub use domain_core::{Back, Chronicle, DomainCell, Next, Ticket, WatchFault, takes_up};
 pub use ending::Called;
 pub use ends::Hushed;
 pub use finishing::{Finished, finish};
