@@ -45,7 +45,7 @@ kept_apart (r ∷ rs) h = (h.0, kept_apart rs h.1)
 
 -- what is kept for the number
 
-takings_share : (n : ℕ) (old new : Celled) (ts : List Taken) → share_of (cell_in new) n ≡ record (share_of (cell_in old) n) { registrations = ts } → new.out ≡ old.out → new.core.turning.chapter ≡ old.core.turning.chapter
+pub takings_share : (n : ℕ) (old new : Celled) (ts : List Taken) → share_of (cell_in new) n ≡ record (share_of (cell_in old) n) { registrations = ts } → new.out ≡ old.out → new.core.turning.chapter ≡ old.core.turning.chapter
     → cell_share new n ≡ with_takings (cell_share old n) ts
 takings_share n old new ts kept out same =
     share_parts (with_takings (cell_share old n) ts) (cell_share new n) kept
@@ -364,6 +364,21 @@ stays_in n old new same out others = record {
       (ap (λ (t : Turning). chapter_of (share_of t.cell n).call t.chapter) same);
   others = others;
 }
+
+-- it can be taken from still
+
+pub can_still : (n client : ℕ) (old mid : Celled) (events : List Transition) → IsOwing (cell_in old) → (cell_in old).registrations ≡ registrations old.core.turning.listeners → CanTake (cell_in old) (step.Take n client)
+    → HandsOut (listening_of old.core.turning.listeners client) (taken.Events events) → IsTaking n client old.core.turning mid.core.turning → CanTake (cell_in mid) (step.Take n client)
+can_still n client old mid events owing listed can given takes =
+    let own = own_of n client (cell_in old) owing.apart can in
+    let r = own.one in
+    let it : IsListener old.core.turning.listeners client r =
+    listener_of old.core.turning.listeners client r (ap (λ (rs : List Registration). find (is_numbered client) rs) (sym listed) ∙ own.found) in
+    let handed = events_handed old.core.turning.listeners client r events it given in
+    let now : find (is_numbered client) (cell_in mid).registrations ≡ Some (emptied_one r) =
+    ap (λ (rs : List Registration). find (is_numbered client) rs) takes.1.leads.registrations ∙ found_taken (cell_in old).registrations client r own.found handed.0 in
+    let place = found_place (cell_in mid).registrations client (emptied_one r) now in
+    (emptied_one r, (own.numbered, own.its, place.0, place.1))
 
 -- under a stamp that is the same
 

@@ -11,7 +11,7 @@ ghost use Rattle.domain_obj.specs.Running.{IsSeen, IsSpent};
 use crate::{DomainObj, DomainPass, DomainTurn, Seen, seen_in, told_legal};
 use domain_core::{DomainCell, Taken, WatchFault};
 use history_spec::Stamp;
-use monitor_link::{Ears, Killer, Monitor};
+use monitor_link::Guests;
 use std::alloc::Global;
 use std::sync::Wait;
 use turn_cell::{CellOf, TurnCell};
@@ -27,7 +27,7 @@ pub struct Took {
 }
 
 // What pends for each registration, with what was taken, is what its history owes.
-fn told_owed<M: Monitor + Drop, E: Ears + Drop, Z: Killer + Drop>(turn: &mut DomainTurn<M, E, Z>)
+fn told_owed<G: Guests>(turn: &mut DomainTurn<G>)
     ensures owed { IsOwing (cell_in turn.old.value) }
     ensures listeners { (cell_in turn.old.value).registrations ≡ registrations turn.old.value.core.turning.listeners }
     ensures same { turn.new ≡ turn.old }
@@ -37,8 +37,8 @@ fn told_owed<M: Monitor + Drop, E: Ears + Drop, Z: Killer + Drop>(turn: &mut Dom
 
 // All that pends for a client is let go of, and then a loss that is due; where it is to end, its registration
 // ends. The answer is whether its loss was due.
-fn settle<M: Monitor + Drop, E: Ears + Drop, Z: Killer + Drop>(
-    cell: &mut DomainCell<M, E, Z>,
+fn settle<G: Guests>(
+    cell: &mut DomainCell<G>,
     by: Stamp,
     client: u32,
     end: bool,
@@ -60,8 +60,8 @@ fn settle<M: Monitor + Drop, E: Ears + Drop, Z: Killer + Drop>(
 }
 
 // The same, with what pended handed out. Where there is no memory nothing changes.
-fn hand_over<M: Monitor + Drop, E: Ears + Drop, Z: Killer + Drop>(
-    cell: &mut DomainCell<M, E, Z>,
+fn hand_over<G: Guests>(
+    cell: &mut DomainCell<G>,
     alloc: Global,
     by: Stamp,
     client: u32,
@@ -85,8 +85,8 @@ fn hand_over<M: Monitor + Drop, E: Ears + Drop, Z: Killer + Drop>(
 }
 
 // In a turn, under this number.
-fn take_as<M: Monitor + Drop, E: Ears + Drop, Z: Killer + Drop>(
-    turn: &mut DomainTurn<M, E, Z>,
+fn take_as<G: Guests>(
+    turn: &mut DomainTurn<G>,
     alloc: Global,
     client: u32,
     end: bool,
@@ -101,8 +101,8 @@ fn take_as<M: Monitor + Drop, E: Ears + Drop, Z: Killer + Drop>(
 }
 
 // The same under the number of the pass that has the turn.
-fn take_in<M: Monitor + Drop, E: Ears + Drop, Z: Killer + Drop>(
-    turn: &mut DomainTurn<M, E, Z>,
+fn take_in<G: Guests>(
+    turn: &mut DomainTurn<G>,
     alloc: Global,
     client: u32,
     end: bool,
@@ -118,14 +118,14 @@ fn take_in<M: Monitor + Drop, E: Ears + Drop, Z: Killer + Drop>(
 // history owes it and it has not taken before. With `end` its registration ends in that turn; else it stays, unless
 // its loss was told. Where there is no memory for what pends nothing changes. A pass for which no ticket is left comes
 // back as the error.
-fn take_once<M: Monitor + Drop, E: Ears + Drop, Z: Killer + Drop, R: Wait>(
+fn take_once<G: Guests, R: Wait>(
     rt: &R,
-    cell: &TurnCell<DomainCell<M, E, Z>>,
+    cell: &TurnCell<DomainCell<G>>,
     alloc: Global,
-    pass: DomainPass<M, E, Z>,
+    pass: DomainPass<G>,
     client: u32,
     end: bool,
-) -> Result<(DomainPass<M, E, Z>, Result<Took, NoMemory>, Seen), DomainPass<M, E, Z>>
+) -> Result<(DomainPass<G>, Result<Took, NoMemory>, Seen), DomainPass<G>>
     requires own { pass.cell ≡ cell.now }
     requires registered { HasRegistered client pass }
     ensures ok { IfOk result (λ r. HasTaken client end pass r.0 r.1) }
@@ -144,8 +144,8 @@ fn take_once<M: Monitor + Drop, E: Ears + Drop, Z: Killer + Drop, R: Wait>(
 }
 
 // In a turn, under this number.
-fn drop_as<M: Monitor + Drop, E: Ears + Drop, Z: Killer + Drop>(
-    turn: &mut DomainTurn<M, E, Z>,
+fn drop_as<G: Guests>(
+    turn: &mut DomainTurn<G>,
     client: u32,
 ) -> bool
     ghost number: { ℕ }
@@ -158,8 +158,8 @@ fn drop_as<M: Monitor + Drop, E: Ears + Drop, Z: Killer + Drop>(
 }
 
 // The same under the number of the pass that has the turn.
-fn drop_in<M: Monitor + Drop, E: Ears + Drop, Z: Killer + Drop>(
-    turn: &mut DomainTurn<M, E, Z>,
+fn drop_in<G: Guests>(
+    turn: &mut DomainTurn<G>,
     client: u32,
 ) -> bool
     requires can { CanTake (cell_in turn.old.value) (step.Take turn.old.pass.number client) }
@@ -171,12 +171,12 @@ fn drop_in<M: Monitor + Drop, E: Ears + Drop, Z: Killer + Drop>(
 
 // Takes a turn, in which all that pends for a client of the pass is let go of, a loss that is due, and its registration.
 // It takes no memory. A pass for which no ticket is left comes back as the error.
-fn drop_once<M: Monitor + Drop, E: Ears + Drop, Z: Killer + Drop, R: Wait>(
+fn drop_once<G: Guests, R: Wait>(
     rt: &R,
-    cell: &TurnCell<DomainCell<M, E, Z>>,
-    pass: DomainPass<M, E, Z>,
+    cell: &TurnCell<DomainCell<G>>,
+    pass: DomainPass<G>,
     client: u32,
-) -> Result<(DomainPass<M, E, Z>, Seen), DomainPass<M, E, Z>>
+) -> Result<(DomainPass<G>, Seen), DomainPass<G>>
     requires own { pass.cell ≡ cell.now }
     requires registered { HasRegistered client pass }
     ensures ok { IfOk result (λ r. HasDropped client pass r.0) }
@@ -195,8 +195,8 @@ fn drop_once<M: Monitor + Drop, E: Ears + Drop, Z: Killer + Drop, R: Wait>(
 }
 
 // In a turn, under this number.
-fn watch_as<M: Monitor + Drop, E: Ears + Drop, Z: Killer + Drop>(
-    turn: &mut DomainTurn<M, E, Z>,
+fn watch_as<G: Guests>(
+    turn: &mut DomainTurn<G>,
     alloc: Global,
 ) -> Result<u32, WatchFault>
     ghost number: { ℕ }
@@ -208,8 +208,8 @@ fn watch_as<M: Monitor + Drop, E: Ears + Drop, Z: Killer + Drop>(
 }
 
 // The same under the number of the pass that has the turn.
-fn watch_in<M: Monitor + Drop, E: Ears + Drop, Z: Killer + Drop>(
-    turn: &mut DomainTurn<M, E, Z>,
+fn watch_in<G: Guests>(
+    turn: &mut DomainTurn<G>,
     alloc: Global,
 ) -> Result<u32, WatchFault>
     ensures watches { WatchesIn turn.old.pass.number turn.old.value turn.new.value result }
@@ -220,12 +220,12 @@ fn watch_in<M: Monitor + Drop, E: Ears + Drop, Z: Killer + Drop>(
 
 // Takes a turn, in which the pass registers a client for the transitions that come from then on, under the least number
 // below 16 that no registration has. A pass for which no ticket is left comes back as the error.
-fn watch_once<M: Monitor + Drop, E: Ears + Drop, Z: Killer + Drop, R: Wait>(
+fn watch_once<G: Guests, R: Wait>(
     rt: &R,
-    cell: &TurnCell<DomainCell<M, E, Z>>,
+    cell: &TurnCell<DomainCell<G>>,
     alloc: Global,
-    pass: DomainPass<M, E, Z>,
-) -> Result<(DomainPass<M, E, Z>, Result<u32, WatchFault>, Seen), DomainPass<M, E, Z>>
+    pass: DomainPass<G>,
+) -> Result<(DomainPass<G>, Result<u32, WatchFault>, Seen), DomainPass<G>>
     requires own { pass.cell ≡ cell.now }
     ensures ok { IfOk result (λ r. HasWatched pass r.0 r.1) }
     ensures seen { IfOk result (λ r. IsSeen r.2 r.0) }
@@ -242,15 +242,15 @@ fn watch_once<M: Monitor + Drop, E: Ears + Drop, Z: Killer + Drop, R: Wait>(
     Ok((cell.leave(turn), watched, seen))
 }
 
-impl<M: Monitor + Drop, E: Ears + Drop, Z: Killer + Drop> DomainObj<M, E, Z> {
+impl<G: Guests> DomainObj<G> {
     /// A client of the pass registers for the transitions that come from then on, in one turn, under the least number
     /// below 16 that no registration has. A pass for which no ticket is left comes back as the error.
     pub fn watch<R: Wait>(
         &self,
         rt: &R,
         alloc: Global,
-        pass: DomainPass<M, E, Z>,
-    ) -> Result<(DomainPass<M, E, Z>, Result<u32, WatchFault>, Seen), DomainPass<M, E, Z>>
+        pass: DomainPass<G>,
+    ) -> Result<(DomainPass<G>, Result<u32, WatchFault>, Seen), DomainPass<G>>
         requires own { pass.cell ≡ self.now }
         ensures ok { IfOk result (λ r. HasWatched pass r.0 r.1) }
         ensures seen { IfOk result (λ r. IsSeen r.2 r.0) }
@@ -267,10 +267,10 @@ impl<M: Monitor + Drop, E: Ears + Drop, Z: Killer + Drop> DomainObj<M, E, Z> {
         &self,
         rt: &R,
         alloc: Global,
-        pass: DomainPass<M, E, Z>,
+        pass: DomainPass<G>,
         client: u32,
         end: bool,
-    ) -> Result<(DomainPass<M, E, Z>, Result<Took, NoMemory>, Seen), DomainPass<M, E, Z>>
+    ) -> Result<(DomainPass<G>, Result<Took, NoMemory>, Seen), DomainPass<G>>
         requires own { pass.cell ≡ self.now }
         requires registered { HasRegistered client pass }
         ensures ok { IfOk result (λ r. HasTaken client end pass r.0 r.1) }
@@ -285,9 +285,9 @@ impl<M: Monitor + Drop, E: Ears + Drop, Z: Killer + Drop> DomainObj<M, E, Z> {
     pub fn drop_events<R: Wait>(
         &self,
         rt: &R,
-        pass: DomainPass<M, E, Z>,
+        pass: DomainPass<G>,
         client: u32,
-    ) -> Result<(DomainPass<M, E, Z>, Seen), DomainPass<M, E, Z>>
+    ) -> Result<(DomainPass<G>, Seen), DomainPass<G>>
         requires own { pass.cell ≡ self.now }
         requires registered { HasRegistered client pass }
         ensures ok { IfOk result (λ r. HasDropped client pass r.0) }
