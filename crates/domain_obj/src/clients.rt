@@ -37,12 +37,7 @@ fn told_owed<G: Guests>(turn: &mut DomainTurn<G>)
 
 // All that pends for a client is let go of, and then a loss that is due; where it is to end, its registration
 // ends. The answer is whether its loss was due.
-fn settle<G: Guests>(
-    cell: &mut DomainCell<G>,
-    by: Stamp,
-    client: u32,
-    end: bool,
-) -> bool
+fn settle<G: Guests>(cell: &mut DomainCell<G>, by: Stamp, client: u32, end: bool) -> bool
     requires can { CanTake (cell_in cell.old) (step.Take by.number client) }
     ensures { Settles by.number client end cell.old cell.new result }
 {
@@ -144,10 +139,7 @@ fn take_once<G: Guests, R: Wait>(
 }
 
 // In a turn, under this number.
-fn drop_as<G: Guests>(
-    turn: &mut DomainTurn<G>,
-    client: u32,
-) -> bool
+fn drop_as<G: Guests>(turn: &mut DomainTurn<G>, client: u32) -> bool
     ghost number: { ℕ }
     requires can { CanTake (cell_in turn.old.value) (step.Take number client) }
     ensures settles { Settles number client true turn.old.value turn.new.value result }
@@ -158,10 +150,7 @@ fn drop_as<G: Guests>(
 }
 
 // The same under the number of the pass that has the turn.
-fn drop_in<G: Guests>(
-    turn: &mut DomainTurn<G>,
-    client: u32,
-) -> bool
+fn drop_in<G: Guests>(turn: &mut DomainTurn<G>, client: u32) -> bool
     requires can { CanTake (cell_in turn.old.value) (step.Take turn.old.pass.number client) }
     ensures settles { Settles turn.old.pass.number client true turn.old.value turn.new.value result }
     ensures same { turn.new ≡ record turn.old { value = turn.new.value } }
@@ -195,10 +184,7 @@ fn drop_once<G: Guests, R: Wait>(
 }
 
 // In a turn, under this number.
-fn watch_as<G: Guests>(
-    turn: &mut DomainTurn<G>,
-    alloc: Global,
-) -> Result<u32, WatchFault>
+fn watch_as<G: Guests>(turn: &mut DomainTurn<G>, alloc: Global) -> Result<u32, WatchFault>
     ghost number: { ℕ }
     ensures watches { WatchesIn number turn.old.value turn.new.value result }
     ensures same { turn.new ≡ record turn.old { value = turn.new.value } }
@@ -208,10 +194,7 @@ fn watch_as<G: Guests>(
 }
 
 // The same under the number of the pass that has the turn.
-fn watch_in<G: Guests>(
-    turn: &mut DomainTurn<G>,
-    alloc: Global,
-) -> Result<u32, WatchFault>
+fn watch_in<G: Guests>(turn: &mut DomainTurn<G>, alloc: Global) -> Result<u32, WatchFault>
     ensures watches { WatchesIn turn.old.pass.number turn.old.value turn.new.value result }
     ensures same { turn.new ≡ record turn.old { value = turn.new.value } }
 {
