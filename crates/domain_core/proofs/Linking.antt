@@ -280,7 +280,7 @@ not_job (Some i) n j h is e = h (sym (ap (λ (o : OpenJob). o.number) (some_job 
 none_in_look : (c : Cell) (n : ℕ) (who : Who) (d : Call) (f : First) → MakesNone c (step.Look n who d f)
 none_in_look c n who d f b m = m
 
-pub look_hands : {M : Type 0} (old new : Turning) (n : ℕ) (who : Who) (d : Call) (f : First) (r : Look M) (out : Option ℕ) (link : Option Linked) → CanLook old.cell n who d f → IsLinked old out link → Looks n who d f old new (looked_of r)
+pub look_hands : {G M E Z : Type 0} (old new : Turning) (n : ℕ) (who : Who) (d : Call) (f : First) (r : Look G M E Z) (out : Option ℕ) (link : Option Linked) → CanLook old.cell n who d f → IsLinked old out link → Looks n who d f old new (looked_of r)
     → Hands (is_some (look_ticket r)) old new out (kept_link (made_boot (standing_of new.cell)) link)
 look_hands old new n who d f (look.Away t x) out link can h looks =
     away_hands old new out (kept_link (made_boot (standing_of new.cell)) link)
@@ -376,7 +376,7 @@ pub unmarked_linked : (old new : Turning) (t : CoreStep ℕ) (left : List (Mark 
     → IsLinked new out (kept_link (made_boot (standing_of new.cell)) link)
 unmarked_linked old new t left out link in_chapter none turned h = same_keeps old new out link (unmarked old new t left in_chapter none turned) (heard_stays old new t left turned) h
 
-pub phase_hands : {M : Type 0} (old new : Turning) (n : ℕ) (who : Who) (r : PhaseLook M) (out : Option ℕ) (link : Option Linked) → IsLinked old out link → Phases n who old new (phased_of r)
+pub phase_hands : {G M E Z : Type 0} (old new : Turning) (n : ℕ) (who : Who) (r : PhaseLook G M E Z) (out : Option ℕ) (link : Option Linked) → IsLinked old out link → Phases n who old new (phased_of r)
     → Hands (is_some (phase_ticket r)) old new out (kept_link (made_boot (standing_of new.cell)) link)
 phase_hands old new n who (phase.Away t x) out link h phases =
     away_hands old new out (kept_link (made_boot (standing_of new.cell)) link)
@@ -494,7 +494,7 @@ back_linked old new n x left sent fresh link turned answered h = record {
   out_with = tt;
 }
 
-pub back_hands : {M : Type 0} (old new : Turning) (n : ℕ) (x : Answer) (sent fresh : Bool) (r : Back M) (out : Option ℕ) (link : Option Linked) → IsAnswered old.cell sent x fresh → IsLinked old out link → GoesBack n x old new (back_of r)
+pub back_hands : {G M E Z : Type 0} (old new : Turning) (n : ℕ) (x : Answer) (sent fresh : Bool) (r : Back G M E Z) (out : Option ℕ) (link : Option Linked) → IsAnswered old.cell sent x fresh → IsLinked old out link → GoesBack n x old new (back_of r)
     → Hands (is_some (back_ticket r)) old new None (link_made fresh (boot_heard new.cell.ears) (made_boot (standing_of new.cell)) (with_monitor out link))
 back_hands old new n x sent fresh (back.Done r) out link answered h goes =
     stays_hands old new None (link_made fresh (boot_heard new.cell.ears) (made_boot (standing_of new.cell)) (with_monitor out link))

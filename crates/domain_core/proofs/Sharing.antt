@@ -95,7 +95,7 @@ away_call c (Some j) n m is away unlike = not_called (standing_of c) (standing_o
 
 -- turns that may hand the monitor out
 
-pub look_others : {M : Type 0} (old new : Celled) (n : ℕ) (who : Who) (d : Call) (f : First) (r : Look M) → KeepsOthers n (cell_in old) (cell_in new) → Looks n who d f old.core.turning new.core.turning (looked_of r)
+pub look_others : {G M E Z : Type 0} (old new : Celled) (n : ℕ) (who : Who) (d : Call) (f : First) (r : Look G M E Z) → KeepsOthers n (cell_in old) (cell_in new) → Looks n who d f old.core.turning new.core.turning (looked_of r)
     → new.out ≡ out_by (is_some (look_ticket r)) (made_boot (standing_in new)) old.out → KeepsOtherShares n old new
 look_others old new n who d f (look.Away t x) keeps h e = others_by old new n keeps (inr (λ m unlike. one_call (cell_in new) n m x h.2.1 unlike))
 look_others old new n who d f (look.Done r) keeps h e = step_others old new n (step.Look n who d f) h.0 tt h.1 keeps e
@@ -103,7 +103,7 @@ look_others old new n who d f (look.Excluded held boot looks) keeps h e = step_o
 look_others old new n who d f (look.WaitersFull w) keeps h e = step_others old new n (step.Look n who d f) h.0 tt h.1 keeps e
 look_others old new n who d f look.NoMemory keeps h e = step_others old new n (step.Look n who d f) h.0 tt h.1 keeps e
 
-pub phase_others : {M : Type 0} (old new : Celled) (n : ℕ) (who : Who) (r : PhaseLook M) → KeepsOthers n (cell_in old) (cell_in new) → Phases n who old.core.turning new.core.turning (phased_of r)
+pub phase_others : {G M E Z : Type 0} (old new : Celled) (n : ℕ) (who : Who) (r : PhaseLook G M E Z) → KeepsOthers n (cell_in old) (cell_in new) → Phases n who old.core.turning new.core.turning (phased_of r)
     → new.out ≡ out_by (is_some (phase_ticket r)) (made_boot (standing_in new)) old.out → KeepsOtherShares n old new
 phase_others old new n who (phase.Away t x) keeps h e = others_by old new n keeps (inr (λ m unlike. one_call (cell_in new) n m x h.1.2.1 unlike))
 phase_others old new n who (phase.Phased st) keeps h e = step_others old new n (step.Phase n who) h.1.0 tt h.1.1 keeps e

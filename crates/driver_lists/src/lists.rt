@@ -13,27 +13,19 @@ use crate::whole::read_list;
 use def_keeper::Opening;
 use driver_cells::{Cells, Outcome, Row};
 use files_disk::Files;
-use monitor_link::{Ears, Killer, Monitor};
+use monitor_link::Guests;
 use std::alloc::Global;
 use std::sync::Wait;
 use virt_types::{CellName, ListOf, NoMemory, Reply, Value};
 
 /// All domains by rising name, with their states. The list gives the names and slots in one turn; each row is read in a turn
 /// of its cell after that. A domain that is not there any more has no row.
-pub fn list_all<
-    R: Wait,
-    F: Files + Drop,
-    K: Opening,
-    M: Monitor + Drop,
-    E: Ears + Drop,
-    Z: Killer + Drop,
-    G,
->(
+pub fn list_all<R: Wait, F: Files + Drop, K: Opening, G: Guests>(
     rt: &R,
     alloc: Global,
-    cells: &Cells<F, K, M, E, Z>,
-    row: Row<F, K, M, E, Z, G>,
-) -> (Row<F, K, M, E, Z, G>, Outcome)
+    cells: &Cells<F, K, G>,
+    row: Row<F, K, G>,
+) -> (Row<F, K, G>, Outcome)
     requires own { IsOf cells.now.list cells.now.store cells.now.domains.items row }
     requires ready { IsReadyRow row }
     ensures outcome { HasOutcome (known_row row) (known_row result.0) request.ListAll result.1 }
@@ -59,21 +51,13 @@ pub fn list_all<
 }
 
 /// The names of the domains that are not active, by rising name: at most so many. They are found as by `list_all`.
-pub fn list_defined<
-    R: Wait,
-    F: Files + Drop,
-    K: Opening,
-    M: Monitor + Drop,
-    E: Ears + Drop,
-    Z: Killer + Drop,
-    G,
->(
+pub fn list_defined<R: Wait, F: Files + Drop, K: Opening, G: Guests>(
     rt: &R,
     alloc: Global,
-    cells: &Cells<F, K, M, E, Z>,
-    row: Row<F, K, M, E, Z, G>,
+    cells: &Cells<F, K, G>,
+    row: Row<F, K, G>,
     most: i32,
-) -> (Row<F, K, M, E, Z, G>, Outcome)
+) -> (Row<F, K, G>, Outcome)
     requires own { IsOf cells.now.list cells.now.store cells.now.domains.items row }
     requires ready { IsReadyRow row }
     ensures outcome { HasOutcome (known_row row) (known_row result.0) (request.ListDefinedDomains most) result.1 }

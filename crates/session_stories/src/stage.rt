@@ -3,7 +3,7 @@ ghost use Rattle.std.specs.Prelude.{◌∷◌, [], IfSome};
 ghost use Rattle.driver_sessions.specs.OfDrivers.{IsReadyRow, IsRowOf, IsWhole};
 
 use crate::scene::{Scene, ServedSession, StorySession};
-use driver_sessions::{Driver, DriverRow, Left, MakerOf, serve_and_close};
+use driver_sessions::{Driver, DriverRow, Left, serve_and_close};
 use files_disk::MemFiles;
 use guest_model::SimGuests;
 use std::alloc::Global;
@@ -21,7 +21,7 @@ fn open<H: Wait + Copy + Send + Sync>(
     guests: Makers<H>,
 ) -> Option<
     (
-        Driver<MemFiles, Brand, MakerOf<Makers<H>>>,
+        Driver<MemFiles, Brand, Makers<H>>,
         DriverRow<MemFiles, Brand, Makers<H>>,
     ),
 >
@@ -29,7 +29,7 @@ fn open<H: Wait + Copy + Send + Sync>(
     ensures ready { IfSome result (λ made. IsReadyRow made.1) }
     ensures whole { IfSome result (λ made. IsWhole (made.1 ∷ [])) }
 {
-    match Driver::open(alloc, MemFiles::new(alloc), MakerOf { guests }) {
+    match Driver::open(alloc, MemFiles::new(alloc), guests) {
         Ok(made) => Some(made),
         Err(_) => None,
     }

@@ -128,11 +128,7 @@ impl<H: Wait + Copy + Send + Sync, G: Guests> Guests for StoryGuests<H, G> {
 
     ghost faults = { λ g. G.faults g.guests };
 
-    fn make(
-        &mut self,
-        def: &DomainDef,
-        boot: u64,
-    ) -> Result<Link<StoryMonitor<H, G::M>, StoryEars<G::E>, StoryKiller<G::Z>>, Fault> {
+    fn make(&mut self, def: &DomainDef, boot: u64) -> Result<Link<StoryGuests<H, G>>, Fault> {
         let for_monitor = Arc::try_clone(&self.signals)?;
         let for_killer = Arc::try_clone(&self.signals)?;
         let Link {
