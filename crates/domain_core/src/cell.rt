@@ -108,9 +108,10 @@ impl<G: Guests> DomainCell<G> {
         self.turns.last()
     }
 
-    /// The history of the chapter by itself, once nothing more happens.
+    /// The history of the chapter by itself, once nothing more happens: it is legal.
     pub fn into_history(self) -> Chronicle
-        ensures { result ≡ history_of self }
+        ensures history { result ≡ history_of self }
+        ensures legal { IsLegal (at_base result.base) result.marks }
     {
         let DomainCell {
             turns,

@@ -1,5 +1,5 @@
 -- A call that asks until it is done: what holds between two of its asks.
-use Rattle.std.proofs.Common.{◌≡◌, ℕ, ◌+◌, ◌++◌, List, [], ◌∷◌, is_some, Bool, Option, None, Some, refl, sym, ap, ◌∙◌, subst, append_assoc, append-nil, arith}
+use Rattle.std.proofs.Common.{◌≡◌, ◌≤◌, ℕ, suc, ◌+◌, ◌++◌, List, [], ◌∷◌, length, is_some, Bool, Option, None, Some, refl, sym, ap, ◌∙◌, subst, append_assoc, append-nil, length-append, arith}
 use Rattle.history_spec.specs.Chapter.{tagged}
 use Rattle.history_spec.specs.Pass.{own}
 use Rattle.history_spec.proofs.Beginnings.{begins_itself}
@@ -17,7 +17,7 @@ use Rattle.domain_obj.specs.Asking.{AsksLast, FitsAsk, IsAsked, MayBeAnswered}
 use Rattle.domain_obj.specs.Finishing.{IsAway, IsClosed, IsFinished, IsFinishedBy, IsPhased, IsStillAway}
 use Rattle.domain_obj.specs.InTurn.{DomainPass}
 use Rattle.domain_core.specs.Leading.{IsTold}
-use Rattle.domain_obj.specs.Running.{Goes, IsSpent}
+use Rattle.domain_obj.specs.Running.{Goes, IsLegalHistory, IsSpent}
 use Rattle.domain_obj.specs.Turns.{HasAnswered}
 use Rattle.domain_core.specs.declared.ticket.Back.{Back}
 use Rattle.domain_core.specs.declared.ticket.Back.TheVariants as back
@@ -36,9 +36,17 @@ use Rattle.domain_core.specs.OfShares.{whose}
 pub goes_on : (m n : ℕ) (xs ys : List (ℕ × Mark ℕ)) (a b c : DomainPass) → Goes m xs a b → Goes n ys b c → Goes (m + n) (xs ++ ys) a c
 goes_on m n xs ys a b c p q = record {
   went = went_on meaning no_mark_lowers m n xs ys a b c p.went q.went;
+  legal = λ some. legal_through (m + length xs) (n + length ys) (IsLegalHistory b.seen) (IsLegalHistory c.seen) p.legal q.legal q.legal_seen (some_of m n xs ys some);
   legal_seen = λ l. q.legal_seen (p.legal_seen l);
   legal_held = λ l. q.legal_held (p.legal_held l);
-}
+} where
+  some_of : (m n : ℕ) (xs ys : List (ℕ × Mark ℕ)) → 1 ≤ (m + n) + length (xs ++ ys) → 1 ≤ (m + length xs) + (n + length ys)
+  some_of m n xs ys some = omega (arith, some, length-append xs ys)
+
+  -- what was seen at last is legal by the last turns, or by those before
+  legal_through : (i j : ℕ) (B C : Type 0) → (1 ≤ i → B) → (1 ≤ j → C) → (B → C) → 1 ≤ i + j → C
+  legal_through i 0 B C first last on some = on (first (omega (arith, some)))
+  legal_through i (suc j) B C first last on some = last (omega arith)
 
 pub goes_nowhere : (pass : DomainPass) → Goes 0 [] pass pass
 goes_nowhere pass = record {
@@ -51,6 +59,7 @@ goes_nowhere pass = record {
     held = refl;
     held_seen = λ l. l;
   };
+  legal = λ some. absurd (omega (arith, some));
   legal_seen = λ l. l;
   legal_held = λ l. l;
 }

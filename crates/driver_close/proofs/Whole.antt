@@ -84,6 +84,7 @@ module _ {F G : Type 0} (told : F → Told) where
             value = left.value;
             closed = all_close domain.meaning domain.no_mark_lowers (passes_at slot rows) pass left.value all left.closes;
             history_is = left.history_is;
+            legal = left.legal;
           }
 
       pub closed_all : HasClosed told rows files list store domains

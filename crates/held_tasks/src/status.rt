@@ -2,6 +2,7 @@
 ghost use Rattle.std.specs.Prelude.{◌≡◌, IfOk};
 ghost use Rattle.boot_status.specs.Reporting.{boot_status};
 ghost use Rattle.driver_cells.specs.OfCells.{history_of};
+ghost use Rattle.driver_cells.specs.OfObjects.{IsLegalHistory};
 ghost use Rattle.driver_cells.specs.OfOutcomes.{state_of};
 ghost use Rattle.held_tasks.specs.Statuses.{HasLooked, HasReadStatus, IsTold};
 ghost use Rattle.turn_cell.specs.Turning.{SamePass};
@@ -28,11 +29,13 @@ pub enum StatusRead {
     Spent,
 }
 
-// The status, as the domain is in this turn.
+// The status, as the domain is in this turn, whose history is legal.
 fn status_in<G: Guests>(turn: &mut Turn<DomainCell<G>>) -> Result<Option<Status>, NoMemory>
+    ensures legal { IsLegalHistory (history_of turn.old.value) }
     ensures status { IfOk result (λ status. status ≡ boot_status (state_of (history_of turn.old.value))) }
     ensures same { turn.new ≡ turn.old }
 {
+    turn.value().holds();
     status_of(turn.value().state())
 }
 
