@@ -6,6 +6,7 @@ ghost use Rattle.driver_cells.specs.Ready.{IsReadyRow};
 ghost use Rattle.driver_cells.specs.OfOutcomes.{HasGone, HasOutcome, ReadsNow};
 ghost use Rattle.pass_rows.specs.Rows.{IsOf};
 ghost use Rattle.virt_types.specs.declared.request.Request.TheVariants as request;
+ghost use Rattle.driver_lists.specs.Unmarked.{LeavesNoMark};
 
 use crate::stopping::{Stop, stopped};
 use crate::telling::idle_names;
@@ -31,6 +32,7 @@ pub fn list_all<R: Wait, F: Files + Drop, K: Opening, G: Guests>(
     ensures outcome { HasOutcome (known_row row) (known_row result.0) request.ListAll result.1 }
     ensures now { ReadsNow (known_row result.0) request.ListAll result.1 }
     ensures gone { HasGone (known_row row) (known_row result.0) }
+    ensures unmarked { LeavesNoMark row result.0 }
     ensures others { result.0 ≡ record row { list = result.0.list; domains = result.0.domains } }
     ensures parts { KeepsParts row result.0 }
     ensures own { IsOf cells.now.list cells.now.store cells.now.domains.items result.0 }
@@ -63,6 +65,7 @@ pub fn list_defined<R: Wait, F: Files + Drop, K: Opening, G: Guests>(
     ensures outcome { HasOutcome (known_row row) (known_row result.0) (request.ListDefinedDomains most) result.1 }
     ensures now { ReadsNow (known_row result.0) (request.ListDefinedDomains most) result.1 }
     ensures gone { HasGone (known_row row) (known_row result.0) }
+    ensures unmarked { LeavesNoMark row result.0 }
     ensures others { result.0 ≡ record row { list = result.0.list; domains = result.0.domains } }
     ensures parts { KeepsParts row result.0 }
     ensures own { IsOf cells.now.list cells.now.store cells.now.domains.items result.0 }

@@ -6,6 +6,7 @@ ghost use Rattle.driver_cells.specs.Ready.{IsReadyRow};
 ghost use Rattle.driver_cells.specs.OfOutcomes.{HasGone, HasOutcome, ReadsNow};
 ghost use Rattle.pass_rows.specs.Rows.{IsOf};
 ghost use Rattle.virt_types.specs.declared.request.Request.TheVariants as request;
+ghost use Rattle.driver_lists.specs.Unmarked.{LeavesNoMark};
 
 use crate::stopping::{Stop, stopped};
 use crate::store::read_titles;
@@ -30,6 +31,7 @@ pub fn tell_titles<R: Wait, F: Files + Drop, K: Opening, G: Guests>(
     ensures outcome { HasOutcome (known_row row) (known_row result.0) request.Titles result.1 }
     ensures now { ReadsNow (known_row result.0) request.Titles result.1 }
     ensures gone { HasGone (known_row row) (known_row result.0) }
+    ensures unmarked { LeavesNoMark row result.0 }
     ensures others { result.0 ≡ record row { store = result.0.store } }
     ensures parts { KeepsParts row result.0 }
     ensures own { IsOf cells.now.list cells.now.store cells.now.domains.items result.0 }

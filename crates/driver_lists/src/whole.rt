@@ -6,6 +6,7 @@ ghost use Rattle.driver_cells.specs.Ready.{IsReadyRow};
 ghost use Rattle.driver_cells.specs.OfOutcomes.{HasGone};
 ghost use Rattle.pass_rows.specs.Rows.{IsOf};
 ghost use Rattle.driver_lists.specs.Whole.{HasReadList};
+ghost use Rattle.driver_lists.specs.Unmarked.{LeavesNoMark};
 
 use crate::listing::list_domains;
 use crate::rows::read_all;
@@ -31,6 +32,7 @@ pub(crate) fn read_list<R: Wait, F: Files + Drop, K: Opening, G: Guests>(
     requires ready { IsReadyRow row }
     ensures read { HasReadList (known_row row) (known_row result.0) result.1 }
     ensures gone { HasGone (known_row row) (known_row result.0) }
+    ensures unmarked { LeavesNoMark row result.0 }
     ensures others { result.0 ≡ record row { list = result.0.list; domains = result.0.domains } }
     ensures parts { KeepsParts row result.0 }
     ensures own { IsOf cells.now.list cells.now.store cells.now.domains.items result.0 }
