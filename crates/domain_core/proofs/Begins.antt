@@ -1,5 +1,5 @@
 -- A call that looks whether its operation may begin, or may be taken up, where its refusal is set aside.
-use Rattle.std.proofs.Common.{◌≡◌, ◌⊎◌, ℕ, inl, inr, is_some, true, Option, None, Some, sym, ap, ◌∙◌, subst}
+use Rattle.std.proofs.Common.{◌≡◌, ℕ, inl, inr, is_some, true, Option, None, Some, sym, ap, ◌∙◌, subst}
 use Rattle.job_rules.specs.declared.record.JobRecord.{JobRecord}
 use Rattle.domain_spec.specs.Types.{Call, Who}
 use Rattle.domain_spec.specs.Call.{begins, takes_up}

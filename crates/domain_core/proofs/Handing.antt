@@ -1,5 +1,5 @@
 -- What the parts of a turn leave of the link, joined.
-use Rattle.std.proofs.Common.{◌≡◌, ◌≢◌, ℕ, List, [], IfOk, OnErr, OnOk, Result, Ok, Err, is_some, Bool, true, false, Option, None, Some, refl, sym, ap, ◌∙◌, subst, inl, inr}
+use Rattle.std.proofs.Common.{◌≡◌, ℕ, List, [], OnErr, OnOk, Result, Ok, Err, is_some, Bool, true, false, Option, None, Some, refl, sym, ap, ◌∙◌, subst, inl, inr}
 use Rattle.domain_spec.specs.Types.{Answer, Ask, Call, Who}
 use Rattle.domain_spec.specs.Types.ask
 use Rattle.domain_spec.specs.declared.core_step.CoreStep.{CoreStep}
@@ -7,10 +7,8 @@ use Rattle.domain_spec.specs.declared.core_step.CoreStep.TheVariants as step
 use Rattle.domain_spec.specs.declared.core_step.First.{First}
 use Rattle.domain_spec.specs.declared.mark.Mark.{Mark}
 use Rattle.domain_spec.specs.declared.standing.Standing.{Standing}
-use Rattle.domain_spec.specs.Asks.{is_ended_answer, is_lost_answer}
-use Rattle.domain_spec.specs.CanTake.{CanLook, CanTake}
-use Rattle.domain_spec.specs.Cell.{Cell, LentEars, Queue, share_of, standing_of}
-use Rattle.domain_spec.specs.Lawful.{IsUnsent}
+use Rattle.domain_spec.specs.CanTake.{CanLook}
+use Rattle.domain_spec.specs.Cell.{Queue, share_of, standing_of}
 use Rattle.domain_core.specs.Answering.{MayAnswer, MayGoBack}
 use Rattle.domain_core.specs.Clients.{with_queue}
 use Rattle.core_steps.specs.OfLedger.{Back as CoreBack}
@@ -45,7 +43,7 @@ use Rattle.domain_spec.specs.Laws.{IsCounted}
 use Rattle.domain_spec.specs.Legal.{IsLegal}
 use Rattle.core_steps.specs.Beginning.{Looks as OperationLooks}
 use Rattle.core_steps.specs.declared.beginning.OperationLook.{OperationLook}
-use Rattle.core_step_laws.specs.Made.{AsksThis, made_boot, makes}
+use Rattle.core_step_laws.specs.Made.{made_boot, makes}
 use Rattle.core_steps.specs.Phasing.{Phases}
 use Rattle.core_steps.specs.declared.phasing.PhaseLook.{PhaseLook as CorePhase}
 

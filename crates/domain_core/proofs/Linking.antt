@@ -1,29 +1,27 @@
 -- The link of the guest that is there, after each turn.
-use Rattle.std.proofs.Common.{◌≡◌, ◌≢◌, ◌⊎◌, inl, inr, ℕ, ◌==◌, List, [], ◌∷◌, ◌++◌, length, is_some, nat_lt, not, option_map, Bool, true, false, Option, None, Some, IfOk, OnErr, OnOk, Result, Ok, Err, if◌then◌else◌, refl, sym, ap, ◌∙◌, subst, arith}
+use Rattle.std.proofs.Common.{◌≡◌, ◌⊎◌, inl, inr, ℕ, ◌==◌, List, [], ◌∷◌, ◌++◌, is_some, not, option_map, Bool, true, false, Option, None, Some, if◌then◌else◌, refl, sym, ap, ◌∙◌, subst, arith}
 use Rattle.std.proofs.lemmas.Bool.Decides.{nat_tests}
-use Rattle.domain_spec.specs.Types.{Answer, Ask, Call, DomainDef, Who}
+use Rattle.domain_spec.specs.Types.{Answer, Ask, Call, Who}
 use Rattle.domain_spec.specs.Types.ask
 use Rattle.domain_spec.specs.declared.core_step.CoreStep.{CoreStep}
 use Rattle.domain_spec.specs.declared.core_step.CoreStep.TheVariants as step
 use Rattle.domain_spec.specs.declared.core_step.First.{First}
 use Rattle.domain_spec.specs.declared.mark.Mark.{Mark}
 use Rattle.domain_spec.specs.declared.open.OpenJob.{OpenJob}
-use Rattle.domain_spec.specs.declared.open.OpenOperation.{OpenOperation}
 use Rattle.domain_spec.specs.declared.standing.Standing.{Standing}
 use Rattle.domain_spec.specs.Asks.{is_ok_answer}
-use Rattle.domain_spec.specs.CanTake.{CanLook, CanTake, HasNoneOpen, IsNotJobOf, WaitsForAnswer}
-use Rattle.domain_spec.specs.Cell.{Cell, LentEars, Queue, as_let_in, asks_so_far, call_of, share_of, standing_of}
-use Rattle.domain_spec.specs.Kept.{ears_after, left_queue, told_of}
+use Rattle.domain_spec.specs.CanTake.{CanLook, CanTake, IsNotJobOf}
+use Rattle.domain_spec.specs.Cell.{Cell, LentEars, as_let_in, asks_so_far, call_of, share_of, standing_of}
+use Rattle.domain_spec.specs.Kept.{ears_after, told_of}
 use Rattle.domain_spec.specs.Reading.{live_boot}
 use Rattle.domain_spec.specs.Turns.{IsOwn, base_after, marks_after}
 use Rattle.domain_spec.specs.Fold.{standing}
-use Rattle.core_steps.specs.OfLedger.{Back as CoreBack}
 use Rattle.core_steps.specs.Answering.{GoesBack}
 use Rattle.core_steps.specs.Looking.{Looks}
 use Rattle.core_steps.specs.Turning.{AsksLast, HasTurned, Takes, Turning}
 use Rattle.domain_core.specs.Held.{IsLinked, IsOpen, IsOutWith, boot_heard, out_by}
-use Rattle.domain_core.specs.Linked.{IsWholeBut, Linked, boot_of, has_ears, has_monitor, is_boot, kept_link, link_by, link_made, link_or_new, new_link, with_ears_of, with_monitor, without_ears, without_monitor}
-use Rattle.domain_core.specs.Tickets.{HasMonitor, IsAnswered, IsAnsweredAs, back_of, back_ticket, comes, look_ticket, looked_of, phase_ticket, phased_of}
+use Rattle.domain_core.specs.Linked.{IsWholeBut, Linked, boot_of, has_ears, has_monitor, is_boot, kept_link, link_by, link_made, new_link, with_ears_of, with_monitor, without_ears, without_monitor}
+use Rattle.domain_core.specs.Tickets.{IsAnswered, back_of, back_ticket, comes, look_ticket, looked_of, phase_ticket, phased_of}
 use Rattle.domain_core.specs.declared.ticket.Back.{Back}
 use Rattle.domain_core.specs.declared.ticket.Back.TheVariants as back
 use Rattle.domain_core.specs.declared.ticket.Look.{Look}
@@ -34,7 +32,7 @@ use Rattle.core_step_laws.specs.Made.{Agrees, AsksThis, IsMakeAnswered, made_boo
 use Rattle.core_step_laws.proofs.Made.{made_by_its_make, made_stays_made}
 use Rattle.core_step_laws.proofs.Agreeing.{phases_agree}
 use Rattle.core_steps.specs.Beginning.{Looks as OperationLooks}
-use Rattle.core_steps.specs.Phasing.{IsHeld, Phases}
+use Rattle.core_steps.specs.Phasing.{Phases}
 use Rattle.core_steps.specs.declared.beginning.OperationLook.{OperationLook}
 use Rattle.core_steps.specs.declared.beginning.OperationLook.TheVariants as operation
 use Rattle.core_step_laws.specs.Calls.{IsStill}

@@ -131,18 +131,20 @@ enter_turn old new q p held ears x rooms places n who d result whole free lost w
     inr (takes, take_turn old new q p held ears x rooms places n who d result whole (free_take_up (cell_of old q held ears) n who d free takes) lost waits room lost_now waits_now so)
 
 op_keeps : (t : CoreStep ℕ) (marks : List (Mark ℕ)) (old new : Recorded) (q p : Queue) (held : List HeldEvent) (ears : Option LentEars) (x y : Option Refusable) (rooms places n : ℕ) (who : Who) (d : Call) (result : OperationLook)
-    → IsWhole old q held ears x rooms places → Looks t marks n who d (turning old q held ears) (turning new p held ears) result → (new.course ≡ None) ⊎ (new.course ≡ old.course) → HasEnd new rooms → IsSetAside new p rooms y
-    → IsWhole new p held ears y rooms places
-op_keeps t marks old new q p held ears x y rooms places n who d result whole looks course ends set =
+    → IsWhole old q held ears x rooms places → Looks t marks n who d (turning old q held ears) (turning new p held ears) result → new.history.base ≡ old.history.base → (new.course ≡ None) ⊎ (new.course ≡ old.course) → HasEnd new rooms
+    → IsSetAside new p rooms y → IsWhole new p held ears y rooms places
+op_keeps t marks old new q p held ears x y rooms places n who d result whole looks base course ends set =
     let turned = op_turned t marks n who d (turning old q held ears) (turning new p held ears) result looks in
-    step_keeps old new q p held ears x y rooms rooms places t turned.0 whole turned.1 turned.1.leads.base (fewer_rooms old new held (rooms_lent ears) rooms course whole.kept.has_rooms.enough) whole.kept.has_rooms.few ends set
+    step_keeps old new q p held ears x y rooms rooms places t turned.0 whole turned.1 base (fewer_rooms old new held (rooms_lent ears) rooms course whole.kept.has_rooms.enough) whole.kept.has_rooms.few ends set
 
 pub enter_keeps : (old new : Recorded) (q p : Queue) (held : List HeldEvent) (ears : Option LentEars) (x y : Option Refusable) (rooms places n : ℕ) (who : Who) (d : Call) (result : OperationLook) → IsWhole old q held ears x rooms places
     → LooksFor n who d (turning old q held ears) (turning new p held ears) result → EntersSo n who d old new q p result → HasEnd new rooms → IsSetAside new p rooms y → IsWhole new p held ears y rooms places
 enter_keeps old new q p held ears x y rooms places n who d result whole (inl (begins, looks)) so ends set =
-    op_keeps (step.BeginOp n who d) _ old new q p held ears x y rooms places n who d result whole looks (enters_course n who d old new q p result so) ends set
+    op_keeps (step.BeginOp n who d) _ old new q p held ears x y rooms places n who d result whole looks
+    (op_turned (step.BeginOp n who d) _ n who d (turning old q held ears) (turning new p held ears) result looks).1.leads.base (enters_course n who d old new q p result so) ends set
 enter_keeps old new q p held ears x y rooms places n who d result whole (inr (takes, looks)) so ends set =
-    op_keeps (step.TakeUp n who d) _ old new q p held ears x y rooms places n who d result whole looks (enters_course n who d old new q p result so) ends set
+    op_keeps (step.TakeUp n who d) _ old new q p held ears x y rooms places n who d result whole looks
+    (op_turned (step.TakeUp n who d) _ n who d (turning old q held ears) (turning new p held ears) result looks).1.leads.base (enters_course n who d old new q p result so) ends set
 
 -- a phase
 

@@ -1,5 +1,5 @@
 -- What a cell keeps for other numbers, after each turn.
-use Rattle.std.proofs.Common.{◌≡◌, ◌≢◌, ◌⊎◌, inl, inr, ℕ, ◌==◌, List, [], is_some, Bool, true, false, Option, None, Some, if◌then◌else◌, refl, sym, ap, ◌∙◌, subst}
+use Rattle.std.proofs.Common.{◌≡◌, ◌≢◌, ◌⊎◌, inl, inr, ℕ, ◌==◌, List, is_some, Bool, Option, None, Some, if◌then◌else◌, refl, sym, ap, ◌∙◌}
 use Rattle.domain_spec.specs.Types.{Answer, Ask, Call, Who}
 use Rattle.domain_spec.specs.declared.core_step.CoreStep.{CoreStep}
 use Rattle.domain_spec.specs.declared.core_step.CoreStep.TheVariants as step
@@ -9,10 +9,9 @@ use Rattle.domain_spec.specs.declared.open.OpenJob.{OpenJob}
 use Rattle.domain_spec.specs.declared.standing.Standing.{Standing}
 use Rattle.domain_spec.specs.CanTake.{CanTake, IsAway}
 use Rattle.domain_spec.specs.Cell.{Cell, OpenCall, Share, as_let_in, asks_so_far, call_of, share_of, standing_of}
-use Rattle.core_steps.specs.OfLedger.{Back as CoreBack}
 use Rattle.core_steps.specs.Looking.{Looks}
 use Rattle.core_steps.specs.Turning.{AsksLast, HasTurned, chapter_after}
-use Rattle.domain_core.specs.Celled.{CellShare, Celled, KeepsOtherShares, cell_in, cell_share, chapter_of, monitor_of, standing_in}
+use Rattle.domain_core.specs.Celled.{CellShare, Celled, KeepsOtherShares, cell_in, chapter_of, monitor_of, standing_in}
 use Rattle.domain_core.specs.Held.{out_by}
 use Rattle.domain_core.specs.Tickets.{look_ticket, looked_of, phase_ticket, phased_of}
 use Rattle.domain_core.specs.declared.ticket.Look.{Look}

@@ -1,5 +1,5 @@
 -- A domain's cell, as contracts see it.
-use Rattle.std.specs.Prelude.{◌≡◌, ◌≢◌, ℕ, List, length, nat_lt, Bool, true, false, option_map, Option, None, Some, if◌then◌else◌}
+use Rattle.std.specs.Prelude.{◌≡◌, ◌≢◌, ℕ, List, length, nat_lt, Bool, Option, None, Some, if◌then◌else◌}
 use Rattle.domain_spec.specs.Types.{DomainDef}
 use Rattle.domain_spec.specs.declared.standing.Standing.{Standing}
 use Rattle.domain_spec.specs.Cell.{Cell, HeldEvent, LentEars, OpenCall, Share, share_of, standing_of}

@@ -1,5 +1,5 @@
 -- What the turns of a cell answer, and the tickets that they hand out.
-use Rattle.std.specs.Prelude.{◌≡◌, ◌≤◌, ℕ, List, is_some, Bool, true, false, Option, None, Some}
+use Rattle.std.specs.Prelude.{◌≡◌, ◌≤◌, ℕ, is_some, Bool, true, false, Option, None, Some}
 use Rattle.domain_spec.specs.Types.{Answer, Ask, EndReason}
 use Rattle.domain_spec.specs.Types.answer
 use Rattle.domain_spec.specs.Types.ask
