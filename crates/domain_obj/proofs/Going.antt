@@ -1,5 +1,5 @@
 -- A call that asks until it is done: what holds between two of its asks.
-use Rattle.std.proofs.Common.{◌≡◌, ◌≤◌, ℕ, suc, ◌+◌, ◌++◌, List, [], ◌∷◌, length, is_some, Bool, Option, None, Some, refl, sym, ap, ◌∙◌, subst, append_assoc, append-nil, length-append, arith}
+use Rattle.std.proofs.Common.{◌≡◌, ◌≤◌, ℕ, zero, suc, ◌+◌, ◌++◌, List, [], ◌∷◌, length, is_some, Bool, Option, None, Some, refl, sym, ap, ◌∙◌, subst, append_assoc, append-nil, length-append, arith}
 use Rattle.history_spec.specs.Chapter.{tagged}
 use Rattle.history_spec.specs.Pass.{own}
 use Rattle.history_spec.proofs.Beginnings.{begins_itself}
@@ -45,7 +45,7 @@ goes_on m n xs ys a b c p q = record {
 
   -- what was seen at last is legal by the last turns, or by those before
   legal_through : (i j : ℕ) (B C : Type 0) → (1 ≤ i → B) → (1 ≤ j → C) → (B → C) → 1 ≤ i + j → C
-  legal_through i 0 B C first last on some = on (first (omega (arith, some)))
+  legal_through i zero B C first last on some = on (first (omega (arith, some)))
   legal_through i (suc j) B C first last on some = last (omega arith)
 
 pub goes_nowhere : (pass : DomainPass) → Goes 0 [] pass pass

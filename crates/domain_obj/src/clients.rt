@@ -1,5 +1,5 @@
 // A client over a domain: it registers, takes what pends for it, and leaves, each in one turn of its pass.
-ghost use Rattle.std.specs.Prelude.{◌≡◌, ℕ, IfErr, IfOk};
+ghost use Rattle.std.specs.Prelude.{◌≡◌, ℕ, IfErr, IfOk, true};
 ghost use Rattle.domain_spec.specs.CanTake.{CanTake};
 ghost use Rattle.domain_spec.specs.declared.core_step.CoreStep.TheVariants as step;
 ghost use Rattle.domain_core.specs.Below.core_owed.Owing.{IsOwing};

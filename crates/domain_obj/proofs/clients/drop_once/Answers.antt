@@ -8,7 +8,8 @@ use Rattle.domain_obj.proofs.SilentTurns.{seen_at}
 use Rattle.domain_obj.proofs.clients.drop_once.Goals as goal
 
 pub drop_in-requires : goal.drop_in-requires
-drop_in-requires g c = can_take c.args.client c.args.pass c.in-Ok.turn c.told_owed.new.turn c.requires.registered c.in-Ok.ensures.turn c.told_owed.ensures.same
+drop_in-requires g c =
+    record { can = can_take c.args.client c.args.pass c.in-Ok.turn c.told_owed.new.turn c.requires.registered c.in-Ok.ensures.turn c.told_owed.ensures.same }
 
 pub leave-requires-clause-goes_on : goal.leave-requires-clause-goes_on
 leave-requires-clause-goes_on g c =

@@ -11,7 +11,7 @@ use Rattle.domain_obj.proofs.clients.hand_over.Goals as goal
 pub take_events-requires : goal.take_events-requires
 take_events-requires g c =
     let a = c.args in
-    subst (λ (k : ℕ). CanTake (cell_in a.cell.now) (step.Take k a.client)) (sym c.again.ensures) c.requires.can
+    record { can = subst (λ (k : ℕ). CanTake (cell_in a.cell.now) (step.Take k a.client)) (sym c.again.ensures) c.requires.can }
 
 pub settle-is_lost-requires : goal.settle-is_lost-requires
 settle-is_lost-requires g c =
@@ -19,7 +19,7 @@ settle-is_lost-requires g c =
     let t = c.take_events in
     let x = c.in-Ok-Events in
     let takes = subst (λ (k : ℕ). IsTaking k a.client a.cell.now.core.turning t.new.self.core.turning) c.again.ensures x.ensures.takes in
-    can_still a.by.number a.client a.cell.now t.new.self x.events c.holds.ensures.owed c.holds.ensures.listeners c.requires.can (rw x.field-0-is at x.ensures.given) takes
+    record { can = can_still a.by.number a.client a.cell.now t.new.self x.events c.holds.ensures.owed c.holds.ensures.listeners c.requires.can (rw x.field-0-is at x.ensures.given) takes }
 
 pub returns-in-Ok-Events : goal.returns-in-Ok-Events
 returns-in-Ok-Events g c =

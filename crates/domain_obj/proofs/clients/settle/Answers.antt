@@ -9,7 +9,7 @@ use Rattle.domain_obj.proofs.clients.settle.Goals as goal
 pub drop_events-requires : goal.drop_events-requires
 drop_events-requires g c =
     let a = c.args in
-    subst (λ (k : ℕ). CanTake (cell_in a.cell.now) (step.Take k a.client)) (sym c.again.ensures) c.requires.can
+    record { can = subst (λ (k : ℕ). CanTake (cell_in a.cell.now) (step.Take k a.client)) (sym c.again.ensures) c.requires.can }
 
 pub unwatch-requires : goal.unwatch-requires
 unwatch-requires g c =
@@ -18,7 +18,7 @@ unwatch-requires g c =
     let left =
     settle_dropped a.by.number c.again.result.number a.client a.cell.now d.new.self c.again.ensures c.requires.can c.holds.ensures.owed c.holds.ensures.listeners c.holds-2.ensures.listeners
     d.ensures.drops d.ensures.listeners d.ensures.out d.ensures.others in
-    can_end a.by.number a.client a.cell.now d.new.self left.0 left.1 (sym c.has.ensures ∙ c.if-not-has.false)
+    record { can = can_end a.by.number a.client a.cell.now d.new.self left.0 left.1 (sym c.has.ensures ∙ c.if-not-has.false) }
 
 pub returns-then-not-has : goal.returns-then-not-has
 returns-then-not-has g c =

@@ -6,7 +6,7 @@ use Rattle.domain_obj.proofs.DuePhase.{awaits_again, awaits_first, between_phase
 use Rattle.domain_obj.proofs.operating.phases.run_phase.Goals as goal
 
 pub loop-init : goal.loop-init
-loop-init g c = (tt, tt, c.requires.1.1.1.1.1.0, awaits_first c.args.pass, refl)
+loop-init g c = (tt, tt, c.requires.1.1.1.1.1.1.0, awaits_first c.args.pass, refl)
 
 pub loop-preserved-in-Excluded : goal.loop-preserved-in-Excluded
 loop-preserved-in-Excluded g c =
@@ -29,7 +29,7 @@ loop-preserved g c =
     )
 
 pub between-requires : goal.between-requires
-between-requires g c = between_phases c.args.who g.operation c.loop.pass (due_still c.args.who g.operation c.args.pass c.loop.pass c.requires.1.1.1.1.1.1 c.loop.invariant.3)
+between-requires g c = between_phases c.args.who g.operation c.loop.pass (due_still c.args.who g.operation c.args.pass c.loop.pass c.requires.1.1.1.1.1.1.1 c.loop.invariant.3)
 
 pub finish_phase-requires-clause-phase : goal.finish_phase-requires-clause-phase
 finish_phase-requires-clause-phase g c =
@@ -44,9 +44,9 @@ returns-in-Phased g c =
 pub returns-in-Away : goal.returns-in-Away
 returns-in-Away g c =
     phase_ended c.args.who g.operation c.args.pass c.loop.pass c.in-Ok.after c.finish_phase.result.0 (g.D.Desk.report c.args.desk.now) (g.D.Desk.report c.between.new.self) (g.D.Desk.report c.finish_phase.new.desk) c.in-Away.asked (is_some c.in-Away.ticket.monitor)
-    c.finish_phase.result.1 c.requires.1.1.1.1.1.1 c.loop.invariant.3 (c.between.ensures ∙ c.loop.invariant.4)
+    c.finish_phase.result.1 c.requires.1.1.1.1.1.1.1 c.loop.invariant.3 (c.between.ensures ∙ c.loop.invariant.4)
     (subst (λ (x : PhaseLook g.row.G.Denot g.row.G-M.Denot g.row.G-E.Denot g.row.G-Z.Denot). HasStepped c.args.who g.operation c.loop.pass c.in-Ok.after c.in-Ok.place x) c.in-Away.is c.in-Ok.ensures.ok) c.finish_phase.ensures
 
 pub returns-in-Err : goal.returns-in-Err
 returns-in-Err g c =
-    lost_between c.args.who g.operation c.args.pass c.loop.pass c.in-Err.after (g.D.Desk.report c.args.desk.now) (g.D.Desk.report c.between.new.self) c.requires.1.1.1.1.1.1 c.loop.invariant.3 (c.between.ensures ∙ c.loop.invariant.4) c.in-Err.ensures.spent
+    lost_between c.args.who g.operation c.args.pass c.loop.pass c.in-Err.after (g.D.Desk.report c.args.desk.now) (g.D.Desk.report c.between.new.self) c.requires.1.1.1.1.1.1.1 c.loop.invariant.3 (c.between.ensures ∙ c.loop.invariant.4) c.in-Err.ensures.spent

@@ -6,7 +6,7 @@ use Rattle.domain_obj.proofs.GoingOn.{RunsPhase, due_to_run, ended_so, goes_on_a
 use Rattle.domain_obj.proofs.operating.phases.run_phases.Goals as goal
 
 pub loop-init : goal.loop-init
-loop-init g c = (tt, tt, c.requires.1.1.1.1.1.0, goes_on_first c.args.who g.operation c.args.pass (g.D.Desk.report c.args.desk.now) c.requires.1.1.1.1.1.1)
+loop-init g c = (tt, tt, c.requires.1.1.1.1.1.1.0, goes_on_first c.args.who g.operation c.args.pass (g.D.Desk.report c.args.desk.now) c.requires.1.1.1.1.1.1.1)
 
 pub loop-preserved : goal.loop-preserved
 loop-preserved g c =
