@@ -8,7 +8,7 @@ use virt_types::{Answer, AnswerValue, Command, DomainDef, Fault};
 /// Sends a command to a guest's monitor. Where there is none yet, the command is not sent, and is answered Ok without a
 /// value.
 pub(crate) fn send<M: Monitor>(monitor: &mut Option<M>, command: &Command) -> Answer
-    ensures { IsSent G.M.ends G.M.faults G.M.exchanges command.now monitor.old monitor.new result }
+    ensures { IsSent M.ends M.faults M.exchanges command.now monitor.old monitor.new result }
 {
     match monitor {
         Some(monitor) => monitor.ask(command),
