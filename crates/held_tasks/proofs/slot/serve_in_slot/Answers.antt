@@ -20,6 +20,13 @@ serve_with-means-requires-clause-own g c =
     let own = domain_own a.slot a.cells.now.list a.cells.now.store a.cells.now.domains.items a.row c.requires p.0 p.1 p.2 p.3 p.4 c.into_parts-list.ensures t.1.before t.0 t.1.after c.take-pass.ensures.all c.take-pass.ensures.slot c.index-domain.result.now c.index-domain.ensures in
     c.look-pass.ensures.same.cell ∙ own
 
+pub look-pass-requires : goal.look-pass-requires
+look-pass-requires g c =
+    let a = c.args in
+    let p = c.into_parts-list.result in
+    let t = c.take-pass.result in
+    domain_own a.slot a.cells.now.list a.cells.now.store a.cells.now.domains.items a.row c.requires p.0 p.1 p.2 p.3 p.4 c.into_parts-list.ensures t.1.before t.0 t.1.after c.take-pass.ensures.all c.take-pass.ensures.slot c.index-domain.result.now c.index-domain.ensures
+
 pub look-pass-requires-2 : goal.look-pass-requires-2
 look-pass-requires-2 g c =
     let a = c.args in
