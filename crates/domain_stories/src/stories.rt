@@ -35,9 +35,9 @@ pub(crate) struct Story {
     /// The ticket of the domain's first turn.
     pub(crate) first_ticket: u64,
     pub(crate) parts: &'static [Part],
-    /// Where many threads do the same: what a thread may be told, and how many marks its pass leaves then. How many were told
-    /// so is in the row, and not who.
-    pub(crate) told: &'static [(&'static str, u64)],
+    /// Where many threads do the same: what a thread may be told, with the number of marks that its pass leaves then. How many
+    /// were told so is in the row, and not who.
+    pub(crate) told: &'static [&'static str],
 }
 
 /// The last ticket.
@@ -187,9 +187,9 @@ pub(crate) const STORIES: &[Story] = &[
             },
         ],
         told: &[
-            ("start Ok, suspend Ok, ", 9),
-            ("suspend Ok, ", 2),
-            ("suspend 203 32, ", 1),
+            "start Ok, suspend Ok, 9",
+            "suspend Ok, 2",
+            "suspend 203 32, 1",
         ],
     },
     // A guest whose ears have always one more event is heard 64 times at once.

@@ -11,14 +11,6 @@ pub(crate) fn is_full(reply: &Reply) -> bool {
     }
 }
 
-/// The state that was read.
-pub(crate) fn state_of(queried: &Queried) -> Option<u32> {
-    match queried {
-        Queried::Read(Reply::Ok(Value::Info(info)), _) => Some(info.as_ref().state.number()),
-        _ => None,
-    }
-}
-
 fn put_state(row: &mut Row, info: &DomainInfo) {
     row.put("state ");
     row.put_number(info.state.number() as u64);
