@@ -1,0 +1,5 @@
+use Rattle.lane_bench.specs.Reading.{IsReader}
+use Rattle.lane_bench.proofs.connection.read_all.Given as goal
+
+abbrev pub invariant-loop : goal.invariant-loop
+invariant-loop g l = IsReader l.cell l.own

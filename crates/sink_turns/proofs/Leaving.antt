@@ -1,0 +1,47 @@
+-- What a message or a flush leaves, as its caller sees it.
+use Rattle.std.proofs.Common.{◌≡◌, ◌<◌, ◌≤◌, ◌++◌, ℕ, Bool, true, false, List, [], ◌∷◌, length, take, Option, Result, Ok, Err, refl, sym, ap, ◌∙◌, subst, arith}
+use Rattle.std.specs.Io.KnownBytes.{Appends}
+use Rattle.outside_spec.specs.Faults.{Rose}
+use Rattle.sink_turns.specs.declared.mark.Deed.{Deed}
+use Rattle.sink_turns.specs.declared.mark.Deed.TheVariants.{Said, Put, Cut}
+use Rattle.sink_turns.specs.declared.mark.Mark.{Mark}
+use Rattle.sink_turns.specs.declared.mark.Start.{Start}
+use Rattle.sink_turns.specs.declared.message.Message.{Message}
+use Rattle.sink_turns.specs.declared.out.TheConstants.{MOST_WAITING}
+use Rattle.sink_turns.specs.Marks.{marks_by}
+use Rattle.sink_turns.specs.Saying.{Adds, Keeps, Spoken}
+use Rattle.sink_turns.specs.Text.{text}
+use Rattle.sink_turns.proofs.Noting.{keeps_cut, keeps_failed, keeps_flushed, keeps_put, keeps_said}
+
+module _ (by : ℕ) (o now new : Spoken) (waits : List ℕ) (cut : Bool) (was : Keeps o waits cut) (view : o ≡ now) (calm : (text now.marks).cut ≡ false) (start : new.start ≡ o.start) where
+  sound : cut ≡ false
+  sound = was.cut_is ∙ (ap (λ (s : Spoken). (text s.marks).cut) view ∙ calm)
+
+  pub these_wait : waits ≡ (text now.marks).waits
+  these_wait = was.waits_are sound ∙ ap (λ (s : Spoken). (text s.marks).waits) view
+
+  pub adds : (deeds : List Deed) → new.marks ≡ o.marks ++ marks_by by deeds → Adds by deeds now new
+  adds deeds marks = record {
+    start = start ∙ ap (λ (s : Spoken). s.start) view;
+    marks = marks ∙ ap (λ (s : Spoken). s.marks ++ marks_by by deeds) view;
+  }
+
+  pub left_said : (m : Message) (left : List ℕ) → length ((text now.marks).waits ++ m.bytes) ≤ MOST_WAITING → new.marks ≡ o.marks ++ marks_by by (Said m ∷ []) → new.held ≡ o.held → new.faults ≡ o.faults → left ≡ waits ++ m.bytes → Keeps new left cut
+  left_said m left room marks held faults is =
+      let all : left ≡ (text now.marks).waits ++ m.bytes = is ∙ ap (λ (l : List ℕ). l ++ m.bytes) these_wait in
+      keeps_said by m o new waits cut was start left cut sound refl marks held faults is (subst (λ (l : List ℕ). length l ≤ MOST_WAITING) (sym all) room)
+
+  pub put_said : (m : Message) (left : List ℕ) → new.marks ≡ o.marks ++ marks_by by (Said m ∷ Put ∷ []) → Appends o.held new.held (waits ++ m.bytes) → o.faults ≤ new.faults → left ≡ [] → Keeps new left cut
+  put_said m left marks took later none = keeps_put by m o new waits cut was start left cut sound refl marks took later none
+
+  pub cut_said : (m : Message) (left : List ℕ) (n : ℕ) → new.marks ≡ o.marks ++ marks_by by (Said m ∷ Cut n ∷ []) → n < length (waits ++ m.bytes) → Appends o.held new.held (take n (waits ++ m.bytes)) → o.faults ≤ new.faults → Rose o.faults new.faults → left ≡ [] → Keeps new left true
+  cut_said m left n marks lt took later rose none = keeps_cut by m o new waits cut was start left n sound marks lt took later rose (omega (arith, ap length none))
+
+  pub flushed : (left : List ℕ) → new.marks ≡ o.marks ++ marks_by by (Put ∷ []) → Appends o.held new.held waits → o.faults ≤ new.faults → left ≡ [] → Keeps new left cut
+  flushed left marks took later none = keeps_flushed by o new waits cut was start left cut sound refl marks took later none
+
+  pub failed : (left : List ℕ) (n : ℕ) → new.marks ≡ o.marks ++ marks_by by (Cut n ∷ []) → n < length waits → Appends o.held new.held (take n waits) → o.faults ≤ new.faults → Rose o.faults new.faults → length left ≤ MOST_WAITING → Keeps new left true
+  failed left n marks lt took later rose within = keeps_failed by o new waits cut was start left n sound marks lt took later rose within
+
+  pub cut_within : (n : ℕ) (bytes : List ℕ) → n < length (waits ++ bytes) → n < length ((text now.marks).waits ++ bytes)
+  cut_within n bytes lt = subst (λ (l : List ℕ). n < length (l ++ bytes)) these_wait lt
