@@ -15,9 +15,11 @@ mod sockets;
 use connection::serve;
 use packet::memory::MemorySink;
 use std::alloc::Global;
+use std::sync::Wait;
+use std::thread::Threads;
 use std::{env, io};
 
-fn three_calls(rt: &HostRuntime, alloc: Global) -> Option<()> {
+fn three_calls<R: Threads + Wait + Sync>(rt: &R, alloc: Global) -> Option<()> {
     let mut source = adder::calls(alloc, 3).ok()?;
     serve(rt, alloc, &mut source, MemorySink::new(alloc))
 }

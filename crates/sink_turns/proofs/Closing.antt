@@ -48,9 +48,11 @@ module _ (o : Spoken) (waits : List ℕ) (cut : Bool) (was : Keeps o waits cut) 
         later = omega (arith, was.spoken.later, later);
         wrote = (
           rose_before o.start.faults o.faults f was.spoken.later rose,
-          length sent + n,
-          subst (λ (l : List ℕ). length sent + n < length l) all within,
-          subst (λ (l : List ℕ). Appends o.start.held k (take (length sent + n) l)) all (subst (Appends o.start.held k) (sym (front_is sent waits n)) (Appends-then o.start.held o.held k sent (take n waits) was.spoken.bytes took)),
+          (
+            length sent + n,
+            subst (λ (l : List ℕ). length sent + n < length l) all within,
+            subst (λ (l : List ℕ). Appends o.start.held k (take (length sent + n) l)) all (subst (Appends o.start.held k) (sym (front_is sent waits n)) (Appends-then o.start.held o.held k sent (take n waits) was.spoken.bytes took)),
+          ),
         );
       }
 
@@ -67,9 +69,11 @@ module _ (o : Spoken) (waits : List ℕ) (cut : Bool) (was : Keeps o waits cut) 
         later = was.spoken.later;
         wrote = (
           was.spoken.cause (sym was.cut_is ∙ is),
-          length sent,
-          subst (λ (l : List ℕ). length sent < length l) all_is within,
-          subst (λ (l : List ℕ). Appends o.start.held o.held (take (length sent) l)) all_is (subst (Appends o.start.held o.held) (sym front) was.spoken.bytes),
+          (
+            length sent,
+            subst (λ (l : List ℕ). length sent < length l) all_is within,
+            subst (λ (l : List ℕ). Appends o.start.held o.held (take (length sent) l)) all_is (subst (Appends o.start.held o.held) (sym front) was.spoken.bytes),
+          ),
         );
       }
 

@@ -13,6 +13,10 @@ use Rattle.sink_turns.specs.Saying.{Adds, Keeps, Spoken}
 use Rattle.sink_turns.specs.Text.{text}
 use Rattle.sink_turns.proofs.Noting.{keeps_cut, keeps_failed, keeps_flushed, keeps_put, keeps_said}
 
+-- it has not failed
+pub calm_of : (o now : Spoken) (waits : List ℕ) (cut : Bool) → Keeps o waits cut → o ≡ now → cut ≡ false → (text now.marks).cut ≡ false
+calm_of o now waits cut was view sound = ap (λ (s : Spoken). (text s.marks).cut) (sym view) ∙ (sym was.cut_is ∙ sound)
+
 module _ (by : ℕ) (o now new : Spoken) (waits : List ℕ) (cut : Bool) (was : Keeps o waits cut) (view : o ≡ now) (calm : (text now.marks).cut ≡ false) (start : new.start ≡ o.start) where
   sound : cut ≡ false
   sound = was.cut_is ∙ (ap (λ (s : Spoken). (text s.marks).cut) view ∙ calm)
@@ -45,3 +49,6 @@ module _ (by : ℕ) (o now new : Spoken) (waits : List ℕ) (cut : Bool) (was : 
 
   pub cut_within : (n : ℕ) (bytes : List ℕ) → n < length (waits ++ bytes) → n < length ((text now.marks).waits ++ bytes)
   cut_within n bytes lt = subst (λ (l : List ℕ). n < length (l ++ bytes)) these_wait lt
+
+  pub failed_within : (n : ℕ) → n < length waits → n < length (text now.marks).waits
+  failed_within n lt = subst (λ (l : List ℕ). n < length l) these_wait lt

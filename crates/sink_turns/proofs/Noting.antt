@@ -66,7 +66,7 @@ module _ (by : ℕ) (m : Message) (o new : Spoken) (waits : List ℕ) (cut : Boo
   pub keeps_put : (left : List ℕ) (now : Bool) → cut ≡ false → now ≡ cut → new.marks ≡ o.marks ++ marks_by by (Said m ∷ Put ∷ []) → Appends o.held new.held (waits ++ m.bytes) → o.faults ≤ new.faults → left ≡ [] → Keeps new left now
   keeps_put left now sound same marks took later none =
       let calm : (text o.marks).cut ≡ false = sym was.cut_is ∙ sound in
-      keeps_more by (Said m ∷ Put ∷ []) (waits ++ m.bytes) o new left now was.spoken (text_after (text o.marks) (marks_by by (Said m ∷ Put ∷ []))) refl start marks (calm, calm, tt)
+      keeps_more by (Said m ∷ Put ∷ []) (waits ++ m.bytes) o new left now was.spoken (text_after (text o.marks) (marks_by by (Said m ∷ Put ∷ []))) refl start marks (calm, (calm, tt))
       (ap (λ (l : List ℕ). (text o.marks).sent ++ (l ++ m.bytes)) (sym (was.waits_are sound))) took later
       (λ c. absurd (true≢false (sym c ∙ calm))) (same ∙ was.cut_is) (λ _. none) (omega (arith, ap length none))
 
@@ -77,7 +77,7 @@ module _ (by : ℕ) (m : Message) (o new : Spoken) (waits : List ℕ) (cut : Boo
       let calm : (text o.marks).cut ≡ false = sym was.cut_is ∙ sound in
       let w : waits ≡ (text o.marks).waits = was.waits_are sound in
       keeps_more by (Said m ∷ Cut n ∷ []) (take n (waits ++ m.bytes)) o new left true was.spoken (text_after (text o.marks) (marks_by by (Said m ∷ Cut n ∷ []))) refl start marks
-      (calm, (calm, subst (λ (l : List ℕ). n < length (l ++ m.bytes)) w lt), tt)
+      (calm, ((calm, subst (λ (l : List ℕ). n < length (l ++ m.bytes)) w lt), tt))
       (ap (λ (l : List ℕ). (text o.marks).sent ++ take n (l ++ m.bytes)) (sym w)) took later
       (λ c. rose_before o.start.faults o.faults new.faults was.spoken.later rose) refl (λ c. absurd (true≢false c)) within
 
