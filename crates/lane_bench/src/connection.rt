@@ -122,7 +122,7 @@ struct Room {
     feed: Feed,
 }
 
-fn room(alloc: Global) -> Option<Room>
+fn make_room(alloc: Global) -> Option<Room>
     ensures { IfSome result (λ room. 0 < vec_len room.chunk) }
 {
     let chunk = vec![in alloc; 0u8; CHUNK].ok()?;
@@ -181,7 +181,7 @@ pub fn serve<R: Threads + Wait + Sync, S: Source, K: Sink + Drop + Send>(
     source: &mut S,
     sink: K,
 ) -> Option<()> {
-    let room = room(alloc)?;
+    let room = make_room(alloc)?;
     let service = Adder { alloc };
     let (cell, pass) = open(alloc, sink).ok()?;
     run(rt, &service, &cell, source, pass, room)

@@ -3,7 +3,7 @@ use Rattle.std.proofs.Common.{◌≡◌, ◌⊎◌, ◌+◌, ◌<◌, ◌++◌, 
 use Rattle.std.specs.Prelude.{if◌then◌else◌}
 use Rattle.std.proofs.lemmas.Grind.{flat_map-append}
 use Rattle.history_spec.specs.Chapter.{tagged}
-use Rattle.turn_cell.specs.Turning.{Went}
+use Rattle.turn_cell.specs.Turning.{SamePass, Went}
 use Rattle.turn_cell.proofs.Turning.{went_nowhere, went_on}
 use Rattle.sink_turns.specs.declared.mark.Deed.{Deed}
 use Rattle.sink_turns.specs.declared.mark.Deed.TheVariants.{Said, Put, Cut}
@@ -37,6 +37,19 @@ gone_done So n ds first b c g h = ⊎_elim
     (c, subst (λ (l : List (ℕ × Mark)). Went meaning (n + 1) l first c) (tagged_more first.number ds h.deeds) both, inl refl))
     (λ (is : b ≡ record g.0 { spent = true }). absurd (true≢false (sym (ap (λ (p : OutPass). p.spent) is) ∙ h.fresh)))
     g.2
+
+same_spent : (a p b : OutPass) → SamePass a p → b ≡ record p { spent = true } → SamePass a b
+same_spent a p b same is = record {
+  cell = ap (λ (q : OutPass). q.cell) is ∙ same.cell;
+  first = ap (λ (q : OutPass). q.first) is ∙ same.first;
+  number = ap (λ (q : OutPass). q.number) is ∙ same.number;
+  parts = ap (λ (q : OutPass). q.parts) is ∙ same.parts;
+  ended = ap (λ (q : OutPass). q.ended) is ∙ same.ended;
+}
+
+-- it is still the same pass
+pub gone_same : (n : ℕ) (ds : List Deed) (a b : OutPass) → HasGone n ds a b → SamePass a b
+gone_same n ds a b g = ⊎_elim (λ (is : b ≡ g.0). subst (SamePass a) (sym is) g.1.same) (λ (is : b ≡ record g.0 { spent = true }). same_spent a g.0 b g.1.same is) g.2
 
 pub continues_itself : (p : OutPass) → Continues [] p p
 continues_itself p = λ first n ds g. (n, [], subst (λ (l : List Deed). HasGone n l first p) (sym (append-nil ds)) g, refl)

@@ -11,12 +11,12 @@ use Rattle.sink_turns.specs.Keeping.{OutPass}
 use Rattle.sink_turns.specs.Told.{IsFlushed, IsSaid}
 use Rattle.lane_workers.specs.Answering.{Answered, AnswersAll, answered}
 use Rattle.lane_workers.specs.Steps.{Continues, HasSaid, HasTried, IsHeard, IsHeardOf, SoFar, Turns, stop_of, took}
-use Rattle.lane_workers.specs.Working.{HasGone, HasWorked, IsStopped, MayWork, SeesFault, messages_of}
+use Rattle.lane_workers.specs.Working.{HasGone, HasWorked, IsStopped, MayWork, ShowsWhy, messages_of}
 use Rattle.lane_workers.specs.declared.worker.Stop.{Stop}
 use Rattle.lane_workers.specs.declared.worker.Stop.TheVariants.{NoMemory, NotSaid as Unheard}
 use Rattle.lane_workers.specs.declared.worker.Worked.{Worked}
 use Rattle.lane_workers.specs.declared.worker.Worker.{Worker}
-use Rattle.lane_workers.proofs.Passing.{continues_itself, continues_then, flushed_cell, flushed_continues, gone_nowhere, messages_more, said_cell, said_continues, sees_fault}
+use Rattle.lane_workers.proofs.Passing.{continues_itself, continues_then, flushed_cell, flushed_continues, gone_nowhere, gone_same, messages_more, said_cell, said_continues, sees_fault}
 
 module _ {T W K : Type 0} where
   abbrev worker_of : End T → OutPass → W → Worker T W K
@@ -36,11 +36,11 @@ module _ {T W K : Type 0} where
     row = k.row ∙ h.row;
   }
 
-  fault_seen : (m : Message) (more : Bool) (r : Result (Unit {0}) NotSaid) (w : Worker T W K) (before : OutPass) → IsSaid m more r before w.pass → SeesFault (stop_of r) w
-  fault_seen m more (Ok u) w before h = tt
-  fault_seen m more (Err not.Spent) w before h = tt
-  fault_seen m more (Err (not.Fault unsaid.SinkFault)) w before h = sees_fault m more before w.pass h
-  fault_seen m more (Err (not.Fault unsaid.NoMemory)) w before h = tt
+  why_shown : (m : Message) (more : Bool) (r : Result (Unit {0}) NotSaid) (w : Worker T W K) (before : OutPass) → IsSaid m more r before w.pass → ShowsWhy (stop_of r) w
+  why_shown m more (Ok u) w before h = tt
+  why_shown m more (Err not.Spent) w before h = ap (λ (p : OutPass). p.spent) h
+  why_shown m more (Err (not.Fault unsaid.SinkFault)) w before h = sees_fault m more before w.pass h
+  why_shown m more (Err (not.Fault unsaid.NoMemory)) w before h = tt
 
   pub has_said : (m : Message) (more : Bool) (lane lane' : End T) (row : W) (r : Result (Unit {0}) NotSaid) (stop : Option Stop) (before after : OutPass) → IsSaid m more r before after → lane' ≡ lane → stop ≡ stop_of r
       → HasSaid m stop (worker_of lane before row) (worker_of lane' after row)
@@ -50,7 +50,7 @@ module _ {T W K : Type 0} where
         own = c.0;
         turned = record { pass = c.1; cell = said_cell m more r before after h; lane = same; row = refl };
         heard = subst (λ (s : Option Stop). IsHeard m s c.0) (sym is) c.2;
-        fault = subst (λ (s : Option Stop). SeesFault s (worker_of lane' after row)) (sym is) (fault_seen m more r (worker_of lane' after row) before h);
+        shows = subst (λ (s : Option Stop). ShowsWhy s (worker_of lane' after row)) (sym is) (why_shown m more r (worker_of lane' after row) before h);
       }
 
   -- it may go on with its lane, its pass and a row
@@ -72,7 +72,7 @@ module _ {T W K : Type 0} (HasAnswered : W → T → Option Message → W → Ty
     };
     ran = subst (λ (z : W × W). HasAnswered z.0 piece (Some m) z.1) (λ i. (flush.row i, sym heard.turned.row i)) ran;
     heard = heard.heard;
-    fault = heard.fault;
+    shows = heard.shows;
   }
 
   -- there was no memory for the message
@@ -89,7 +89,7 @@ module _ {T W K : Type 0} (HasAnswered : W → T → Option Message → W → Ty
     };
     ran = subst (λ (z : W × W). HasAnswered z.0 piece None z.1) (λ i. (flush.row i, sym more.row i)) ran;
     heard = (refl, refl);
-    fault = tt;
+    shows = tt;
   }
 
   pub so_far_none : (w : Worker T W K) → SoFar HasAnswered w w
@@ -141,9 +141,9 @@ module _ {T W K : Type 0} (HasAnswered : W → T → Option Message → W → Ty
   stopped_of before now after piece None own NoMemory so turned ran heard = (piece, refl, ran, heard.1)
   stopped_of before now after piece None own (Unheard why) so turned ran heard = let e : Some (Unheard why) ≡ Some NoMemory = heard.0 in absurd (cc)
 
-  worked_of : (is_row : W → Type 0) (before now after : Worker T W K) (piece : T) (stop : Option Stop) → SoFar HasAnswered before now → HasTried HasAnswered piece stop (took now piece) after → after.pass.cell ≡ before.pass.cell → is_row after.row → stop ≢ None → HasWorked HasAnswered is_row before (record { worker = after; stop = stop })
-  worked_of is_row before now after piece None so tried cell row some = absurd (some refl)
-  worked_of is_row before now after piece (Some stop) so tried cell row some =
+  worked_of : (is_row : W → Type 0) (before now after : Worker T W K) (piece : T) (stop : Option Stop) → SoFar HasAnswered before now → HasTried HasAnswered piece stop (took now piece) after → is_row after.row → stop ≢ None → HasWorked HasAnswered is_row before (record { worker = after; stop = stop })
+  worked_of is_row before now after piece None so tried row some = absurd (some refl)
+  worked_of is_row before now after piece (Some stop) so tried row some =
       let xs = so.answered in
       let g = tried.turned.pass before.pass so.turns so.deeds so.went in
       record {
@@ -158,19 +158,19 @@ module _ {T W K : Type 0} (HasAnswered : W → T → Option Message → W → Ty
         went = g.2;
         said_all = messages_more so.deeds g.1 ∙ (λ i. so.said_all i ++ g.3 i);
         stopped = stopped_of before now after piece tried.message tried.own stop so tried.turned tried.ran tried.heard;
-        fault = tried.fault;
-        cell = cell;
+        shows = tried.shows;
+        same = gone_same g.0 (so.deeds ++ g.1) before.pass after.pass g.2;
         row = row;
         all = λ none. absurd (some none);
       }
 
-  pub worked_stop : (is_row : W → Type 0) (before now taken after : Worker T W K) (piece : T) (stop : Option Stop) → SoFar HasAnswered before now → taken ≡ took now piece → HasTried HasAnswered piece stop taken after → after.pass.cell ≡ before.pass.cell → is_row after.row → stop ≢ None
+  pub worked_stop : (is_row : W → Type 0) (before now taken after : Worker T W K) (piece : T) (stop : Option Stop) → SoFar HasAnswered before now → taken ≡ took now piece → HasTried HasAnswered piece stop taken after → is_row after.row → stop ≢ None
       → HasWorked HasAnswered is_row before (record { worker = after; stop = stop })
-  worked_stop is_row before now taken after piece stop so is tried cell row some = worked_of is_row before now after piece stop so (subst (λ (w : Worker T W K). HasTried HasAnswered piece stop w after) is tried) cell row some
+  worked_stop is_row before now taken after piece stop so is tried row some = worked_of is_row before now after piece stop so (subst (λ (w : Worker T W K). HasTried HasAnswered piece stop w after) is tried) row some
 
   -- the lane was closed and empty
-  pub worked_all : (is_row : W → Type 0) (before now last : Worker T W K) → SoFar HasAnswered before now → last ≡ now → now.pass.cell ≡ before.pass.cell → is_row now.row → (now.lane.puts ≡ true → now.lane.put ≡ now.lane.taken) → HasWorked HasAnswered is_row before (record { worker = last; stop = None })
-  worked_all is_row before now last so is cell row all =
+  pub worked_all : (is_row : W → Type 0) (before now last : Worker T W K) → SoFar HasAnswered before now → last ≡ now → is_row now.row → (now.lane.puts ≡ true → now.lane.put ≡ now.lane.taken) → HasWorked HasAnswered is_row before (record { worker = last; stop = None })
+  worked_all is_row before now last so is row all =
       let pieces : List T = map (λ (a : Answered T). a.piece) so.answered in
       subst (λ (w : Worker T W K). HasWorked HasAnswered is_row before (record { worker = w; stop = None })) (sym is) (record {
         answered = so.answered;
@@ -184,8 +184,8 @@ module _ {T W K : Type 0} (HasAnswered : W → T → Option Message → W → Ty
         went = so.went;
         said_all = so.said_all ∙ sym (append-nil (map (λ (a : Answered T). a.message) so.answered));
         stopped = (refl, refl, refl);
-        fault = tt;
-        cell = cell;
+        shows = tt;
+        same = gone_same so.turns so.deeds before.pass now.pass so.went;
         row = row;
         all = λ _ puts. all (ap (λ (e : End T). e.puts) so.lane ∙ puts);
       })

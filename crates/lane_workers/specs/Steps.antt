@@ -6,7 +6,7 @@ use Rattle.sink_turns.specs.declared.message.Message.{Message}
 use Rattle.sink_turns.specs.declared.turns.NotSaid.{NotSaid}
 use Rattle.sink_turns.specs.Keeping.{OutPass}
 use Rattle.lane_workers.specs.Answering.{Answered, AnswersAll}
-use Rattle.lane_workers.specs.Working.{HasGone, IsCut, SeesFault, messages_of}
+use Rattle.lane_workers.specs.Working.{HasGone, IsCut, ShowsWhy, messages_of}
 use Rattle.lane_workers.specs.declared.worker.Stop.{Stop}
 use Rattle.lane_workers.specs.declared.worker.Stop.TheVariants.{NoMemory, NotSaid as Unheard}
 use Rattle.lane_workers.specs.declared.worker.Worker.{Worker}
@@ -44,7 +44,7 @@ module _ {T W K : Type 0} where
     pub own : List Message
     pub turned : Turns own before after
     pub heard : IsHeard message stop own
-    pub fault : SeesFault stop after
+    pub shows : ShowsWhy stop after
 
   -- a piece was taken
   abbrev pub took : Worker T W K → T → Worker T W K
@@ -58,7 +58,7 @@ module _ {T W K : Type 0} (HasAnswered : W → T → Option Message → W → Ty
     pub turned : Turns own (record before { row = after.row }) after
     pub ran : HasAnswered before.row piece message after.row
     pub heard : IsHeardOf message stop own
-    pub fault : SeesFault stop after
+    pub shows : ShowsWhy stop after
 
   -- what a worker did so far
   pub record SoFar (before now : Worker T W K) : Type 0 where

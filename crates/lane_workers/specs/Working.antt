@@ -3,7 +3,7 @@ use Rattle.std.specs.Prelude.{◌≡◌, ◌⊎◌, ◌++◌, ℕ, true, List, [
 use Rattle.std.specs.List.{flat_map}
 use Rattle.atomic_table.specs.Seated.{TableId}
 use Rattle.history_spec.specs.Chapter.{tagged}
-use Rattle.turn_cell.specs.Turning.{Went}
+use Rattle.turn_cell.specs.Turning.{SamePass, Went}
 use Rattle.sink_turns.specs.declared.mark.Deed.{Deed}
 use Rattle.sink_turns.specs.declared.message.Message.{Message}
 use Rattle.sink_turns.specs.declared.out.Unsaid.TheVariants as unsaid
@@ -39,10 +39,11 @@ module _ {T W K : Type 0} where
     pub cell : worker.pass.cell ≡ out
     pub row : is_row service worker.row
 
-  -- where the sink failed, the pass has seen that
-  abbrev pub SeesFault : Option Stop → Worker T W K → Type 0
-  SeesFault (Some (Unheard (not.Fault unsaid.SinkFault))) worker = (text worker.pass.seen.marks).cut ≡ true
-  SeesFault other worker = Unit {0}
+  -- where no ticket is left, the pass says so; where the sink failed, it has seen that
+  abbrev pub ShowsWhy : Option Stop → Worker T W K → Type 0
+  ShowsWhy (Some (Unheard not.Spent)) worker = worker.pass.spent ≡ true
+  ShowsWhy (Some (Unheard (not.Fault unsaid.SinkFault))) worker = (text worker.pass.seen.marks).cut ≡ true
+  ShowsWhy other worker = Unit {0}
 
 module _ {T W K : Type 0} (HasAnswered : W → T → Option Message → W → Type 0) where
   -- why it stopped, and what became of the last piece that it took
@@ -65,8 +66,8 @@ module _ {T W K : Type 0} (HasAnswered : W → T → Option Message → W → Ty
     pub went : HasGone turns deeds before.pass worked.worker.pass
     pub said_all : messages_of deeds ≡ map (λ a. a.message) answered ++ cut
     pub stopped : IsStopped then rest cut worked.stop worked.worker.row
-    pub fault : SeesFault worked.stop worked.worker
-    pub cell : worked.worker.pass.cell ≡ before.pass.cell
+    pub shows : ShowsWhy worked.stop worked.worker
+    pub same : SamePass before.pass worked.worker.pass
     pub row : is_row worked.worker.row
     -- one whose end puts too, and that was not stopped, took all that it put
     pub all : worked.stop ≡ None → before.lane.puts ≡ true → worked.worker.lane.put ≡ worked.worker.lane.taken

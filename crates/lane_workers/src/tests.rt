@@ -1,14 +1,18 @@
-ghost use Rattle.std.specs.Prelude.{◌≡◌};
+ghost use Rattle.std.specs.Prelude.{◌≡◌, true};
 
 use crate::{Answers, Stop, Worker, start, work};
 use lanes::{Lane, ROOM};
 use packet::memory::{Failing, MemorySink};
 use packet::{Header, OK, REPLY};
-use sink_turns::{Message, NotSaid, Unsaid, close, open};
+use sink_turns::{Message, NotSaid, Out, Unsaid, close, open};
 use std::alloc::Global;
 use std::sync::Wait;
 use std::test::Fail;
+use std::thread;
+use std::thread::{Scope, Threads};
+use turn_cell::TurnCell;
 use types_base::Bytes;
+use work_threads::wait;
 
 // Adds each amount to its row, and answers with the low byte of the total. There is no message for 0.
 #[derive(Drop)]
@@ -56,10 +60,20 @@ impl Answers for Adder {
     }
 }
 
+// Puts an amount, where there is room for it.
+fn put_in<R: Wait>(rt: &R, puts: Lane<u32>, amount: u32) -> Lane<u32>
+    requires { puts.puts ≡ true }
+    ensures { result.puts ≡ true }
+{
+    let mut puts = puts;
+    let _put = puts.put(rt, amount);
+    puts
+}
+
 // A worker answers these amounts, and its lane is closed. What the sink holds then, what the row is,
 // and why it stopped.
-fn answer_all(
-    rt: &HostRuntime,
+fn answer_all<R: Wait>(
+    rt: &R,
     alloc: Global,
     sink: MemorySink,
     amounts: &[u32],
@@ -114,5 +128,59 @@ fn a_worker_stops_where_there_is_no_message(rt: HostRuntime) -> Result<(), Fail>
     assert_eq!(rt; sink.bytes(), [1]);
     assert_eq!(rt; total, 1);
     assert_eq!(rt; stop, Some(Stop::NoMemory));
+    Ok(())
+}
+
+#[test]
+fn what_waits_is_put_before_an_answer_that_may_take_long(rt: HostRuntime) -> Result<(), Fail> {
+    let alloc = rt.alloc();
+    // The first piece that is put ends before that answer.
+    let sink = MemorySink::new(alloc).failing(Failing::From(2));
+    let (sink, total, _) = answer_all(&rt, alloc, sink, &[1, 2, 200])?;
+    assert_eq!(rt; sink.bytes(), [1, 3]);
+    assert_eq!(rt; total, 203);
+    Ok(())
+}
+
+// Starts a worker, puts three amounts and closes the lane. What the row is then, and why it stopped.
+fn add_three<'s, E, R: Threads + Wait + Sync + 's>(
+    scope: &Scope<'s, E>,
+    rt: &'s R,
+    service: &'s Adder,
+    cell: &'s TurnCell<Out<MemorySink>>,
+    worker: Worker<u32, u32, MemorySink>,
+    puts: Lane<u32>,
+) -> (u32, Option<Stop>)
+    requires puts { puts.puts ≡ true }
+    requires takes { worker.lane.takes ≡ true }
+    requires own { worker.pass.cell ≡ cell.now }
+{
+    let started = start(scope, rt, service, cell, worker, &puts);
+    let puts = put_in(rt, puts, 1);
+    let puts = put_in(rt, puts, 2);
+    let puts = put_in(rt, puts, 3);
+    puts.close();
+    let worked = wait(rt, started);
+    (worked.worker.row, worked.stop)
+}
+
+#[test]
+fn a_worker_in_a_thread_answers_what_is_put(rt: HostRuntime) -> Result<(), Fail> {
+    let alloc = rt.alloc();
+    let (puts, lane) = Lane::new(alloc, ROOM)?;
+    let Ok((cell, pass)) = open(alloc, MemorySink::new(alloc)) else {
+        return Err("memory".into());
+    };
+    let service = Adder { alloc };
+    let worker = Worker { lane, pass, row: 0 };
+    let (total, stop) = thread::scope(
+        thread::scope_env(),
+        &rt,
+        |scope| -> (u32, Option<Stop>)
+            requires { (puts.puts ≡ true) × (worker.lane.takes ≡ true) × (worker.pass.cell ≡ cell) }
+        { add_three(scope, &rt, &service, &cell, worker, puts) },
+    );
+    assert_eq!(rt; total, 6);
+    assert_eq!(rt; stop, None);
     Ok(())
 }

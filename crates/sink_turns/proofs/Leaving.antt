@@ -17,12 +17,23 @@ use Rattle.sink_turns.proofs.Noting.{keeps_cut, keeps_failed, keeps_flushed, kee
 pub calm_of : (o now : Spoken) (waits : List ℕ) (cut : Bool) → Keeps o waits cut → o ≡ now → cut ≡ false → (text now.marks).cut ≡ false
 calm_of o now waits cut was view sound = ap (λ (s : Spoken). (text s.marks).cut) (sym view) ∙ (sym was.cut_is ∙ sound)
 
-module _ (by : ℕ) (o now new : Spoken) (waits : List ℕ) (cut : Bool) (was : Keeps o waits cut) (view : o ≡ now) (calm : (text now.marks).cut ≡ false) (start : new.start ≡ o.start) where
+module _ (o now : Spoken) (waits : List ℕ) (cut : Bool) (was : Keeps o waits cut) (view : o ≡ now) (calm : (text now.marks).cut ≡ false) where
   sound : cut ≡ false
   sound = was.cut_is ∙ (ap (λ (s : Spoken). (text s.marks).cut) view ∙ calm)
 
-  pub these_wait : waits ≡ (text now.marks).waits
+  these_wait : waits ≡ (text now.marks).waits
   these_wait = was.waits_are sound ∙ ap (λ (s : Spoken). (text s.marks).waits) view
+
+  -- a front of what waits, and of that and a message
+  pub within_all : (n : ℕ) → n < length waits → n < length (text now.marks).waits
+  within_all n lt = subst (λ (l : List ℕ). n < length l) these_wait lt
+
+  pub within_both : (n : ℕ) (bytes : List ℕ) → n < length (waits ++ bytes) → n < length ((text now.marks).waits ++ bytes)
+  within_both n bytes lt = subst (λ (l : List ℕ). n < length (l ++ bytes)) these_wait lt
+
+module _ (by : ℕ) (o now new : Spoken) (waits : List ℕ) (cut : Bool) (was : Keeps o waits cut) (view : o ≡ now) (calm : (text now.marks).cut ≡ false) (start : new.start ≡ o.start) where
+  is_sound : cut ≡ false
+  is_sound = sound o now waits cut was view calm
 
   pub adds : (deeds : List Deed) → new.marks ≡ o.marks ++ marks_by by deeds → Adds by deeds now new
   adds deeds marks = record {
@@ -32,23 +43,17 @@ module _ (by : ℕ) (o now new : Spoken) (waits : List ℕ) (cut : Bool) (was : 
 
   pub left_said : (m : Message) (left : List ℕ) → length ((text now.marks).waits ++ m.bytes) ≤ MOST_WAITING → new.marks ≡ o.marks ++ marks_by by (Said m ∷ []) → new.held ≡ o.held → new.faults ≡ o.faults → left ≡ waits ++ m.bytes → Keeps new left cut
   left_said m left room marks held faults is =
-      let all : left ≡ (text now.marks).waits ++ m.bytes = is ∙ ap (λ (l : List ℕ). l ++ m.bytes) these_wait in
-      keeps_said by m o new waits cut was start left cut sound refl marks held faults is (subst (λ (l : List ℕ). length l ≤ MOST_WAITING) (sym all) room)
+      let all : left ≡ (text now.marks).waits ++ m.bytes = is ∙ ap (λ (l : List ℕ). l ++ m.bytes) (these_wait o now waits cut was view calm) in
+      keeps_said by m o new waits cut was start left cut is_sound refl marks held faults is (subst (λ (l : List ℕ). length l ≤ MOST_WAITING) (sym all) room)
 
   pub put_said : (m : Message) (left : List ℕ) → new.marks ≡ o.marks ++ marks_by by (Said m ∷ Put ∷ []) → Appends o.held new.held (waits ++ m.bytes) → o.faults ≤ new.faults → left ≡ [] → Keeps new left cut
-  put_said m left marks took later none = keeps_put by m o new waits cut was start left cut sound refl marks took later none
+  put_said m left marks took later none = keeps_put by m o new waits cut was start left cut is_sound refl marks took later none
 
   pub cut_said : (m : Message) (left : List ℕ) (n : ℕ) → new.marks ≡ o.marks ++ marks_by by (Said m ∷ Cut n ∷ []) → n < length (waits ++ m.bytes) → Appends o.held new.held (take n (waits ++ m.bytes)) → o.faults ≤ new.faults → Rose o.faults new.faults → left ≡ [] → Keeps new left true
-  cut_said m left n marks lt took later rose none = keeps_cut by m o new waits cut was start left n sound marks lt took later rose (omega (arith, ap length none))
+  cut_said m left n marks lt took later rose none = keeps_cut by m o new waits cut was start left n is_sound marks lt took later rose (omega (arith, ap length none))
 
   pub flushed : (left : List ℕ) → new.marks ≡ o.marks ++ marks_by by (Put ∷ []) → Appends o.held new.held waits → o.faults ≤ new.faults → left ≡ [] → Keeps new left cut
-  flushed left marks took later none = keeps_flushed by o new waits cut was start left cut sound refl marks took later none
+  flushed left marks took later none = keeps_flushed by o new waits cut was start left cut is_sound refl marks took later none
 
   pub failed : (left : List ℕ) (n : ℕ) → new.marks ≡ o.marks ++ marks_by by (Cut n ∷ []) → n < length waits → Appends o.held new.held (take n waits) → o.faults ≤ new.faults → Rose o.faults new.faults → length left ≤ MOST_WAITING → Keeps new left true
-  failed left n marks lt took later rose within = keeps_failed by o new waits cut was start left n sound marks lt took later rose within
-
-  pub cut_within : (n : ℕ) (bytes : List ℕ) → n < length (waits ++ bytes) → n < length ((text now.marks).waits ++ bytes)
-  cut_within n bytes lt = subst (λ (l : List ℕ). n < length (l ++ bytes)) these_wait lt
-
-  pub failed_within : (n : ℕ) → n < length waits → n < length (text now.marks).waits
-  failed_within n lt = subst (λ (l : List ℕ). n < length l) these_wait lt
+  failed left n marks lt took later rose within = keeps_failed by o new waits cut was start left n is_sound marks lt took later rose within

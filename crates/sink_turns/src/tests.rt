@@ -4,6 +4,7 @@ use crate::{Message, NotSaid, Unsaid, close, flush_once, open, say_once};
 use packet::memory::{Failing, MemorySink};
 use packet::{Header, MESSAGE, OK};
 use std::alloc::Global;
+use std::sync::Wait;
 use std::test::Fail;
 use types_base::{Bytes, Failed};
 
@@ -44,9 +45,19 @@ fn messages_of_a_burst_are_put_in_one_piece(rt: HostRuntime) -> Result<(), Fail>
     Ok(())
 }
 
-// Says two messages of six bytes in all, the first of them left to wait or not, and then one more, at
-// a sink that takes a byte at a time and fails once it took so many.
-fn say_at(rt: &HostRuntime, alloc: Global, most: u64, more: bool) -> Result<(), Fail>
+// What three messages and the close were answered, and the sink.
+#[derive(Drop)]
+struct Answers {
+    first: Result<(), NotSaid>,
+    second: Result<(), NotSaid>,
+    third: Result<(), NotSaid>,
+    end: Result<(), Failed>,
+    sink: MemorySink,
+}
+
+// Says three messages at a sink that takes a byte at a time and fails once it took so many. With `more`
+// the first one waits for the second.
+fn say_three<R: Wait>(rt: &R, alloc: Global, most: u64, more: bool) -> Result<Answers, Fail>
     requires { most < 8 }
 {
     let sink = MemorySink::new(alloc)
@@ -57,23 +68,38 @@ fn say_at(rt: &HostRuntime, alloc: Global, most: u64, more: bool) -> Result<(), 
     };
     let (pass, first) = say_once(rt, &cell, pass, &message(alloc, b"abc")?, more);
     let (pass, second) = say_once(rt, &cell, pass, &message(alloc, b"def")?, false);
-    let failed = Err(NotSaid::Fault(Unsaid::SinkFault));
-    assert_eq!(rt; first, if more || most >= 3 { Ok(()) } else { failed });
-    assert_eq!(rt; second, if most >= 6 { Ok(()) } else { failed });
     let (pass, third) = say_once(rt, &cell, pass, &message(alloc, b"g")?, false);
-    assert_eq!(rt; third, if most >= 7 { Ok(()) } else { failed });
-    let (sink, ended) = close(cell, pass);
-    assert_eq!(rt; ended, if most >= 7 { Ok(()) } else { Err(Failed) });
-    assert_eq!(rt; sink.bytes().len() as u64, most.min(7));
-    assert!(rt; b"abcdefg".starts_with(sink.bytes()));
-    Ok(())
+    let (sink, end) = close(cell, pass);
+    Ok(Answers {
+        first,
+        second,
+        third,
+        end,
+        sink,
+    })
+}
+
+// The answer where all is well, or the sink has failed.
+fn answer(is_well: bool) -> Result<(), NotSaid> {
+    if is_well {
+        Ok(())
+    } else {
+        Err(NotSaid::Fault(Unsaid::SinkFault))
+    }
 }
 
 #[test]
 fn a_sink_that_fails_after_each_number_of_bytes(rt: HostRuntime) -> Result<(), Fail> {
     for most in 0u64..8 {
-        say_at(&rt, rt.alloc(), most, false)?;
-        say_at(&rt, rt.alloc(), most, true)?;
+        for more in [false, true] {
+            let got = say_three(&rt, rt.alloc(), most, more)?;
+            assert_eq!(rt; got.first, answer(more || most >= 3));
+            assert_eq!(rt; got.second, answer(most >= 6));
+            assert_eq!(rt; got.third, answer(most >= 7));
+            assert_eq!(rt; got.end.is_ok(), most >= 7);
+            assert_eq!(rt; got.sink.bytes().len() as u64, most.min(7));
+            assert!(rt; b"abcdefg".starts_with(got.sink.bytes()));
+        }
     }
     Ok(())
 }

@@ -1,5 +1,6 @@
 ghost use Rattle.std.specs.Prelude.{◌≡◌, ℕ, IfErr, IfOk};
 ghost use Rattle.turn_cell.specs.Passes.{IsFirst};
+ghost use Rattle.turn_cell.specs.Turning.{SamePass};
 ghost use Rattle.sink_turns.specs.Keeping.{meaning};
 ghost use Rattle.sink_turns.specs.Saying.{Flushes, Says, opened};
 ghost use Rattle.sink_turns.specs.Told.{IsFlushed, IsSaid};
@@ -93,7 +94,8 @@ pub fn say_once<K: Sink + Drop, R: Wait>(
     more: bool,
 ) -> (OutPass<K>, Result<(), NotSaid>)
     requires { pass.cell ≡ cell.now }
-    ensures { IsSaid message.now more result.1 pass result.0 }
+    ensures said { IsSaid message.now more result.1 pass result.0 }
+    ensures same { SamePass pass result.0 }
 {
     let mut turn = match cell.enter(rt, pass) {
         Ok(turn) => turn,
@@ -114,7 +116,8 @@ pub fn flush_once<K: Sink + Drop, R: Wait>(
     pass: OutPass<K>,
 ) -> (OutPass<K>, Result<(), NotSaid>)
     requires { pass.cell ≡ cell.now }
-    ensures { IsFlushed result.1 pass result.0 }
+    ensures flushed { IsFlushed result.1 pass result.0 }
+    ensures same { SamePass pass result.0 }
 {
     let mut turn = match cell.enter(rt, pass) {
         Ok(turn) => turn,

@@ -10,7 +10,11 @@ pub leave-pass-requires-clause-marks : goal.leave-pass-requires-clause-marks
 leave-pass-requires-clause-marks g c = (may_leave c.say_in-said.ensures.said.0 c.args.pass c.in-Ok.turn c.say_in-said.new.turn c.in-Ok.ensures.turn c.say_in-said.ensures.same c.say_in-said.ensures.said.1).marks
 
 pub returns-in-Ok-said : goal.returns-in-Ok-said
-returns-in-Ok-said g c = has_done (λ t deeds. SaidSo t c.args.message.now c.args.more (Ok _) deeds) c.args.pass c.in-Ok.turn c.say_in-said.new.turn c.leave-pass.result c.in-Ok.ensures.turn c.say_in-said.ensures.same c.in-Ok-said.ensures.said c.leave-pass.ensures
+returns-in-Ok-said g c =
+    let done = has_done (λ t deeds. SaidSo t c.args.message.now c.args.more (Ok tt) deeds) c.args.pass c.in-Ok.turn c.say_in-said.new.turn c.leave-pass.result c.in-Ok.ensures.turn c.say_in-said.ensures.same c.in-Ok-said.ensures.said c.leave-pass.ensures in
+    record { said = done; same = done.went.same }
 
 pub returns-in-Err-said : goal.returns-in-Err-said
-returns-in-Err-said g c = has_done (λ t deeds. SaidSo t c.args.message.now c.args.more (Err _) deeds) c.args.pass c.in-Ok.turn c.say_in-said.new.turn c.leave-pass.result c.in-Ok.ensures.turn c.say_in-said.ensures.same c.in-Err-said.ensures.said c.leave-pass.ensures
+returns-in-Err-said g c =
+    let done = has_done (λ t deeds. SaidSo t c.args.message.now c.args.more (Err c.in-Err-said.why) deeds) c.args.pass c.in-Ok.turn c.say_in-said.new.turn c.leave-pass.result c.in-Ok.ensures.turn c.say_in-said.ensures.same c.in-Err-said.ensures.said c.leave-pass.ensures in
+    record { said = done; same = done.went.same }
