@@ -57,6 +57,17 @@ module _ {T W K : Type 0} where
   pub may_go_on : {D : Type 0} (is_row : D → W → Type 0) (d : D) (out : TableId) (a b : Worker T W K) → MayWork is_row d out a → b.lane.takes ≡ a.lane.takes → b.pass.cell ≡ a.pass.cell → is_row d b.row → MayWork is_row d out b
   may_go_on is_row d out a b may takes cell row = record { takes = takes ∙ may.takes; cell = cell ∙ may.cell; row = row }
 
+module _ {T W : Type 0} (HasAnswered : W → T → Option Message → W → Type 0) where
+  answers_more : (a b : W) (xs : List (Answered T)) (piece : T) (m : Message) (c : W) → AnswersAll HasAnswered a xs b → HasAnswered b piece (Some m) c → AnswersAll HasAnswered a (xs ++ answered piece m ∷ []) c
+  answers_more a b [] piece m c all one = (c, subst (λ (w : W). HasAnswered w piece (Some m) c) all one, refl)
+  answers_more a b (x ∷ xs) piece m c all one = (all.0, all.1, answers_more all.0 b xs piece m c all.2 one)
+
+module _ {T : Type 0} where
+  -- the lane, once a piece more was taken
+  lane_more : (before now after : End T) (xs ys : List T) (piece : T) → now ≡ record before { taken = before.taken ++ xs } → after ≡ has_taken now piece → ys ≡ xs ++ piece ∷ [] → after ≡ record before { taken = before.taken ++ ys }
+  lane_more before now after xs ys piece h is e =
+      is ∙ ((λ i. has_taken (h i) piece) ∙ (λ i. record before { taken = (append_assoc before.taken xs (piece ∷ []) ∙ ap (λ (l : List T). before.taken ++ l) (sym e)) i }))
+
 module _ {T W K : Type 0} (HasAnswered : W → T → Option Message → W → Type 0) where
   -- a piece was answered and its message said, after a flush or none
   pub tried_said : (piece : T) (m : Message) (stop : Option Stop) (before ready at after : Worker T W K) → Turns [] before ready → at.lane ≡ ready.lane → at.pass ≡ ready.pass → HasAnswered ready.row piece (Some m) at.row → HasSaid m stop at after
@@ -103,15 +114,6 @@ module _ {T W K : Type 0} (HasAnswered : W → T → Option Message → W → Ty
     said_all = refl;
   }
 
-  answers_more : (a b : W) (xs : List (Answered T)) (piece : T) (m : Message) (c : W) → AnswersAll HasAnswered a xs b → HasAnswered b piece (Some m) c → AnswersAll HasAnswered a (xs ++ answered piece m ∷ []) c
-  answers_more a b [] piece m c all one = (c, subst (λ (w : W). HasAnswered w piece (Some m) c) all one, refl)
-  answers_more a b (x ∷ xs) piece m c all one = (all.0, all.1, answers_more all.0 b xs piece m c all.2 one)
-
-  -- the lane, once a piece more was taken
-  lane_more : (before now after : End T) (xs ys : List T) (piece : T) → now ≡ record before { taken = before.taken ++ xs } → after ≡ has_taken now piece → ys ≡ xs ++ piece ∷ [] → after ≡ record before { taken = before.taken ++ ys }
-  lane_more before now after xs ys piece h is e =
-      is ∙ ((λ i. has_taken (h i) piece) ∙ (λ i. record before { taken = (append_assoc before.taken xs (piece ∷ []) ∙ ap (λ (l : List T). before.taken ++ l) (sym e)) i }))
-
   more_of : (before now after : Worker T W K) (piece : T) (message : Option Message) (own : List Message) → SoFar HasAnswered before now → Turns own (record (took now piece) { row = after.row }) after → HasAnswered now.row piece message after.row → IsHeardOf message None own
       → SoFar HasAnswered before after
   more_of before now after piece (Some m) own so turned ran heard =
@@ -122,7 +124,7 @@ module _ {T W K : Type 0} (HasAnswered : W → T → Option Message → W → Ty
         turns = g.0;
         deeds = so.deeds ++ g.1;
         lane = lane_more before.lane now.lane after.lane (map (λ (a : Answered T). a.piece) xs) (map (λ (a : Answered T). a.piece) (xs ++ answered piece m ∷ [])) piece so.lane turned.lane (map-append (λ (a : Answered T). a.piece) xs (answered piece m ∷ []));
-        ran = answers_more before.row now.row xs piece m after.row so.ran ran;
+        ran = answers_more HasAnswered before.row now.row xs piece m after.row so.ran ran;
         went = g.2;
         said_all = messages_more so.deeds g.1 ∙ ((λ i. so.said_all i ++ (g.3 ∙ heard) i) ∙ sym (map-append (λ (a : Answered T). a.message) xs (answered piece m ∷ [])));
       }

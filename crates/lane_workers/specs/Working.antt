@@ -45,13 +45,14 @@ module _ {T W K : Type 0} where
   ShowsWhy (Some (Unheard (not.Fault unsaid.SinkFault))) worker = (text worker.pass.seen.marks).cut ≡ true
   ShowsWhy other worker = Unit {0}
 
-module _ {T W K : Type 0} (HasAnswered : W → T → Option Message → W → Type 0) where
+module _ {T W : Type 0} (HasAnswered : W → T → Option Message → W → Type 0) where
   -- why it stopped, and what became of the last piece that it took
   abbrev pub IsStopped : W → List T → List Message → Option Stop → W → Type 0
   IsStopped then rest cut None row = (row ≡ then) × (rest ≡ []) × (cut ≡ [])
   IsStopped then rest cut (Some NoMemory) row = (piece : T) × (rest ≡ piece ∷ []) × HasAnswered then piece None row × (cut ≡ [])
   IsStopped then rest cut (Some (Unheard why)) row = (piece : T) × (message : Message) × (rest ≡ piece ∷ []) × HasAnswered then piece (Some message) row × IsCut message why cut
 
+module _ {T W K : Type 0} (HasAnswered : W → T → Option Message → W → Type 0) where
   -- the pieces that it took were answered in order, each by one message of its pass; where it stopped, the last one has no
   -- message, or none that was put whole
   pub record HasWorked (is_row : W → Type 0) (before : Worker T W K) (worked : Worked T W K) : Type 0 where
@@ -65,7 +66,7 @@ module _ {T W K : Type 0} (HasAnswered : W → T → Option Message → W → Ty
     pub ran : AnswersAll HasAnswered before.row answered then
     pub went : HasGone turns deeds before.pass worked.worker.pass
     pub said_all : messages_of deeds ≡ map (λ a. a.message) answered ++ cut
-    pub stopped : IsStopped then rest cut worked.stop worked.worker.row
+    pub stopped : IsStopped HasAnswered then rest cut worked.stop worked.worker.row
     pub shows : ShowsWhy worked.stop worked.worker
     pub same : SamePass before.pass worked.worker.pass
     pub row : is_row worked.worker.row

@@ -1,14 +1,15 @@
+ghost use Rattle.std.specs.Prelude.{Option};
 ghost use Rattle.sink_turns.specs.declared.message.Message.{Message};
 
 use sink_turns::Message;
 use std::sync::Wait;
 
 /// What answers pieces, each by a message.
-pub trait Answers: Sync {
+pub trait Answers {
     /// What is to be answered.
-    type Piece: Drop + Send;
+    type Piece: Drop;
     /// What a worker needs of its own to answer.
-    type Row: Drop + Send;
+    type Row: Drop;
 
     // Whether such a row may be used here.
     ghost is_row: { Self → Self.Row → Type 0 };

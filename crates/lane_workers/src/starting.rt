@@ -32,9 +32,9 @@ pub fn start<'s, E, R, D, K>(
 ) -> Started<D, K>
 where
     R: Threads + Wait + Sync + 's,
-    D: Answers + 's,
-    D::Piece: 's,
-    D::Row: 's,
+    D: Answers + Sync + 's,
+    D::Piece: Send + 's,
+    D::Row: Send + 's,
     K: Sink + Drop + Send + 's,
     requires { MayWork D.is_row service.now out.now worker }
     ensures { IsPosted (λ d own. HasWorked (D.has_answered d) (D.is_row d)) service.now out.now worker result }
