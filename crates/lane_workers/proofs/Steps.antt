@@ -1,6 +1,7 @@
 -- A worker's steps, one after the other.
-use Rattle.std.proofs.Common.{◌≡◌, ◌≢◌, ◌⊎◌, ◌++◌, ℕ, Bool, true, List, [], ◌∷◌, map, Option, None, Some, Result, Ok, Err, refl, sym, ap, ◌∙◌, subst, append_assoc, append-nil}
+use Rattle.std.proofs.Common.{◌≡◌, ◌≢◌, ◌⊎◌, ◌++◌, ℕ, Bool, true, false, true≢false, List, [], ◌∷◌, map, Option, None, Some, Result, Ok, Err, refl, sym, ap, ◌∙◌, subst, append_assoc, append-nil}
 use Rattle.std.proofs.lemmas.List.{map-append}
+use Rattle.std.specs.Option.{is_some}
 use Rattle.atomic_table.specs.Seated.{TableId}
 use Rattle.lanes.specs.Ends.{End, has_taken}
 use Rattle.sink_turns.specs.declared.message.Message.{Message}
@@ -17,6 +18,14 @@ use Rattle.lane_workers.specs.declared.worker.Stop.TheVariants.{NoMemory, NotSai
 use Rattle.lane_workers.specs.declared.worker.Worked.{Worked}
 use Rattle.lane_workers.specs.declared.worker.Worker.{Worker}
 use Rattle.lane_workers.proofs.Passing.{continues_itself, continues_then, flushed_cell, flushed_continues, gone_nowhere, gone_same, messages_more, said_cell, said_continues, sees_fault}
+
+-- what a test of why it stopped says
+pub none_of : (stop : Option Stop) → is_some stop ≡ false → stop ≡ None
+none_of None e = refl
+none_of (Some why) e = absurd (true≢false e)
+
+pub some_of : (stop : Option Stop) → is_some stop ≡ true → stop ≢ None
+some_of stop e = λ (none : stop ≡ None). true≢false (sym e ∙ ap is_some none)
 
 module _ {T W K : Type 0} where
   abbrev worker_of : End T → OutPass → W → Worker T W K
