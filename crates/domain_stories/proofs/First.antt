@@ -2,9 +2,9 @@
 use Rattle.std.proofs.Common.{◌≡◌, ◌+◌, ◌^◌, ℕ, Bool, Option, inr, ap}
 use Rattle.atomic_table.specs.Seated.{TableId}
 use Rattle.domain_spec.specs.Types.{DomainDef}
-use Rattle.domain_obj.specs.Below.domain_core.Celled.{new_cell}
-use Rattle.domain_obj.specs.Below.domain_core.Meaning.{meaning}
-use Rattle.domain_obj.specs.InTurn.{DomainPass}
+use Rattle.domain_threads.specs.Below.domain_core.Celled.{new_cell}
+use Rattle.domain_threads.specs.Below.domain_core.Meaning.{meaning}
+use Rattle.domain_threads.specs.Below.domain_obj.InTurn.{DomainPass}
 use Rattle.turn_cell.specs.Passes.{IsFirst}
 use Rattle.domain_stories.specs.Home.{IsHome}
 

@@ -1,12 +1,12 @@
 // The desk of one thread: it answers at once, and may hold its pass before a phase until it is set free.
 ghost use Rattle.std.specs.Prelude.{◌≡◌, [], ◌∷◌, ◌++◌, is_some};
-ghost use Rattle.domain_obj.specs.Asking.{FitsAsk, IsAsked, IsBetween};
+ghost use Rattle.domain_threads.specs.Below.domain_obj.Asking.{FitsAsk, IsAsked, IsBetween};
 ghost use Rattle.domain_spec.specs.Asks.{is_ok_answer};
-ghost use Rattle.domain_obj.specs.OfCells.{IsAnsweredAs, IsCounted, comes, told};
+ghost use Rattle.domain_threads.specs.Below.domain_obj.OfCells.{IsAnsweredAs, IsCounted, comes, told};
 
 use crate::report::Report;
 use crate::scene::Scene;
-use domain_obj::{Desk, DomainPass, Ticket};
+use domain_threads::{Desk, DomainPass, Ticket};
 use monitor_link::{Guests, Link, Monitor};
 use std::sync::{Arc, Wait};
 use story_guests::{SharedSignals, Signal};

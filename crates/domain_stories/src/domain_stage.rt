@@ -5,7 +5,7 @@ ghost use Rattle.domain_stories.specs.Free.{IsPartOf};
 ghost use Rattle.domain_stories.specs.Home.{IsHome};
 
 use crate::stage::{Home, Stage};
-use domain_obj::{Chronicle, Desk, DomainObj, DomainPass, Hushed, Queried};
+use domain_threads::{Chronicle, Desk, DomainObj, DomainPass, Hushed, Queried};
 use monitor_link::Guests;
 use std::alloc::Global;
 use std::sync::Wait;

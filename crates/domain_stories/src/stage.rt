@@ -2,7 +2,7 @@
 ghost use Rattle.std.specs.Prelude.{◌≡◌, ◌<◌, ℕ, None};
 ghost use Rattle.domain_spec.specs.Call.{takes_up};
 
-use domain_obj::{Chronicle, Hushed, Queried};
+use domain_threads::{Chronicle, Hushed, Queried};
 use std::alloc::Global;
 use std::sync::Wait;
 use virt_types::{Call, Reply, Who};

@@ -1,8 +1,8 @@
 // The row of a story: what its threads were told, with the marks that the pass of each left.
 use crate::counting::count_of;
 use crate::row::Row;
-use domain_obj::Chronicle;
 use domain_spec::Mark;
+use domain_threads::Chronicle;
 use history_spec::Stamp;
 use std::alloc::Global;
 

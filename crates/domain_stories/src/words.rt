@@ -1,6 +1,6 @@
 // How rows write replies, what was read and how a hearing ended.
 use crate::row::Row;
-use domain_obj::{Hushed, Queried};
+use domain_threads::{Hushed, Queried};
 use virt_types::{DomainInfo, Refusal, RefusalCode, Reply, Value};
 
 /// Whether it was told that too many wait.

@@ -2,7 +2,7 @@
 //! itself, so this is shown type by type here, and not anew wherever a domain meets threads.
 #![tactic(auto)]
 
-use domain_obj::{DomainObj, DomainPass};
+pub use domain_obj::{Chronicle, Desk, DomainObj, DomainPass, Hushed, Queried, Ticket};
 use monitor_link::Guests;
 
 /// Makers of guests whose links may go to other threads, part by part. It is asked for where there are threads, and nowhere
