@@ -204,6 +204,34 @@ pub(crate) const STORIES: &[Story] = &[
         }],
         told: &[],
     },
+    // The monitor withholds its answer to a suspend until 64 events of its guest are held: no more are heard meanwhile.
+    Story {
+        title: "64 are held",
+        manner: Manner::TalksOnAndWithholds(Withheld::Stop, Signal::Told),
+        first_ticket: 0,
+        parts: &[
+            Part {
+                threads: 1,
+                held_before: None,
+                steps: &[
+                    Step::Call(Asked::Start),
+                    Step::Call(Asked::Suspend),
+                    Step::Info,
+                ],
+            },
+            Part {
+                threads: 1,
+                held_before: None,
+                steps: &[
+                    Step::Wait(Signal::Held, 1),
+                    Step::Hear,
+                    Step::Hear,
+                    Step::Give(Signal::Told),
+                ],
+            },
+        ],
+        told: &[],
+    },
     // One ticket is left. A query takes it; a call is told that none is left, and the pass that has none does not come back.
     Story {
         title: "spent",

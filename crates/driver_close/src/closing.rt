@@ -30,7 +30,7 @@ fn close_cell<T: Kept + Drop>(cell: TurnCell<T>, pass: RestingPass<T>) -> T
     cell.close(pass.into_pass())
 }
 
-// The same of a domain. Its guest is let go of.
+// The same of a domain. Its guest is dropped.
 fn close_domain<G: Guests>(domain: DomainObj<G>, pass: RestingPass<DomainCell<G>>) -> Chronicle
     requires own { pass.cell ≡ domain }
     requires last { IsLast pass }

@@ -125,7 +125,7 @@ fn serve_by<
 
 /// Serves all sessions over a driver at once, each in a thread of its own and by six rows that are cut off this one, which is
 /// all of the driver's rows. Then the driver is closed with all rows. None where there are no sessions or more than a
-/// thousand, where no maker of guests is to be had for a new row, where a pass of the rows has no ticket left in the end, or
+/// thousand, where there is no maker of guests for a new row, where a pass of the rows has no ticket left in the end, or
 /// where there is no memory.
 pub fn serve_and_close<
     R: Threads + Wait + Sync,
