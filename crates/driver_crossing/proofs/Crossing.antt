@@ -56,7 +56,7 @@ module _ (F K G M E Z : RattleType) (f : files.Ghosts F.Denot) (k : opening.Ghos
   Storing = Keeper.the_row F K f k
 
   abbrev Celled : RattleType
-  Celled = DomainCell.the_row G M E Z g m e z
+  Celled = DomainCell.the_row G M E Z g m e
 
   -- lists that marks of the list of domains speak of
   abbrev Listed : RattleType → RattleType
@@ -67,7 +67,7 @@ module _ (F K G M E Z : RattleType) (f : files.Ghosts F.Denot) (k : opening.Ghos
   stores = storing.ghosts F K f storing.no_dict k storing.no_dict
 
   abbrev turns : kept.Ghosts Celled.Denot Base.the_row.Denot (Mark.the_row u64).Denot Share.the_row.Denot
-  turns = domain.ghosts G M E Z g domain.no_dict m domain.no_dict e domain.no_dict z domain.no_dict domain.no_dict domain.no_dict domain.no_dict domain.no_dict
+  turns = domain.ghosts G M E Z g domain.no_dict m domain.no_dict e domain.no_dict z domain.no_dict domain.no_dict domain.no_dict domain.no_dict
 
   keeper_send : IsSend Storing
   keeper_send = keeper.the_send F K f k sf
@@ -75,7 +75,7 @@ module _ (F K G M E Z : RattleType) (f : files.Ghosts F.Denot) (k : opening.Ghos
   pub row_send : IsSend (RowOf.the_row ObjectList.the_row Storing Celled G (Listed (Option.the_row Entry.the_row)) ListMark.the_row (Listed u64) StoreBase.the_row StoreMark.the_row unit Base.the_row (Mark.the_row u64) Share.the_row
       listing.ghosts stores turns)
   row_send = row.the_send ObjectList.the_row Storing Celled G (Listed (Option.the_row Entry.the_row)) ListMark.the_row (Listed u64) StoreBase.the_row StoreMark.the_row unit Base.the_row (Mark.the_row u64) Share.the_row
-      listing.ghosts stores turns object_list.the_send keeper_send (cell_send G M E Z g m e z sm se sz) sg
+      listing.ghosts stores turns object_list.the_send keeper_send (cell_send G M E Z g m e sm se sz) sg
 
   cells_field_sync : IsSync (Cells.the_field F K G M E Z f k g m e z).row
   cells_field_sync = struct_sync (struct.shape (Cells.the_type F K G M E Z f k g m e z)) (
