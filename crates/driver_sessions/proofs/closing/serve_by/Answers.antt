@@ -3,10 +3,10 @@ use Rattle.driver_sessions.proofs.Whole.{back_some, back_whole}
 use Rattle.driver_sessions.proofs.closing.serve_by.Goals as goal
 
 pub close_all-requires-clause-some : goal.close_all-requires-clause-some
-close_all-requires-clause-some g c κs within = back_some c.args.rows.list c.in-Some.back.list c.in-Some.ensures.parts c.requires.some
+close_all-requires-clause-some g c = back_some c.args.rows.list c.in-Some.back.list c.in-Some.ensures.parts c.requires.some
 
 pub close_all-requires-clause-whole : goal.close_all-requires-clause-whole
-close_all-requires-clause-whole g c κs within = back_whole c.args.rows.list c.in-Some.back.list c.in-Some.ensures.parts c.requires.whole
+close_all-requires-clause-whole g c = back_whole c.args.rows.list c.in-Some.back.list c.in-Some.ensures.parts c.requires.whole
 
 pub returns-in-Some : goal.returns-in-Some
 returns-in-Some g c =

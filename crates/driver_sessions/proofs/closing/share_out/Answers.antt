@@ -4,7 +4,7 @@ use Rattle.driver_crossing.proofs.Below.driver_close.OneRow.{many_long, many_who
 use Rattle.driver_sessions.proofs.closing.share_out.Goals as goal
 
 pub more-requires-clause-parts : goal.more-requires-clause-parts
-more-requires-clause-parts g c κs within = whole_has c.rows_for.result c.args.row (omega (arith, c.rows_for.ensures, c.requires.few)) c.requires.ready.slots c.requires.whole
+more-requires-clause-parts g c = whole_has c.rows_for.result c.args.row (omega (arith, c.rows_for.ensures, c.requires.few)) c.requires.ready.slots c.requires.whole
 
 pub returns-in-Ok-clause-made : goal.returns-in-Ok-clause-made
 returns-in-Ok-clause-made g c = subst (λ (n : ℕ). BecomesMany g.F.Files.told g.G.Guests.faults n c.args.row c.in-Ok.rows.list) c.rows_for.ensures c.in-Ok.ensures.ok

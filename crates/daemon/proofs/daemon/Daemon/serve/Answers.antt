@@ -15,20 +15,20 @@ use Rattle.session_spec.specs.declared.end.End.TheVariants as end
 use Rattle.daemon.proofs.daemon.Daemon.serve.Goals as goal
 
 pub more-requires-clause-parts : goal.more-requires-clause-parts
-more-requires-clause-parts g c κs within = whole_has 6 c.self.inside.row (omega arith) c.self.invariant.1.slots c.self.invariant.2
+more-requires-clause-parts g c = whole_has 6 c.self.inside.row (omega arith) c.self.invariant.1.slots c.self.invariant.2
 
 pub close-requires-clause-own : goal.close-requires-clause-own
-close-requires-clause-own g c κs within =
+close-requires-clause-own g c =
     alone_all (IsRowOf c.self.inside.driver) c.push.new.self.list c.in-Err.row (put_alone c.self.inside.room.list c.push.new.self.list c.in-Err.row c.self.invariant.3 c.push.ensures.list)
     (passes_own c.self.inside.driver c.self.inside.row c.in-Err.row c.in-Err.ensures.passes c.self.invariant.0)
 
 pub close-requires-clause-ready : goal.close-requires-clause-ready
-close-requires-clause-ready g c κs within =
+close-requires-clause-ready g c =
     alone_all IsReadyRow c.push.new.self.list c.in-Err.row (put_alone c.self.inside.room.list c.push.new.self.list c.in-Err.row c.self.invariant.3 c.push.ensures.list)
     (passes_ready c.self.inside.row c.in-Err.row c.in-Err.ensures.passes c.self.invariant.1)
 
 pub close-requires-clause-whole : goal.close-requires-clause-whole
-close-requires-clause-whole g c κs within =
+close-requires-clause-whole g c =
     let alone = put_alone c.self.inside.room.list c.push.new.self.list c.in-Err.row c.self.invariant.3 c.push.ensures.list in
     subst (λ (l : List (DriverRow _)). IsWhole l) (sym alone) (one_still_whole c.self.inside.row c.in-Err.row (passes_keep c.self.inside.row c.in-Err.row c.in-Err.ensures.passes) c.self.invariant.2)
 
@@ -52,7 +52,7 @@ serve-six-requires g c =
     record { ready = (own 4 six.result.first (omega arith), ready 4 six.result.first (omega arith)) }
 
 pub close-requires-2-clause-own : goal.close-requires-2-clause-own
-close-requires-2-clause-own g c κs within =
+close-requires-2-clause-own g c =
     let six = c.take_six-six in
     let long = many_long g.F.Files.told g.G.Guests.faults 6 c.self.inside.row c.in-Ok.rows.list c.in-Ok.ensures.ok in
     let taken = six_are_all c.in-Ok.rows.list six.new.rows.list six.result long six.ensures.list in
@@ -60,7 +60,7 @@ close-requires-2-clause-own g c κs within =
     put_back_all (IsRowOf c.self.inside.driver) c.in-Ok.rows.list c.put_six.new.rows.list six.result c.serve-six.result.0.fifth taken back c.in-Ok.ensures.own c.serve-six.ensures.still_ready.0
 
 pub close-requires-2-clause-ready : goal.close-requires-2-clause-ready
-close-requires-2-clause-ready g c κs within =
+close-requires-2-clause-ready g c =
     let six = c.take_six-six in
     let long = many_long g.F.Files.told g.G.Guests.faults 6 c.self.inside.row c.in-Ok.rows.list c.in-Ok.ensures.ok in
     let taken = six_are_all c.in-Ok.rows.list six.new.rows.list six.result long six.ensures.list in
@@ -68,7 +68,7 @@ close-requires-2-clause-ready g c κs within =
     put_back_all IsReadyRow c.in-Ok.rows.list c.put_six.new.rows.list six.result c.serve-six.result.0.fifth taken back c.in-Ok.ensures.ready c.serve-six.ensures.still_ready.1
 
 pub close-requires-2-clause-whole : goal.close-requires-2-clause-whole
-close-requires-2-clause-whole g c κs within =
+close-requires-2-clause-whole g c =
     let six = c.take_six-six in
     let long = many_long g.F.Files.told g.G.Guests.faults 6 c.self.inside.row c.in-Ok.rows.list c.in-Ok.ensures.ok in
     let taken = six_are_all c.in-Ok.rows.list six.new.rows.list six.result long six.ensures.list in
