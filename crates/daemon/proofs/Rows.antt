@@ -11,7 +11,6 @@ use Rattle.driver_service.proofs.Below.driver_close.OneRow.{one_still_whole}
 use Rattle.driver_service.proofs.Below.driver_close.Parts.{split_whole, still_whole}
 use Rattle.files_disk.specs.Telling.{Told}
 use Rattle.driver_service.specs.Below.held_tasks.OfRows.{DriverRow, IsReadyRow, KeepsParts, parts_of}
-use Rattle.driver_service.specs.Below.held_tasks.declared.counting.CountingMaker.{CountingMaker}
 use Rattle.pass_rows.specs.Cutting.{cell_of}
 use Rattle.pass_rows.specs.Rows.{HasRowParts, KeepsPasses}
 use Rattle.six_rows.specs.Below.row_session.declared.connection.SixRows.{SixRows}
@@ -92,7 +91,7 @@ module _ {G : Type 0} where
     pub put_back_whole : (then : List (DriverRow G)) (six : SixRows (DriverRow G)) (fifth : DriverRow G) → rows ≡ all_six six → then ≡ all_six (record six { fifth = fifth })
         → KeepsParts six.fifth fifth → HasRowParts 6 row → length row.domains ≡ most_domains → IsWhole (row ∷ []) → IsWhole then
     put_back_whole then six fifth taken put keeps has slots whole =
-        let were : IsWhole (all_six six) = subst (λ (l : List (DriverRow G)). IsWhole l) taken (split_whole told (λ (m : CountingMaker G). maker m.maker) 6 row rows many has slots whole) in
+        let were : IsWhole (all_six six) = subst (λ (l : List (DriverRow G)). IsWhole l) taken (split_whole told maker 6 row rows many has slots whole) in
         let are : IsWhole (all_six (record six { fifth = fifth })) = still_whole (all_six six) (all_six (record six { fifth = fifth }))
         (keeps_itself six.first, (keeps_itself six.second, (keeps_itself six.third, (keeps_itself six.fourth, (keeps, (keeps_itself six.sixth, tt)))))) were in
         subst (λ (l : List (DriverRow G)). IsWhole l) (sym put) are

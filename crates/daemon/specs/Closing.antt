@@ -10,7 +10,7 @@ use Rattle.driver_service.specs.Below.held_tasks.OfRows.{DriverRow, IsReadyRow}
 
 -- how many statuses of boots the calls of these rows could not keep, as far as the count goes
 abbrev pub unkept_in : {G : Type 0} → List (DriverRow G) → ℕ
-unkept_in rows = min (sum_by (λ row. row.guests.unkept) rows) (2 ^ 64 - 1)
+unkept_in rows = min (sum_by (λ row. row.unkept) rows) (2 ^ 64 - 1)
 
 module _ {F G : Type 0} (told : F → Told) (sound : Type 0) where
   -- the cells were closed with all of these rows, each of them idle; and what a crash leaves of the store is the definitions

@@ -8,7 +8,7 @@ ghost use Rattle.driver_service.specs.Below.held_tasks.OfRows.{IsReadyRow};
 
 use crate::daemon::DaemonRows;
 use def_keeper::Opening;
-use driver_service::{Books, Driver, MakerOf, unkept_of};
+use driver_service::{Books, Driver, unkept_of};
 use files_disk::Files;
 use monitor_link::Guests;
 
@@ -43,7 +43,7 @@ fn unkept_by<F: Files + Drop, K: Opening, G: Guests + Drop>(rows: &mut DaemonRow
 /// Closes a driver with all of its rows, for which no cell keeps anything. None exactly where one of their passes has no
 /// ticket left: then it can't be closed.
 pub(crate) fn close<F: Files + Drop, K: Opening, G: Guests + Drop>(
-    driver: Driver<F, K, MakerOf<G>>,
+    driver: Driver<F, K, G>,
     mut rows: DaemonRows<F, K, G>,
 ) -> Option<Closed<F>>
     requires some { 0 < length rows.list }

@@ -12,7 +12,7 @@ ghost use Rattle.session_spec.specs.Course.{IsServedWhole, IsWhole};
 use crate::closing::{Closed, close};
 use crate::starting::{Outcomes, make_all, room_for};
 use def_keeper::Opening;
-use driver_service::{Driver, DriverFault, DriverService, MakerOf, Row, RowList};
+use driver_service::{Driver, DriverFault, DriverService, Row, RowList};
 use files_disk::Files;
 use monitor_link::Guests;
 use packet::{Sink, Source};
@@ -24,30 +24,16 @@ use std::sync::Wait;
 use virt_types::{Gate, ListOf, NoMemory, OrNoMemory, Random, Request, RequestList, Status};
 
 /// A row of a daemon's driver.
-pub type DaemonRow<F, K, G> = Row<
-    F,
-    K,
-    <G as Guests>::M,
-    <G as Guests>::E,
-    <G as Guests>::Z,
-    MakerOf<G>,
->;
+pub type DaemonRow<F, K, G> = Row<F, K, G>;
 
 /// Rows of it, with room for more.
-pub type DaemonRows<F, K, G> = RowList<
-    F,
-    K,
-    <G as Guests>::M,
-    <G as Guests>::E,
-    <G as Guests>::Z,
-    MakerOf<G>,
->;
+pub type DaemonRows<F, K, G> = RowList<F, K, G>;
 
 /// A daemon that serves nobody yet. Contracts see its driver, and the row with which it calls the driver.
 #[derive(Drop)]
 pub struct Daemon<F: Files + Drop, K: Opening, G: Guests + Drop> {
     alloc: Global,
-    driver: Driver<F, K, MakerOf<G>>,
+    driver: Driver<F, K, G>,
     row: DaemonRow<F, K, G>,
     room: DaemonRows<F, K, G>,
 }
@@ -58,9 +44,8 @@ impl<F: Files + Drop, K: Opening, G: Guests + Drop> Model for Daemon<F, K, G> {
     ghost use Rattle.driver_service.specs.Below.driver.Cells.{IsRowOf};
     ghost use Rattle.driver_service.specs.Below.driver_close.Closed.{IsWhole};
     ghost use Rattle.driver_service.specs.Below.held_tasks.OfRows.{IsReadyRow};
-    ghost use Rattle.driver_service.specs.Below.held_tasks.declared.MakerOf.{MakerOf};
 
-    ghost Value = { DaemonView (MakerOf G G.M G.E G.Z) };
+    ghost Value = { DaemonView G };
 
     ghost view = { λ d. record { driver = d.driver; row = d.row } };
 
@@ -90,14 +75,14 @@ impl<F: Files + Drop, K: Opening, G: Guests + Drop> Daemon<F, K, G> {
     ) -> Result<Daemon<F, K, G>, (F, OrNoMemory<DriverFault>)>
         requires sound { K.sound → IsSureAt (F.told files) }
         ensures ok { IfOk result (λ d. HasCells F.told files d.row d.driver.starts d.driver.statuses) }
-        ensures maker { IfOk result (λ d. d.row.guests.maker.guests ≡ guests) }
+        ensures maker { IfOk result (λ d. d.row.guests ≡ guests) }
         ensures err { IfErr result (λ e. IsUnopened F.told F.faults K.sound files e.1 e.0) }
     {
         let room = match RowListOf::with_room(alloc, 1) {
             Ok(room) => room,
             Err(NoMemory) => return Err((files, OrNoMemory::NoMemory)),
         };
-        match Driver::open(alloc, files, MakerOf { guests }) {
+        match Driver::open(alloc, files, guests) {
             Ok((driver, row)) => Ok(Daemon {
                 alloc,
                 driver,
@@ -131,7 +116,7 @@ impl<F: Files + Drop, K: Opening, G: Guests + Drop> Daemon<F, K, G> {
         random: &mut R,
     ) -> (Daemon<F, K, G>, Result<Outcomes, NoMemory>)
         ensures driver { result.0.driver ≡ self.driver }
-        ensures made { IfOk result.1 (λ outcomes. HasMade F.told F.faults (λ maker. G.faults maker.guests) G.E.ends G.E.faults G.E.unheard (first_call 0) requests.now outcomes.items
+        ensures made { IfOk result.1 (λ outcomes. HasMade F.told F.faults G.faults G.E.ends G.E.faults G.E.unheard (first_call 0) requests.now outcomes.items
             (hand self.row (R.drawn random.old)) (hand result.0.row (R.drawn random.new))) }
         ensures none { OnErr result.1 (hand result.0.row (R.drawn random.new) ≡ hand self.row (R.drawn random.old)) }
     {
@@ -163,7 +148,7 @@ impl<F: Files + Drop, K: Opening, G: Guests + Drop> Daemon<F, K, G> {
         random: &mut R,
     ) -> (Daemon<F, K, G>, Result<Outcomes, NoMemory>)
         ensures driver { result.0.driver ≡ self.driver }
-        ensures made { IfOk result.1 (λ outcomes. HasMade F.told F.faults (λ maker. G.faults maker.guests) G.E.ends G.E.faults G.E.unheard (first_call 0) self.driver.starts outcomes.items
+        ensures made { IfOk result.1 (λ outcomes. HasMade F.told F.faults G.faults G.E.ends G.E.faults G.E.unheard (first_call 0) self.driver.starts outcomes.items
             (hand self.row (R.drawn random.old)) (hand result.0.row (R.drawn random.new))) }
         ensures none { OnErr result.1 (hand result.0.row (R.drawn random.new) ≡ hand self.row (R.drawn random.old)) }
     {
@@ -212,7 +197,7 @@ impl<F: Files + Drop, K: Opening, G: Guests + Drop> Daemon<F, K, G> {
         random: &mut R,
         gate: &T,
     ) -> Ended<F, O>
-        ensures served { HasServedOne F.told K.sound F.faults (λ maker. G.faults maker.guests) G.E.ends G.E.faults G.E.unheard session self.row
+        ensures served { HasServedOne F.told K.sound F.faults G.faults G.E.ends G.E.faults G.E.unheard session self.row
             (record { left = S.left source.old; held = O.held sink; drawn = R.drawn random.old })
             (record { left = S.left source.new; held = O.held result.sink; drawn = R.drawn random.new }) result.end result.closed }
         ensures source_count { S.faults source.old ≤ S.faults source.new }

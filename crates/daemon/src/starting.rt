@@ -8,7 +8,7 @@ ghost use Rattle.service_spec.specs.Activities.{hand};
 
 use crate::daemon::DaemonRow;
 use def_keeper::Opening;
-use driver_service::{Driver, MakerOf, Outcome};
+use driver_service::{Driver, Outcome};
 use files_disk::Files;
 use monitor_link::Guests;
 use service_spec::READER;
@@ -36,7 +36,7 @@ pub(crate) fn room_for(alloc: Global, count: usize) -> Result<Outcomes, NoMemory
 /// Makes these requests with a row, one after the other.
 pub(crate) fn make_all<H: Wait, R: Random, F: Files + Drop, K: Opening, G: Guests + Drop>(
     rt: &H,
-    driver: &Driver<F, K, MakerOf<G>>,
+    driver: &Driver<F, K, G>,
     row: DaemonRow<F, K, G>,
     requests: &[Request],
     random: &mut R,
@@ -46,7 +46,7 @@ pub(crate) fn make_all<H: Wait, R: Random, F: Files + Drop, K: Opening, G: Guest
     requires ready { IsReadyRow row }
     requires empty { room.items ≡ [] }
     requires room { length requests.now ≤ vec_capacity room }
-    ensures made { HasMade F.told F.faults (λ maker. G.faults maker.guests) G.E.ends G.E.faults G.E.unheard (first_call 0) requests.now result.1.items
+    ensures made { HasMade F.told F.faults G.faults G.E.ends G.E.faults G.E.unheard (first_call 0) requests.now result.1.items
         (hand row (R.drawn random.old)) (hand result.0 (R.drawn random.new)) }
     ensures parts { KeepsParts row result.0 }
     ensures own { IsRowOf driver.now result.0 }

@@ -1,7 +1,8 @@
 -- A call that looks whether its operation may begin, or may be taken up, where its refusal is set aside.
-use Rattle.std.proofs.Common.{◌≡◌, ℕ, inl, inr, Option, sym, ap, ◌∙◌, subst}
+use Rattle.std.proofs.Common.{◌≡◌, ℕ, inl, inr, is_some, true, Option, None, Some, sym, ap, ◌∙◌, subst}
 use Rattle.job_rules.specs.declared.record.JobRecord.{JobRecord}
 use Rattle.domain_spec.specs.Types.{Call, Who}
+use Rattle.domain_spec.specs.Call.{begins, takes_up}
 use Rattle.domain_spec.specs.Cell.{Queue}
 use Rattle.domain_spec.specs.Kept.{left_queue}
 use Rattle.domain_spec.specs.Open.{Excludes, job_held, operation_held}
@@ -10,6 +11,7 @@ use Rattle.core_steps.specs.Looking.{with_room}
 use Rattle.core_steps.proofs.Refused.{left_joined}
 use Rattle.core_steps.specs.Beginning.{BeginsSo, TakesUpSo, WaitsSo}
 use Rattle.core_steps.specs.declared.beginning.OperationLook.TheVariants as look
+use Rattle.domain_core.specs.Entering.{EntersSo, Operates}
 
 still_waits : (n : ℕ) (who : Who) (c : Call) (old mid new : Recorded) (q p : Queue) (held : JobRecord) (boot : Option ℕ) (looks : ℕ)
     → WaitsSo n who c old mid q p (look.Excluded held boot looks) → new ≡ with_room mid new.spare → WaitsSo n who c old new q p (look.Excluded held boot looks)
@@ -27,34 +29,61 @@ excluded_still n who c old mid q p held boot looks excluded x =
 
 -- of a call that begins an operation
 
-pub still_begins_so : (n : ℕ) (who : Who) (c : Call) (old mid new : Recorded) (q p : Queue) (held : JobRecord) (boot : Option ℕ) (looks : ℕ)
+still_begins_so : (n : ℕ) (who : Who) (c : Call) (old mid new : Recorded) (q p : Queue) (held : JobRecord) (boot : Option ℕ) (looks : ℕ)
     → BeginsSo n who c old mid q p (look.Excluded held boot looks) → new ≡ with_room mid new.spare → BeginsSo n who c old new q p (look.Excluded held boot looks)
 still_begins_so n who c old mid new q p held boot looks (inl x) same = absurd x.1
 still_begins_so n who c old mid new q p held boot looks (inr x) same = inr (x.0, still_waits n who c old mid new q p held boot looks x.1 same)
 
-pub none_begins_so : (n : ℕ) (who : Who) (c : Call) (old mid new : Recorded) (q p z : Queue) (held : JobRecord) (boot : Option ℕ) (looks : ℕ)
+none_begins_so : (n : ℕ) (who : Who) (c : Call) (old mid new : Recorded) (q p z : Queue) (held : JobRecord) (boot : Option ℕ) (looks : ℕ)
     → BeginsSo n who c old mid q p (look.Excluded held boot looks) → new ≡ with_room mid new.spare → z ≡ left_queue p n who → BeginsSo n who c old new q z look.NoMemory
 none_begins_so n who c old mid new q p z held boot looks (inl x) same left = absurd x.1
 none_begins_so n who c old mid new q p z held boot looks (inr x) same left = inr (x.0, none_waits n who c old mid new q p z held boot looks x.1 same left)
 
-pub begins_excluded : (n : ℕ) (who : Who) (c : Call) (old mid : Recorded) (q p : Queue) (held : JobRecord) (boot : Option ℕ) (looks : ℕ)
+begins_excluded : (n : ℕ) (who : Who) (c : Call) (old mid : Recorded) (q p : Queue) (held : JobRecord) (boot : Option ℕ) (looks : ℕ)
     → BeginsSo n who c old mid q p (look.Excluded held boot looks) → Excludes (job_held (force_of mid).job) (operation_held (force_of mid).operation) c who
 begins_excluded n who c old mid q p held boot looks (inl x) = absurd x.1
 begins_excluded n who c old mid q p held boot looks (inr x) = excluded_still n who c old mid q p held boot looks x.0 x.1
 
 -- of one that takes an operation up
 
-pub still_takes_so : (n : ℕ) (who : Who) (c : Call) (old mid new : Recorded) (q p : Queue) (held : JobRecord) (boot : Option ℕ) (looks : ℕ)
+still_takes_so : (n : ℕ) (who : Who) (c : Call) (old mid new : Recorded) (q p : Queue) (held : JobRecord) (boot : Option ℕ) (looks : ℕ)
     → TakesUpSo n who c old mid q p (look.Excluded held boot looks) → new ≡ with_room mid new.spare → TakesUpSo n who c old new q p (look.Excluded held boot looks)
 still_takes_so n who c old mid new q p held boot looks (inl x) same = absurd x.1
 still_takes_so n who c old mid new q p held boot looks (inr x) same = inr (x.0, still_waits n who c old mid new q p held boot looks x.1 same)
 
-pub none_takes_so : (n : ℕ) (who : Who) (c : Call) (old mid new : Recorded) (q p z : Queue) (held : JobRecord) (boot : Option ℕ) (looks : ℕ)
+none_takes_so : (n : ℕ) (who : Who) (c : Call) (old mid new : Recorded) (q p z : Queue) (held : JobRecord) (boot : Option ℕ) (looks : ℕ)
     → TakesUpSo n who c old mid q p (look.Excluded held boot looks) → new ≡ with_room mid new.spare → z ≡ left_queue p n who → TakesUpSo n who c old new q z look.NoMemory
 none_takes_so n who c old mid new q p z held boot looks (inl x) same left = absurd x.1
 none_takes_so n who c old mid new q p z held boot looks (inr x) same left = inr (x.0, none_waits n who c old mid new q p z held boot looks x.1 same left)
 
-pub takes_excluded : (n : ℕ) (who : Who) (c : Call) (old mid : Recorded) (q p : Queue) (held : JobRecord) (boot : Option ℕ) (looks : ℕ)
+takes_excluded : (n : ℕ) (who : Who) (c : Call) (old mid : Recorded) (q p : Queue) (held : JobRecord) (boot : Option ℕ) (looks : ℕ)
     → TakesUpSo n who c old mid q p (look.Excluded held boot looks) → Excludes (job_held (force_of mid).job) (operation_held (force_of mid).operation) c who
 takes_excluded n who c old mid q p held boot looks (inl x) = absurd x.1
 takes_excluded n who c old mid q p held boot looks (inr x) = excluded_still n who c old mid q p held boot looks x.0 x.1
+
+-- of either
+
+pub still_enters_so : (n : ℕ) (who : Who) (c : Call) (old mid new : Recorded) (q p : Queue) (held : JobRecord) (boot : Option ℕ) (looks : ℕ)
+    → EntersSo n who c old mid q p (look.Excluded held boot looks) → new ≡ with_room mid new.spare → EntersSo n who c old new q p (look.Excluded held boot looks)
+still_enters_so n who c old mid new q p held boot looks (inl (begins, x)) same = inl (begins, still_begins_so n who c old mid new q p held boot looks x same)
+still_enters_so n who c old mid new q p held boot looks (inr (takes, x)) same = inr (takes, still_takes_so n who c old mid new q p held boot looks x same)
+
+pub none_enters_so : (n : ℕ) (who : Who) (c : Call) (old mid new : Recorded) (q p z : Queue) (held : JobRecord) (boot : Option ℕ) (looks : ℕ)
+    → EntersSo n who c old mid q p (look.Excluded held boot looks) → new ≡ with_room mid new.spare → z ≡ left_queue p n who → EntersSo n who c old new q z look.NoMemory
+none_enters_so n who c old mid new q p z held boot looks (inl (begins, x)) same left = inl (begins, none_begins_so n who c old mid new q p z held boot looks x same left)
+none_enters_so n who c old mid new q p z held boot looks (inr (takes, x)) same left = inr (takes, none_takes_so n who c old mid new q p z held boot looks x same left)
+
+pub enters_excluded : (n : ℕ) (who : Who) (c : Call) (old mid : Recorded) (q p : Queue) (held : JobRecord) (boot : Option ℕ) (looks : ℕ)
+    → EntersSo n who c old mid q p (look.Excluded held boot looks) → Excludes (job_held (force_of mid).job) (operation_held (force_of mid).operation) c who
+enters_excluded n who c old mid q p held boot looks (inl (begins, x)) = begins_excluded n who c old mid q p held boot looks x
+enters_excluded n who c old mid q p held boot looks (inr (takes, x)) = takes_excluded n who c old mid q p held boot looks x
+
+-- which of the two a call does
+
+none_taken : {A : Type 0} (o : Option A) → o ≡ None → is_some o ≡ true → ⊥
+none_taken None e some = cc
+none_taken (Some k) e some = cc
+
+pub must_begin : (d : Call) → takes_up d ≡ None → Operates d → is_some (begins d) ≡ true
+must_begin d none (inl begins) = begins
+must_begin d none (inr takes) = absurd (none_taken (takes_up d) none takes)

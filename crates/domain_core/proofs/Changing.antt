@@ -1,10 +1,8 @@
 -- Why a turn of a cell may be left.
-use Rattle.std.proofs.Common.{◌≡◌, ◌⊎◌, inl, ℕ, ◌+◌, ◌==◌, ◌++◌, List, [], ◌∷◌, length, drop, Bool, true, false, if◌then◌else◌, refl, sym, ap, ◌∙◌, subst, append-nil}
+use Rattle.std.proofs.Common.{◌≡◌, inl, ℕ, List, [], ◌∷◌, length, drop, Bool, if◌then◌else◌, refl, sym, ap, ◌∙◌, subst, append-nil}
 use Rattle.history_spec.specs.declared.history.History.{History}
-use Rattle.history_spec.specs.Begins.{SameChapter}
 use Rattle.history_spec.specs.Chapter.{GoesOn, added}
 use Rattle.history_spec.specs.Pass.{AreOf, own}
-use Rattle.turn_cell.specs.Turning.{Changes}
 use Rattle.domain_spec.specs.declared.core_step.CoreStep.{CoreStep}
 use Rattle.domain_spec.specs.declared.core_step.CoreStep.TheVariants as step
 use Rattle.domain_spec.specs.declared.mark.Mark.{Mark}
@@ -13,10 +11,10 @@ use Rattle.domain_spec.specs.Turns.{IsTurn}
 use Rattle.domain_spec.specs.Cell.{Cell}
 use Rattle.domain_spec.specs.Chapter.{next_base}
 use Rattle.core_steps.specs.Turning.{chapter_after}
-use Rattle.domain_core.specs.Celled.{Celled, KeepsOtherShares, cell_in, standing_in}
+use Rattle.domain_core.specs.Celled.{cell_in, standing_in}
 use Rattle.domain_core.specs.Changing.{StillTurnsChange, TurnsChange}
-use Rattle.domain_core.specs.Meaning.{history_of, meaning}
-use Rattle.core_step_laws.specs.Chapters.{GoesOnBy, IsNextChapter, marks_kept}
+use Rattle.domain_core.specs.Meaning.{history_of}
+use Rattle.core_step_laws.specs.Chapters.{IsNextChapter, marks_kept}
 use Rattle.core_step_laws.specs.Shares.{IsStepOf, whose}
 use Rattle.core_step_laws.proofs.Chapters.{turns_go_on}
 use Rattle.core_step_laws.proofs.Marks.{marks_are_own}

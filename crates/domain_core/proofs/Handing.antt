@@ -1,5 +1,5 @@
 -- What the parts of a turn leave of the link, joined.
-use Rattle.std.proofs.Common.{◌≡◌, ◌≢◌, ℕ, List, [], IfOk, OnErr, OnOk, Result, Ok, Err, is_some, Bool, true, false, Option, None, Some, refl, sym, ap, ◌∙◌, subst}
+use Rattle.std.proofs.Common.{◌≡◌, ℕ, List, [], OnErr, OnOk, Result, Ok, Err, is_some, Bool, true, false, Option, None, Some, refl, sym, ap, ◌∙◌, subst, inl, inr}
 use Rattle.domain_spec.specs.Types.{Answer, Ask, Call, Who}
 use Rattle.domain_spec.specs.Types.ask
 use Rattle.domain_spec.specs.declared.core_step.CoreStep.{CoreStep}
@@ -7,10 +7,8 @@ use Rattle.domain_spec.specs.declared.core_step.CoreStep.TheVariants as step
 use Rattle.domain_spec.specs.declared.core_step.First.{First}
 use Rattle.domain_spec.specs.declared.mark.Mark.{Mark}
 use Rattle.domain_spec.specs.declared.standing.Standing.{Standing}
-use Rattle.domain_spec.specs.Asks.{is_ended_answer, is_lost_answer}
-use Rattle.domain_spec.specs.CanTake.{CanLook, CanTake}
-use Rattle.domain_spec.specs.Cell.{Cell, LentEars, Queue, standing_of}
-use Rattle.domain_spec.specs.Lawful.{IsUnsent}
+use Rattle.domain_spec.specs.CanTake.{CanLook}
+use Rattle.domain_spec.specs.Cell.{Queue, share_of, standing_of}
 use Rattle.domain_core.specs.Answering.{MayAnswer, MayGoBack}
 use Rattle.domain_core.specs.Clients.{with_queue}
 use Rattle.core_steps.specs.OfLedger.{Back as CoreBack}
@@ -26,10 +24,16 @@ use Rattle.domain_core.specs.declared.ticket.Back.{Back}
 use Rattle.domain_core.specs.declared.ticket.Look.{Look}
 use Rattle.domain_core.specs.declared.ticket.PhaseLook.{PhaseLook}
 use Rattle.domain_core.specs.declared.ticket.Ticket.{Ticket}
+use Rattle.domain_core.specs.Entering.{LooksFor}
+use Rattle.domain_core.specs.Shares.{IsFree}
+use Rattle.domain_core.proofs.Shares.{free_begin, free_take_up}
 use Rattle.domain_core.proofs.Linking.{Hands, IsAside, same_keeps, aside_linked, back_hands, begin_linked, look_hands, operation_turned, phase_hands, take_up_linked}
 use Rattle.domain_spec.proofs.TurnProofs.{holds_after, holds_led}
 use Rattle.core_step_laws.specs.Steady.{IsSteady}
 use Rattle.core_step_laws.proofs.Steadying.{turns_keep_steady}
+use Rattle.core_owed.specs.Owing.{IsOwing}
+use Rattle.core_owed.specs.OwingLaws.{LeavesNone}
+use Rattle.core_owed.proofs.Turning.{turns_keep_owed}
 use Rattle.domain_core.proofs.Whole.{looks_turned}
 use Rattle.domain_core.proofs.Operating.{phase_turned}
 use Rattle.domain_core.specs.Celled.{IsCell}
@@ -39,19 +43,27 @@ use Rattle.domain_spec.specs.Laws.{IsCounted}
 use Rattle.domain_spec.specs.Legal.{IsLegal}
 use Rattle.core_steps.specs.Beginning.{Looks as OperationLooks}
 use Rattle.core_steps.specs.declared.beginning.OperationLook.{OperationLook}
-use Rattle.core_step_laws.specs.Made.{AsksThis, made_boot, makes}
+use Rattle.core_step_laws.specs.Made.{made_boot, makes}
 use Rattle.core_steps.specs.Phasing.{Phases}
 use Rattle.core_steps.specs.declared.phasing.PhaseLook.{PhaseLook as CorePhase}
 
 -- what holds after a turn
 
-pub cell_after : (old new : Turning) (t : CoreStep ℕ) (left : List (Mark ℕ)) (out out_now : Option ℕ) (link now : Option Linked) → HasTurned old new t left → IsCell old out link → IsLinked new out_now now → IsCell new out_now now
-cell_after old new t left out out_now link now turned h linked =
+pub cell_after : (old new : Turning) (t : CoreStep ℕ) (left : List (Mark ℕ)) (out out_now : Option ℕ) (link now : Option Linked) → HasTurned old new t left → LeavesNone t left → IsCell old out link → IsLinked new out_now now
+    → IsCell new out_now now
+cell_after old new t left out out_now link now turned none h linked =
     let holds = holds_led old.cell new.cell t left turned.leads (holds_after old.cell t left turned.turn (h.counted, h.legal)) in
-    record { linked = linked; steady = turns_keep_steady old.cell new.cell t left turned.turn turned.leads h.steady; counted = holds.0; legal = holds.1 }
+    record {
+      linked = linked;
+      steady = turns_keep_steady old.cell new.cell t left turned.turn turned.leads h.steady;
+      counted = holds.0;
+      legal = holds.1;
+      owed = turns_keep_owed old.cell new.cell t left turned.turn turned.leads none h.owed;
+    }
 
-pub cell_still : (old new : Turning) (out out_now : Option ℕ) (link now : Option Linked) → new.cell.base ≡ old.cell.base → new.cell.marks ≡ old.cell.marks → IsCell old out link → IsLinked new out_now now → IsCell new out_now now
-cell_still old new out out_now link now base marks h linked = record {
+pub cell_still : (old new : Turning) (out out_now : Option ℕ) (link now : Option Linked) → new.cell.base ≡ old.cell.base → new.cell.marks ≡ old.cell.marks → IsOwing new.cell → IsCell old out link → IsLinked new out_now now
+    → IsCell new out_now now
+cell_still old new out out_now link now base marks owed h linked = record {
   linked = linked;
   steady =
       subst (λ (b : Base). IsSteady (standing (at_base b) new.cell.marks)) (sym base)
@@ -59,6 +71,7 @@ cell_still old new out out_now link now base marks h linked = record {
   counted = subst (λ (b : Base). IsCounted (at_base b)) (sym base) h.counted;
   legal =
       subst (λ (b : Base). IsLegal (at_base b) new.cell.marks) (sym base) (subst (λ (ms : List (Mark ℕ)). IsLegal (at_base old.cell.base) ms) (sym marks) h.legal);
+  owed = owed;
 }
 
 -- the link that is kept
@@ -66,36 +79,33 @@ cell_still old new out out_now link now base marks h linked = record {
 pub kept_by : (t : Turning) (out made : Option ℕ) (link now : Option Linked) → IsLinked t out (kept_link (made_boot (standing_of t.cell)) link) → made ≡ made_boot (standing_of t.cell) → now ≡ kept_link made link → IsLinked t out now
 kept_by t out made link now h e f = subst (λ (l : Option Linked). IsLinked t out l) (sym (f ∙ ap (λ (m : Option ℕ). kept_link m link) e)) h
 
-pub aside_kept : (old new : Turning) (t : CoreStep ℕ) (left : List (Mark ℕ)) (out made : Option ℕ) (link now : Option Linked) → IsAside t → HasTurned old new t left → IsCell old out link → made ≡ made_boot (standing_of new.cell) → now ≡ kept_link made link
+pub aside_kept : (old new : Turning) (t : CoreStep ℕ) (left : List (Mark ℕ)) (out made : Option ℕ) (link now : Option Linked) → IsAside t → LeavesNone t left → HasTurned old new t left → IsCell old out link → made ≡ made_boot (standing_of new.cell) → now ≡ kept_link made link
     → IsCell new out now
-aside_kept old new t left out made link now aside turned h e f =
-    cell_after old new t left out out link now turned h (kept_by new out made link now (aside_linked old new t (λ (ms : List (Mark ℕ)). ms ≡ left) out link aside (left, turned, refl) h.linked) e f)
+aside_kept old new t left out made link now aside none turned h e f =
+    cell_after old new t left out out link now turned none h (kept_by new out made link now (aside_linked old new t (λ (ms : List (Mark ℕ)). ms ≡ left) out link aside (left, turned, refl) h.linked) e f)
 
-operation_kept : (old new : Turning) (t : CoreStep ℕ) (marks : List (Mark ℕ)) (n : ℕ) (who : Who) (d : Call) (r : OperationLook) (out made : Option ℕ) (link now : Option Linked) → IsCell old out link → OperationLooks t marks n who d old new r
+operation_kept : (old new : Turning) (t : CoreStep ℕ) (marks : List (Mark ℕ)) (n : ℕ) (who : Who) (d : Call) (r : OperationLook) (out made : Option ℕ) (link now : Option Linked) → ((left : List (Mark ℕ)) → LeavesNone t left) → IsCell old out link → OperationLooks t marks n who d old new r
     → IsLinked new out (kept_link (made_boot (standing_of new.cell)) link) → made ≡ made_boot (standing_of new.cell) → now ≡ kept_link made link → IsCell new out now
-operation_kept old new t marks n who d r out made link now h looks linked e f =
+operation_kept old new t marks n who d r out made link now none h looks linked e f =
     let turned = operation_turned t marks n who d old new r looks in
-    cell_after old new t turned.0 out out link now turned.1 h (kept_by new out made link now linked e f)
+    cell_after old new t turned.0 out out link now turned.1 (none turned.0) h (kept_by new out made link now linked e f)
 
-pub begin_kept : (old new : Turning) (marks : List (Mark ℕ)) (n : ℕ) (who : Who) (d : Call) (r : OperationLook) (out made : Option ℕ) (link now : Option Linked) → CanTake old.cell (step.BeginOp n who d) → IsCell old out link
-    → OperationLooks (step.BeginOp n who d) marks n who d old new r → made ≡ made_boot (standing_of new.cell) → now ≡ kept_link made link → IsCell new out now
-begin_kept old new marks n who d r out made link now can h looks e f =
-    operation_kept old new (step.BeginOp n who d) marks n who d r out made link now h looks (begin_linked old new n who d marks r out link can h.linked looks) e f
-
-pub take_up_kept : (old new : Turning) (marks : List (Mark ℕ)) (n : ℕ) (who : Who) (d : Call) (r : OperationLook) (out made : Option ℕ) (link now : Option Linked) → CanTake old.cell (step.TakeUp n who d) → IsCell old out link
-    → OperationLooks (step.TakeUp n who d) marks n who d old new r → made ≡ made_boot (standing_of new.cell) → now ≡ kept_link made link → IsCell new out now
-take_up_kept old new marks n who d r out made link now can h looks e f =
-    operation_kept old new (step.TakeUp n who d) marks n who d r out made link now h looks (take_up_linked old new n who d marks r out link can h.linked looks) e f
+pub enter_kept : (old new : Turning) (n : ℕ) (who : Who) (d : Call) (r : OperationLook) (out made : Option ℕ) (link now : Option Linked) → IsFree (share_of old.cell n) who → IsCell old out link → LooksFor n who d old new r
+    → made ≡ made_boot (standing_of new.cell) → now ≡ kept_link made link → IsCell new out now
+enter_kept old new n who d r out made link now free h (inl (begins, looks)) e f =
+    operation_kept old new (step.BeginOp n who d) _ n who d r out made link now (λ left. tt) h looks (begin_linked old new n who d _ r out link (free_begin old.cell n who d free begins) h.linked looks) e f
+enter_kept old new n who d r out made link now free h (inr (takes, looks)) e f =
+    operation_kept old new (step.TakeUp n who d) _ n who d r out made link now (λ left. tt) h looks (take_up_linked old new n who d _ r out link (free_take_up old.cell n who d free takes) h.linked looks) e f
 
 -- a chapter's end, or where there was no memory for it the caller that waits no more
 
 pub rotate_kept : {T F : Type 0} (old new : Turning) (n : ℕ) (who : Who) (r : Result T F) (q : Queue) (out made : Option ℕ) (link now : Option Linked) → IsCell old out link → OnOk r (Takes old new (step.Rotate n who) (λ left. left ≡ []))
     → OnErr r (new ≡ with_queue old q) → made ≡ made_boot (standing_of new.cell) → now ≡ kept_link made link → IsCell new out now
-rotate_kept old new n who (Ok v) q out made link now h ok err e f = aside_kept old new (step.Rotate n who) ok.0 out made link now tt ok.1 h e f
+rotate_kept old new n who (Ok v) q out made link now h ok err e f = aside_kept old new (step.Rotate n who) ok.0 out made link now tt ok.2 ok.1 h e f
 rotate_kept old new n who (Err x) q out made link now h ok err e f =
     let base : new.cell.base ≡ old.cell.base = ap (λ (t : Turning). t.cell.base) err in
     let marks : new.cell.marks ≡ old.cell.marks = ap (λ (t : Turning). t.cell.marks) err in
-    cell_still old new out out link now base marks h
+    cell_still old new out out link now base marks (subst (λ (t : Turning). IsOwing t.cell) (sym err) h.owed) h
     (kept_by new out made link now (same_keeps old new out link (ap (λ (t : Turning). standing_of t.cell) err) (ap (λ (t : Turning). boot_heard t.cell.ears) err) h.linked) e f)
 
 -- the link and the monitor that goes out
@@ -104,19 +114,19 @@ pub record Handed (away : Bool) (t : Turning) (out : Option ℕ) (before link : 
   pub cell : IsCell t out link
   pub monitor : away ≡ true → has_monitor before ≡ is_some out
 
-handed : (old new : Turning) (t : CoreStep ℕ) (left : List (Mark ℕ)) (was_out : Option ℕ) (was : Option Linked) → HasTurned old new t left → IsCell old was_out was → (away : Bool) (out out_now made : Option ℕ) (link before now : Option Linked) → Hands away old new out link → made ≡ made_boot (standing_of new.cell) → before ≡ link → now ≡ link_by away before
+handed : (old new : Turning) (t : CoreStep ℕ) (left : List (Mark ℕ)) (was_out : Option ℕ) (was : Option Linked) → HasTurned old new t left → LeavesNone t left → IsCell old was_out was → (away : Bool) (out out_now made : Option ℕ) (link before now : Option Linked) → Hands away old new out link → made ≡ made_boot (standing_of new.cell) → before ≡ link → now ≡ link_by away before
     → out_now ≡ out_by away made out → Handed away new out_now before now
-handed old new t left was_out was turned held away out out_now made link before now h e f g k =
+handed old new t left was_out was turned none held away out out_now made link before now h e f g k =
     let to : out_now ≡ out_by away (made_boot (standing_of new.cell)) out = k ∙ ap (λ (m : Option ℕ). out_by away m out) e in
     record {
       cell =
-          cell_after old new t left was_out out_now was now turned held
+          cell_after old new t left was_out out_now was now turned none held
           (subst (λ (o : Option ℕ). IsLinked new o now) (sym to)
           (subst (λ (l : Option Linked). IsLinked new (out_by away (made_boot (standing_of new.cell)) out) l) (sym (g ∙ ap (λ (l : Option Linked). link_by away l) f)) h.linked));
       monitor = λ is. ap has_monitor f ∙ h.monitor is ∙ ap is_some (sym to);
     }
 
-pub ticket_has : {M : Type 0} (t : Option (Ticket M)) (has out : Bool) → HasMonitor has t → (is_some t ≡ true → has ≡ out) → HasMonitor out t
+pub ticket_has : {G M E Z : Type 0} (t : Option (Ticket G M E Z)) (has out : Bool) → HasMonitor has t → (is_some t ≡ true → has ≡ out) → HasMonitor out t
 ticket_has None has out h e = tt
 ticket_has (Some t) has out h e = h ∙ e refl
 
@@ -125,28 +135,28 @@ back_turned n x old new (core_back.Done r) h = (h.0, h.1)
 back_turned n x old new (core_back.Away y) h = (h.0, h.1)
 back_turned n x old new (core_back.Phased st) h = (h.0, h.1)
 
-pub look_handed : {M : Type 0} (old new : Turning) (n : ℕ) (who : Who) (d : Call) (f : First) (looked : Looked) (r : Look M) (out out_now made : Option ℕ) (link before now : Option Linked) → CanLook old.cell n who d f → IsCell old out link
+pub look_handed : {G M E Z : Type 0} (old new : Turning) (n : ℕ) (who : Who) (d : Call) (f : First) (looked : Looked) (r : Look G M E Z) (out out_now made : Option ℕ) (link before now : Option Linked) → CanLook old.cell n who d f → IsCell old out link
     → Looks n who d f old new looked → looked_of r ≡ looked → made ≡ made_boot (standing_of new.cell) → before ≡ kept_link made link → now ≡ link_by (is_some (look_ticket r)) before → out_now ≡ out_by (is_some (look_ticket r)) made out
     → Handed (is_some (look_ticket r)) new out_now before now
 look_handed old new n who d f looked r out out_now made link before now can h looks same e g k l =
     let turned = looks_turned n who d f old new looked looks in
-    handed old new (step.Look n who d f) turned.0 out link turned.1 h (is_some (look_ticket r)) out out_now made (kept_link (made_boot (standing_of new.cell)) link) before now
+    handed old new (step.Look n who d f) turned.0 out link turned.1 tt h (is_some (look_ticket r)) out out_now made (kept_link (made_boot (standing_of new.cell)) link) before now
     (look_hands old new n who d f r out link can h.linked (subst (λ (x : Looked). Looks n who d f old new x) (sym same) looks)) e (g ∙ ap (λ (m : Option ℕ). kept_link m link) e) k l
 
-pub phase_handed : {M : Type 0} (old new : Turning) (n : ℕ) (who : Who) (looked : CorePhase) (r : PhaseLook M) (out out_now made : Option ℕ) (link before now : Option Linked) → IsCell old out link
+pub phase_handed : {G M E Z : Type 0} (old new : Turning) (n : ℕ) (who : Who) (looked : CorePhase) (r : PhaseLook G M E Z) (out out_now made : Option ℕ) (link before now : Option Linked) → IsCell old out link
     → Phases n who old new looked → phased_of r ≡ looked → made ≡ made_boot (standing_of new.cell) → before ≡ kept_link made link → now ≡ link_by (is_some (phase_ticket r)) before → out_now ≡ out_by (is_some (phase_ticket r)) made out
     → Handed (is_some (phase_ticket r)) new out_now before now
 phase_handed old new n who looked r out out_now made link before now h looks same e g k l =
     let turned = phase_turned n who old new looked looks in
-    handed old new (step.Phase n who) turned.0 out link turned.1 h (is_some (phase_ticket r)) out out_now made (kept_link (made_boot (standing_of new.cell)) link) before now
+    handed old new (step.Phase n who) turned.0 out link turned.1 tt h (is_some (phase_ticket r)) out out_now made (kept_link (made_boot (standing_of new.cell)) link) before now
     (phase_hands old new n who r out link h.linked (subst (λ (x : CorePhase). Phases n who old new x) (sym same) looks)) e (g ∙ ap (λ (m : Option ℕ). kept_link m link) e) k l
 
-pub back_handed : {M : Type 0} (old new : Turning) (n : ℕ) (x : Answer) (sent fresh : Bool) (left : CoreBack) (r : Back M) (out out_now made heard : Option ℕ) (link home before now : Option Linked) → IsAnswered old.cell sent x fresh → IsCell old out link
+pub back_handed : {G M E Z : Type 0} (old new : Turning) (n : ℕ) (x : Answer) (sent fresh : Bool) (left : CoreBack) (r : Back G M E Z) (out out_now made heard : Option ℕ) (link home before now : Option Linked) → IsAnswered old.cell sent x fresh → IsCell old out link
     → GoesBack n x old new left → back_of r ≡ left → made ≡ made_boot (standing_of new.cell) → heard ≡ boot_heard new.cell.ears → home ≡ with_monitor out link → before ≡ link_made fresh heard made home
     → now ≡ link_by (is_some (back_ticket r)) before → out_now ≡ out_by (is_some (back_ticket r)) made None → Handed (is_some (back_ticket r)) new out_now before now
 back_handed old new n x sent fresh left r out out_now made heard link home before now answered h goes same e told in_home g k l =
     let turned = back_turned n x old new left goes in
-    handed old new (step.Back n x) turned.0 out link turned.1 h (is_some (back_ticket r)) None out_now made (link_made fresh (boot_heard new.cell.ears) (made_boot (standing_of new.cell)) (with_monitor out link)) before now
+    handed old new (step.Back n x) turned.0 out link turned.1 tt h (is_some (back_ticket r)) None out_now made (link_made fresh (boot_heard new.cell.ears) (made_boot (standing_of new.cell)) (with_monitor out link)) before now
     (back_hands old new n x sent fresh r out link answered h.linked (subst (λ (b : CoreBack). GoesBack n x old new b) (sym same) goes)) e
     (g ∙ ap (λ (l : Option Linked). link_made fresh heard made l) in_home ∙ ap (λ (b : Option ℕ). link_made fresh b made (with_monitor out link)) told ∙ ap (λ (m : Option ℕ). link_made fresh (boot_heard new.cell.ears) m (with_monitor out link)) e)
     k l

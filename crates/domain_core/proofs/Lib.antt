@@ -11,6 +11,7 @@ pub mod Operating
 pub mod Others
 pub mod Parts
 pub mod Queued
+pub mod Registering
 pub mod Shares
 pub mod Sharing
 pub mod Shown

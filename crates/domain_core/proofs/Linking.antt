@@ -1,29 +1,27 @@
 -- The link of the guest that is there, after each turn.
-use Rattle.std.proofs.Common.{◌≡◌, ◌≢◌, ◌⊎◌, inl, inr, ℕ, ◌==◌, List, [], ◌∷◌, ◌++◌, length, is_some, nat_lt, not, option_map, Bool, true, false, Option, None, Some, IfOk, OnErr, OnOk, Result, Ok, Err, if◌then◌else◌, refl, sym, ap, ◌∙◌, subst, arith}
+use Rattle.std.proofs.Common.{◌≡◌, ◌⊎◌, inl, inr, ℕ, ◌==◌, List, [], ◌∷◌, ◌++◌, is_some, not, option_map, Bool, true, false, Option, None, Some, if◌then◌else◌, refl, sym, ap, ◌∙◌, subst, arith}
 use Rattle.std.proofs.lemmas.Bool.Decides.{nat_tests}
-use Rattle.domain_spec.specs.Types.{Answer, Ask, Call, DomainDef, Who}
+use Rattle.domain_spec.specs.Types.{Answer, Ask, Call, Who}
 use Rattle.domain_spec.specs.Types.ask
 use Rattle.domain_spec.specs.declared.core_step.CoreStep.{CoreStep}
 use Rattle.domain_spec.specs.declared.core_step.CoreStep.TheVariants as step
 use Rattle.domain_spec.specs.declared.core_step.First.{First}
 use Rattle.domain_spec.specs.declared.mark.Mark.{Mark}
 use Rattle.domain_spec.specs.declared.open.OpenJob.{OpenJob}
-use Rattle.domain_spec.specs.declared.open.OpenOperation.{OpenOperation}
 use Rattle.domain_spec.specs.declared.standing.Standing.{Standing}
 use Rattle.domain_spec.specs.Asks.{is_ok_answer}
-use Rattle.domain_spec.specs.CanTake.{CanLook, CanTake, HasNoneOpen, IsNotJobOf, WaitsForAnswer}
-use Rattle.domain_spec.specs.Cell.{Cell, LentEars, Queue, as_let_in, asks_so_far, call_of, share_of, standing_of}
-use Rattle.domain_spec.specs.Kept.{ears_after, left_queue, told_of}
+use Rattle.domain_spec.specs.CanTake.{CanLook, CanTake, IsNotJobOf}
+use Rattle.domain_spec.specs.Cell.{Cell, LentEars, as_let_in, asks_so_far, call_of, share_of, standing_of}
+use Rattle.domain_spec.specs.Kept.{ears_after, told_of}
 use Rattle.domain_spec.specs.Reading.{live_boot}
 use Rattle.domain_spec.specs.Turns.{IsOwn, base_after, marks_after}
 use Rattle.domain_spec.specs.Fold.{standing}
-use Rattle.core_steps.specs.OfLedger.{Back as CoreBack}
 use Rattle.core_steps.specs.Answering.{GoesBack}
 use Rattle.core_steps.specs.Looking.{Looks}
 use Rattle.core_steps.specs.Turning.{AsksLast, HasTurned, Takes, Turning}
 use Rattle.domain_core.specs.Held.{IsLinked, IsOpen, IsOutWith, boot_heard, out_by}
-use Rattle.domain_core.specs.Linked.{IsWholeBut, Linked, boot_of, has_ears, has_monitor, is_boot, kept_link, link_by, link_made, link_or_new, new_link, with_ears_of, with_monitor, without_ears, without_monitor}
-use Rattle.domain_core.specs.Tickets.{HasMonitor, IsAnswered, IsAnsweredAs, back_of, back_ticket, comes, look_ticket, looked_of, phase_ticket, phased_of}
+use Rattle.domain_core.specs.Linked.{IsWholeBut, Linked, boot_of, has_ears, has_monitor, is_boot, kept_link, link_by, link_made, new_link, with_ears_of, with_monitor, without_ears, without_monitor}
+use Rattle.domain_core.specs.Tickets.{IsAnswered, back_of, back_ticket, comes, look_ticket, looked_of, phase_ticket, phased_of}
 use Rattle.domain_core.specs.declared.ticket.Back.{Back}
 use Rattle.domain_core.specs.declared.ticket.Back.TheVariants as back
 use Rattle.domain_core.specs.declared.ticket.Look.{Look}
@@ -34,7 +32,7 @@ use Rattle.core_step_laws.specs.Made.{Agrees, AsksThis, IsMakeAnswered, made_boo
 use Rattle.core_step_laws.proofs.Made.{made_by_its_make, made_stays_made}
 use Rattle.core_step_laws.proofs.Agreeing.{phases_agree}
 use Rattle.core_steps.specs.Beginning.{Looks as OperationLooks}
-use Rattle.core_steps.specs.Phasing.{IsHeld, Phases}
+use Rattle.core_steps.specs.Phasing.{Phases}
 use Rattle.core_steps.specs.declared.beginning.OperationLook.{OperationLook}
 use Rattle.core_steps.specs.declared.beginning.OperationLook.TheVariants as operation
 use Rattle.core_step_laws.specs.Calls.{IsStill}
@@ -280,7 +278,7 @@ not_job (Some i) n j h is e = h (sym (ap (λ (o : OpenJob). o.number) (some_job 
 none_in_look : (c : Cell) (n : ℕ) (who : Who) (d : Call) (f : First) → MakesNone c (step.Look n who d f)
 none_in_look c n who d f b m = m
 
-pub look_hands : {M : Type 0} (old new : Turning) (n : ℕ) (who : Who) (d : Call) (f : First) (r : Look M) (out : Option ℕ) (link : Option Linked) → CanLook old.cell n who d f → IsLinked old out link → Looks n who d f old new (looked_of r)
+pub look_hands : {G M E Z : Type 0} (old new : Turning) (n : ℕ) (who : Who) (d : Call) (f : First) (r : Look G M E Z) (out : Option ℕ) (link : Option Linked) → CanLook old.cell n who d f → IsLinked old out link → Looks n who d f old new (looked_of r)
     → Hands (is_some (look_ticket r)) old new out (kept_link (made_boot (standing_of new.cell)) link)
 look_hands old new n who d f (look.Away t x) out link can h looks =
     away_hands old new out (kept_link (made_boot (standing_of new.cell)) link)
@@ -376,7 +374,7 @@ pub unmarked_linked : (old new : Turning) (t : CoreStep ℕ) (left : List (Mark 
     → IsLinked new out (kept_link (made_boot (standing_of new.cell)) link)
 unmarked_linked old new t left out link in_chapter none turned h = same_keeps old new out link (unmarked old new t left in_chapter none turned) (heard_stays old new t left turned) h
 
-pub phase_hands : {M : Type 0} (old new : Turning) (n : ℕ) (who : Who) (r : PhaseLook M) (out : Option ℕ) (link : Option Linked) → IsLinked old out link → Phases n who old new (phased_of r)
+pub phase_hands : {G M E Z : Type 0} (old new : Turning) (n : ℕ) (who : Who) (r : PhaseLook G M E Z) (out : Option ℕ) (link : Option Linked) → IsLinked old out link → Phases n who old new (phased_of r)
     → Hands (is_some (phase_ticket r)) old new out (kept_link (made_boot (standing_of new.cell)) link)
 phase_hands old new n who (phase.Away t x) out link h phases =
     away_hands old new out (kept_link (made_boot (standing_of new.cell)) link)
@@ -494,7 +492,7 @@ back_linked old new n x left sent fresh link turned answered h = record {
   out_with = tt;
 }
 
-pub back_hands : {M : Type 0} (old new : Turning) (n : ℕ) (x : Answer) (sent fresh : Bool) (r : Back M) (out : Option ℕ) (link : Option Linked) → IsAnswered old.cell sent x fresh → IsLinked old out link → GoesBack n x old new (back_of r)
+pub back_hands : {G M E Z : Type 0} (old new : Turning) (n : ℕ) (x : Answer) (sent fresh : Bool) (r : Back G M E Z) (out : Option ℕ) (link : Option Linked) → IsAnswered old.cell sent x fresh → IsLinked old out link → GoesBack n x old new (back_of r)
     → Hands (is_some (back_ticket r)) old new None (link_made fresh (boot_heard new.cell.ears) (made_boot (standing_of new.cell)) (with_monitor out link))
 back_hands old new n x sent fresh (back.Done r) out link answered h goes =
     stays_hands old new None (link_made fresh (boot_heard new.cell.ears) (made_boot (standing_of new.cell)) (with_monitor out link))

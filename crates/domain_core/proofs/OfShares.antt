@@ -19,3 +19,4 @@ pub use Rattle.core_step_laws.proofs.Phases.{ends_keep, phases_keep}
 pub use Rattle.core_step_laws.proofs.Queueing.{operation_queues_tell, queues_tell}
 pub use Rattle.core_step_laws.proofs.Telling.{shares_tell}
 pub use Rattle.core_step_laws.proofs.Walking.{IsDoneIn, IsOpenAs, done_in, open_keeps}
+pub use Rattle.core_step_laws.proofs.Watching.{takes_keep, unwatches_keep, watches_keep}

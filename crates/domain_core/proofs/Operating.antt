@@ -8,7 +8,7 @@ use Rattle.domain_spec.specs.declared.open.OpenOperation.{OpenOperation}
 use Rattle.domain_spec.specs.declared.step.Outcome.{Outcome}
 use Rattle.domain_spec.specs.declared.step.Outcome.TheVariants as outcome
 use Rattle.domain_spec.specs.CanTake.{CanTake, HasNoneOpen, IsOperationOf}
-use Rattle.domain_spec.specs.Cell.{HeldEvent, LentEars, Queue}
+use Rattle.domain_spec.specs.Cell.{HeldEvent, LentEars, Queue, share_of}
 use Rattle.domain_spec.specs.Open.{OperationGoesOn, is_rest}
 use Rattle.domain_spec.specs.Turns.{AllHaveRoom}
 use Rattle.core_steps.specs.OfAsks.{Asked}
@@ -21,6 +21,9 @@ use Rattle.core_steps.specs.Rooms.{HasEnd, rooms_lent, rooms_needed, ends_needed
 use Rattle.core_steps.specs.Turning.{HasTurned, Turning, cell_of, turning, FitsJob}
 use Rattle.core_steps.specs.declared.refusing.Refusable.{Refusable}
 use Rattle.domain_core.specs.Core.{IsWhole}
+use Rattle.domain_core.specs.Entering.{EntersSo, LooksFor}
+use Rattle.domain_core.specs.Shares.{IsFree}
+use Rattle.domain_core.proofs.Shares.{free_begin, free_take_up, none_open}
 use Rattle.domain_core.proofs.Whole.{fits_after, none_held, same_rooms}
 use Rattle.core_steps.specs.Beginning.{BeginsSo, Looks, LooksToBegin, LooksToTakeUp, TakesUpSo, WaitsSo}
 use Rattle.core_steps.specs.OperationEnding.{CanEnd, Ends, EndsSo, IsOver}
@@ -67,7 +70,7 @@ waits_course n who d old new q p look.NoMemory h = ap (λ (r : Recorded). r.cour
 waits_course n who d old new q p look.Begun h = absurd h
 waits_course n who d old new q p (look.Done r) h = absurd h
 
-pub begins_course : (n : ℕ) (who : Who) (d : Call) (old new : Recorded) (q p : Queue) (result : OperationLook) → BeginsSo n who d old new q p result → (new.course ≡ None) ⊎ (new.course ≡ old.course)
+begins_course : (n : ℕ) (who : Who) (d : Call) (old new : Recorded) (q p : Queue) (result : OperationLook) → BeginsSo n who d old new q p result → (new.course ≡ None) ⊎ (new.course ≡ old.course)
 begins_course n who d old new q p look.Begun (inl h) = inl h.1.1.3
 begins_course n who d old new q p (look.Done r) (inl h) = inl h.1.1.1.none_away
 begins_course n who d old new q p look.NoMemory (inl h) = inr (ap (λ (r : Recorded). r.course) h.1.0)
@@ -75,7 +78,7 @@ begins_course n who d old new q p (look.Excluded held boot looks) (inl h) = absu
 begins_course n who d old new q p (look.WaitersFull w) (inl h) = absurd h.1
 begins_course n who d old new q p result (inr h) = inr (waits_course n who d old new q p result h.1)
 
-pub takes_course : (n : ℕ) (who : Who) (d : Call) (old new : Recorded) (q p : Queue) (result : OperationLook) → TakesUpSo n who d old new q p result → (new.course ≡ None) ⊎ (new.course ≡ old.course)
+takes_course : (n : ℕ) (who : Who) (d : Call) (old new : Recorded) (q p : Queue) (result : OperationLook) → TakesUpSo n who d old new q p result → (new.course ≡ None) ⊎ (new.course ≡ old.course)
 takes_course n who d old new q p look.Begun (inl h) = inl h.1.1.3
 takes_course n who d old new q p (look.Done r) (inl h) = inl h.1.1.1.none_away
 takes_course n who d old new q p look.NoMemory (inl h) = inr (ap (λ (r : Recorded). r.course) h.1.0)
@@ -94,41 +97,54 @@ can_turn : (old : Recorded) (q : Queue) (held : List HeldEvent) (ears : Option L
     → (force_of old).lost ≡ None → WaitsWith (force_of old) (force_of old).job old.course → AllHaveRoom (registrations old.listeners) → CanTurn old q held ears t
 can_turn old q held ears x rooms places t whole can lost waits room = record { can = can; settled = record { lost = lost; waits = waits }; room = room; fits = whole.kept.fits }
 
-pub none_open_now : (r : Recorded) (q : Queue) (held : List HeldEvent) (ears : Option LentEars) (n : ℕ) (who : Who) (d : Call) → CanTake (cell_of r q held ears) (step.BeginOp n who d) → HasNoneOpen (force_of r) n
+pub none_open_now : (r : Recorded) (q : Queue) (held : List HeldEvent) (ears : Option LentEars) (n : ℕ) (who : Who) → IsFree (share_of (cell_of r q held ears) n) who → HasNoneOpen (force_of r) n
 unfolding standing_in
-none_open_now r q held ears n who d can = can.0
+none_open_now r q held ears n who free = none_open (cell_of r q held ears) n who free
 
-pub none_open_then : (r : Recorded) (q : Queue) (held : List HeldEvent) (ears : Option LentEars) (n : ℕ) (who : Who) (d : Call) → CanTake (cell_of r q held ears) (step.TakeUp n who d) → HasNoneOpen (force_of r) n
-unfolding standing_in
-none_open_then r q held ears n who d can = can.0
-
-pub begin_turn : (old new : Recorded) (q p : Queue) (held : List HeldEvent) (ears : Option LentEars) (x : Option Refusable) (rooms places n : ℕ) (who : Who) (d : Call) (result : OperationLook) → IsWhole old q held ears x rooms places
+begin_turn : (old new : Recorded) (q p : Queue) (held : List HeldEvent) (ears : Option LentEars) (x : Option Refusable) (rooms places n : ℕ) (who : Who) (d : Call) (result : OperationLook) → IsWhole old q held ears x rooms places
     → CanTake (cell_of old q held ears) (step.BeginOp n who d) → (force_of old).lost ≡ None → WaitsWith (force_of old) (force_of old).job old.course → AllHaveRoom (registrations old.listeners)
     → (force_of new).lost ≡ None → WaitsWith (force_of new) (force_of new).job new.course → BeginsSo n who d old new q p result
     → LooksToBegin n who d (turning old q held ears) (turning new p held ears) result
 begin_turn old new q p held ears x rooms places n who d result whole can lost waits room lost_now waits_now so =
     begins_are old new q p held ears n who d result (can_turn old q held ears x rooms places (step.BeginOp n who d) whole can lost waits room) (record { lost = lost_now; waits = waits_now }) so
 
-pub begin_keeps : (old new : Recorded) (q p : Queue) (held : List HeldEvent) (ears : Option LentEars) (x y : Option Refusable) (rooms places n : ℕ) (who : Who) (d : Call) (result : OperationLook) → IsWhole old q held ears x rooms places
-    → LooksToBegin n who d (turning old q held ears) (turning new p held ears) result → BeginsSo n who d old new q p result → HasEnd new rooms → IsSetAside new p rooms y → IsWhole new p held ears y rooms places
-begin_keeps old new q p held ears x y rooms places n who d result whole looks so ends set =
-    let turned = op_turned (step.BeginOp n who d) _ n who d (turning old q held ears) (turning new p held ears) result looks in
-    step_keeps old new q p held ears x y rooms rooms places (step.BeginOp n who d) turned.0 whole turned.1 turned.1.leads.base
-    (fewer_rooms old new held (rooms_lent ears) rooms (begins_course n who d old new q p result so) whole.kept.has_rooms.enough) whole.kept.has_rooms.few ends set
-
-pub take_turn : (old new : Recorded) (q p : Queue) (held : List HeldEvent) (ears : Option LentEars) (x : Option Refusable) (rooms places n : ℕ) (who : Who) (d : Call) (result : OperationLook) → IsWhole old q held ears x rooms places
+take_turn : (old new : Recorded) (q p : Queue) (held : List HeldEvent) (ears : Option LentEars) (x : Option Refusable) (rooms places n : ℕ) (who : Who) (d : Call) (result : OperationLook) → IsWhole old q held ears x rooms places
     → CanTake (cell_of old q held ears) (step.TakeUp n who d) → (force_of old).lost ≡ None → WaitsWith (force_of old) (force_of old).job old.course → AllHaveRoom (registrations old.listeners)
     → (force_of new).lost ≡ None → WaitsWith (force_of new) (force_of new).job new.course → TakesUpSo n who d old new q p result
     → LooksToTakeUp n who d (turning old q held ears) (turning new p held ears) result
 take_turn old new q p held ears x rooms places n who d result whole can lost waits room lost_now waits_now so =
     take_ups_are old new q p held ears n who d result (can_turn old q held ears x rooms places (step.TakeUp n who d) whole can lost waits room) (record { lost = lost_now; waits = waits_now }) so
 
-pub take_keeps : (old new : Recorded) (q p : Queue) (held : List HeldEvent) (ears : Option LentEars) (x y : Option Refusable) (rooms places n : ℕ) (who : Who) (d : Call) (result : OperationLook) → IsWhole old q held ears x rooms places
-    → LooksToTakeUp n who d (turning old q held ears) (turning new p held ears) result → TakesUpSo n who d old new q p result → HasEnd new rooms → IsSetAside new p rooms y → IsWhole new p held ears y rooms places
-take_keeps old new q p held ears x y rooms places n who d result whole looks so ends set =
-    let turned = op_turned (step.TakeUp n who d) _ n who d (turning old q held ears) (turning new p held ears) result looks in
-    step_keeps old new q p held ears x y rooms rooms places (step.TakeUp n who d) turned.0 whole turned.1 turned.1.leads.base
-    (fewer_rooms old new held (rooms_lent ears) rooms (takes_course n who d old new q p result so) whole.kept.has_rooms.enough) whole.kept.has_rooms.few ends set
+-- either
+
+pub enters_course : (n : ℕ) (who : Who) (d : Call) (old new : Recorded) (q p : Queue) (result : OperationLook) → EntersSo n who d old new q p result → (new.course ≡ None) ⊎ (new.course ≡ old.course)
+enters_course n who d old new q p result (inl (begins, so)) = begins_course n who d old new q p result so
+enters_course n who d old new q p result (inr (takes, so)) = takes_course n who d old new q p result so
+
+pub enter_turn : (old new : Recorded) (q p : Queue) (held : List HeldEvent) (ears : Option LentEars) (x : Option Refusable) (rooms places n : ℕ) (who : Who) (d : Call) (result : OperationLook) → IsWhole old q held ears x rooms places
+    → IsFree (share_of (cell_of old q held ears) n) who → (force_of old).lost ≡ None → WaitsWith (force_of old) (force_of old).job old.course → AllHaveRoom (registrations old.listeners)
+    → (force_of new).lost ≡ None → WaitsWith (force_of new) (force_of new).job new.course → EntersSo n who d old new q p result
+    → LooksFor n who d (turning old q held ears) (turning new p held ears) result
+enter_turn old new q p held ears x rooms places n who d result whole free lost waits room lost_now waits_now (inl (begins, so)) =
+    inl (begins, begin_turn old new q p held ears x rooms places n who d result whole (free_begin (cell_of old q held ears) n who d free begins) lost waits room lost_now waits_now so)
+enter_turn old new q p held ears x rooms places n who d result whole free lost waits room lost_now waits_now (inr (takes, so)) =
+    inr (takes, take_turn old new q p held ears x rooms places n who d result whole (free_take_up (cell_of old q held ears) n who d free takes) lost waits room lost_now waits_now so)
+
+op_keeps : (t : CoreStep ℕ) (marks : List (Mark ℕ)) (old new : Recorded) (q p : Queue) (held : List HeldEvent) (ears : Option LentEars) (x y : Option Refusable) (rooms places n : ℕ) (who : Who) (d : Call) (result : OperationLook)
+    → IsWhole old q held ears x rooms places → Looks t marks n who d (turning old q held ears) (turning new p held ears) result → new.history.base ≡ old.history.base → (new.course ≡ None) ⊎ (new.course ≡ old.course) → HasEnd new rooms
+    → IsSetAside new p rooms y → IsWhole new p held ears y rooms places
+op_keeps t marks old new q p held ears x y rooms places n who d result whole looks base course ends set =
+    let turned = op_turned t marks n who d (turning old q held ears) (turning new p held ears) result looks in
+    step_keeps old new q p held ears x y rooms rooms places t turned.0 whole turned.1 base (fewer_rooms old new held (rooms_lent ears) rooms course whole.kept.has_rooms.enough) whole.kept.has_rooms.few ends set
+
+pub enter_keeps : (old new : Recorded) (q p : Queue) (held : List HeldEvent) (ears : Option LentEars) (x y : Option Refusable) (rooms places n : ℕ) (who : Who) (d : Call) (result : OperationLook) → IsWhole old q held ears x rooms places
+    → LooksFor n who d (turning old q held ears) (turning new p held ears) result → EntersSo n who d old new q p result → HasEnd new rooms → IsSetAside new p rooms y → IsWhole new p held ears y rooms places
+enter_keeps old new q p held ears x y rooms places n who d result whole (inl (begins, looks)) so ends set =
+    op_keeps (step.BeginOp n who d) _ old new q p held ears x y rooms places n who d result whole looks
+    (op_turned (step.BeginOp n who d) _ n who d (turning old q held ears) (turning new p held ears) result looks).1.leads.base (enters_course n who d old new q p result so) ends set
+enter_keeps old new q p held ears x y rooms places n who d result whole (inr (takes, looks)) so ends set =
+    op_keeps (step.TakeUp n who d) _ old new q p held ears x y rooms places n who d result whole looks
+    (op_turned (step.TakeUp n who d) _ n who d (turning old q held ears) (turning new p held ears) result looks).1.leads.base (enters_course n who d old new q p result so) ends set
 
 -- a phase
 

@@ -36,12 +36,12 @@ use Rattle.core_steps.specs.declared.refusing.Refusable.{Refusable}
 use Rattle.core_steps.proofs.Asking.{asks_along}
 use Rattle.core_steps.specs.Guests.{boot_to_hear, ears_lent}
 use Rattle.core_steps.specs.Clients.{IsRegisteredBy, Rotates}
-use Rattle.core_steps.specs.Beginning.{BeginsSo, LooksToBegin, LooksToTakeUp, TakesUpSo}
 use Rattle.core_steps.specs.Phasing.{Phases, PhasesSo}
 use Rattle.core_steps.specs.declared.beginning.OperationLook.{OperationLook}
 use Rattle.core_steps.specs.declared.phasing.PhaseLook.{PhaseLook}
 use Rattle.domain_core.specs.Core.{Core, HasOut, core_of}
-use Rattle.domain_core.proofs.Operating.{begins_course, op_turned, phase_turned, takes_course}
+use Rattle.domain_core.specs.Entering.{EntersSo, LooksFor}
+use Rattle.domain_core.proofs.Operating.{enters_course, op_turned, phase_turned}
 use Rattle.domain_core.proofs.Watching.{own_there}
 use Rattle.domain_core.proofs.Whole.{left_turned, looks_turned, stays_course}
 
@@ -145,21 +145,17 @@ op_course : (old new : Recorded) (n : ℕ) → (new.course ≡ None) ⊎ (new.co
 op_course old new n (inl none) waits j k e f unlike = absurd (none_waits (force_of new) (force_of new).job new.course k none f waits)
 op_course old new n (inr same) waits j k e f unlike = same
 
-pub begin_others : (v : Core) (old new : Recorded) (q p : Queue) (held : List HeldEvent) (ears : Option LentEars) (x : Option Refusable) (n : ℕ) (who : Who) (d : Call) (result : OperationLook) → core_of old q held ears x ≡ v
-    → LooksToBegin n who d v.turning (turning new p held ears) result → BeginsSo n who d old new q p result → AreApart old.listeners
+pub enter_others : (v : Core) (old new : Recorded) (q p : Queue) (held : List HeldEvent) (ears : Option LentEars) (x : Option Refusable) (n : ℕ) (who : Who) (d : Call) (result : OperationLook) → core_of old q held ears x ≡ v
+    → LooksFor n who d v.turning (turning new p held ears) result → EntersSo n who d old new q p result → AreApart old.listeners
     → WaitsWith (force_of old) (force_of old).job old.course → WaitsWith (force_of new) (force_of new).job new.course → KeepsOthers n v.turning.cell (cell_of new p held ears)
-begin_others v old new q p held ears x n who d result is looks so apart waits waits_now =
+enter_others v old new q p held ears x n who d result is (inl (begins, looks)) so apart waits waits_now =
     let turned = op_turned (step.BeginOp n who d) _ n who d v.turning (turning new p held ears) result looks in
     others_stay v old new q p held held ears ears x n (step.BeginOp n who d) turned.0 is turned.1
-    (record { own = refl; told = tt; apart = apart; waits = waits; waits_now = waits_now; course = op_course old new n (begins_course n who d old new q p result so) waits_now })
-
-pub take_up_others : (v : Core) (old new : Recorded) (q p : Queue) (held : List HeldEvent) (ears : Option LentEars) (x : Option Refusable) (n : ℕ) (who : Who) (d : Call) (result : OperationLook) → core_of old q held ears x ≡ v
-    → LooksToTakeUp n who d v.turning (turning new p held ears) result → TakesUpSo n who d old new q p result → AreApart old.listeners
-    → WaitsWith (force_of old) (force_of old).job old.course → WaitsWith (force_of new) (force_of new).job new.course → KeepsOthers n v.turning.cell (cell_of new p held ears)
-take_up_others v old new q p held ears x n who d result is looks so apart waits waits_now =
+    (record { own = refl; told = tt; apart = apart; waits = waits; waits_now = waits_now; course = op_course old new n (enters_course n who d old new q p result so) waits_now })
+enter_others v old new q p held ears x n who d result is (inr (takes, looks)) so apart waits waits_now =
     let turned = op_turned (step.TakeUp n who d) _ n who d v.turning (turning new p held ears) result looks in
     others_stay v old new q p held held ears ears x n (step.TakeUp n who d) turned.0 is turned.1
-    (record { own = refl; told = tt; apart = apart; waits = waits; waits_now = waits_now; course = op_course old new n (takes_course n who d old new q p result so) waits_now })
+    (record { own = refl; told = tt; apart = apart; waits = waits; waits_now = waits_now; course = op_course old new n (enters_course n who d old new q p result so) waits_now })
 
 not_there : (o : Option OpenJob) (j : OpenJob) → o ≡ None → o ≡ Some j → ⊥
 not_there None j e f = cc

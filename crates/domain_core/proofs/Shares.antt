@@ -49,7 +49,7 @@ no_operation : (o : Option OpenOperation) (n : ℕ) → operation_of o n ≡ Non
 no_operation None n e = tt
 no_operation (Some o) n e = other_by o.outcome o.number n (none_if ((o.number == n) && not (is_rest o.outcome)) o e)
 
-none_open : (c : Cell) (n : ℕ) (who : Who) → IsFree (share_of c n) who → HasNoneOpen (standing_of c) n
+pub none_open : (c : Cell) (n : ℕ) (who : Who) → IsFree (share_of c n) who → HasNoneOpen (standing_of c) n
 none_open c n who free =
     record { no_call = no_call c (standing_of c) (standing_of c).job n free.no_call; no_operation = no_operation (standing_of c).operation n free.no_operation }
 

@@ -1,5 +1,5 @@
 -- What a cell keeps for other numbers, after each turn.
-use Rattle.std.proofs.Common.{◌≡◌, ◌≢◌, ◌⊎◌, inl, inr, ℕ, ◌==◌, List, [], is_some, Bool, true, false, Option, None, Some, if◌then◌else◌, refl, sym, ap, ◌∙◌, subst}
+use Rattle.std.proofs.Common.{◌≡◌, ◌≢◌, ◌⊎◌, inl, inr, ℕ, ◌==◌, List, is_some, Bool, Option, None, Some, if◌then◌else◌, refl, sym, ap, ◌∙◌}
 use Rattle.domain_spec.specs.Types.{Answer, Ask, Call, Who}
 use Rattle.domain_spec.specs.declared.core_step.CoreStep.{CoreStep}
 use Rattle.domain_spec.specs.declared.core_step.CoreStep.TheVariants as step
@@ -9,10 +9,9 @@ use Rattle.domain_spec.specs.declared.open.OpenJob.{OpenJob}
 use Rattle.domain_spec.specs.declared.standing.Standing.{Standing}
 use Rattle.domain_spec.specs.CanTake.{CanTake, IsAway}
 use Rattle.domain_spec.specs.Cell.{Cell, OpenCall, Share, as_let_in, asks_so_far, call_of, share_of, standing_of}
-use Rattle.core_steps.specs.OfLedger.{Back as CoreBack}
 use Rattle.core_steps.specs.Looking.{Looks}
 use Rattle.core_steps.specs.Turning.{AsksLast, HasTurned, chapter_after}
-use Rattle.domain_core.specs.Celled.{CellShare, Celled, KeepsOtherShares, cell_in, cell_share, chapter_of, monitor_of, standing_in}
+use Rattle.domain_core.specs.Celled.{CellShare, Celled, KeepsOtherShares, cell_in, chapter_of, monitor_of, standing_in}
 use Rattle.domain_core.specs.Held.{out_by}
 use Rattle.domain_core.specs.Tickets.{look_ticket, looked_of, phase_ticket, phased_of}
 use Rattle.domain_core.specs.declared.ticket.Look.{Look}
@@ -95,7 +94,7 @@ away_call c (Some j) n m is away unlike = not_called (standing_of c) (standing_o
 
 -- turns that may hand the monitor out
 
-pub look_others : {M : Type 0} (old new : Celled) (n : ℕ) (who : Who) (d : Call) (f : First) (r : Look M) → KeepsOthers n (cell_in old) (cell_in new) → Looks n who d f old.core.turning new.core.turning (looked_of r)
+pub look_others : {G M E Z : Type 0} (old new : Celled) (n : ℕ) (who : Who) (d : Call) (f : First) (r : Look G M E Z) → KeepsOthers n (cell_in old) (cell_in new) → Looks n who d f old.core.turning new.core.turning (looked_of r)
     → new.out ≡ out_by (is_some (look_ticket r)) (made_boot (standing_in new)) old.out → KeepsOtherShares n old new
 look_others old new n who d f (look.Away t x) keeps h e = others_by old new n keeps (inr (λ m unlike. one_call (cell_in new) n m x h.2.1 unlike))
 look_others old new n who d f (look.Done r) keeps h e = step_others old new n (step.Look n who d f) h.0 tt h.1 keeps e
@@ -103,7 +102,7 @@ look_others old new n who d f (look.Excluded held boot looks) keeps h e = step_o
 look_others old new n who d f (look.WaitersFull w) keeps h e = step_others old new n (step.Look n who d f) h.0 tt h.1 keeps e
 look_others old new n who d f look.NoMemory keeps h e = step_others old new n (step.Look n who d f) h.0 tt h.1 keeps e
 
-pub phase_others : {M : Type 0} (old new : Celled) (n : ℕ) (who : Who) (r : PhaseLook M) → KeepsOthers n (cell_in old) (cell_in new) → Phases n who old.core.turning new.core.turning (phased_of r)
+pub phase_others : {G M E Z : Type 0} (old new : Celled) (n : ℕ) (who : Who) (r : PhaseLook G M E Z) → KeepsOthers n (cell_in old) (cell_in new) → Phases n who old.core.turning new.core.turning (phased_of r)
     → new.out ≡ out_by (is_some (phase_ticket r)) (made_boot (standing_in new)) old.out → KeepsOtherShares n old new
 phase_others old new n who (phase.Away t x) keeps h e = others_by old new n keeps (inr (λ m unlike. one_call (cell_in new) n m x h.1.2.1 unlike))
 phase_others old new n who (phase.Phased st) keeps h e = step_others old new n (step.Phase n who) h.1.0 tt h.1.1 keeps e

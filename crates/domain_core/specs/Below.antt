@@ -4,3 +4,5 @@ pub use Rattle.core_steps.specs.Below.core_chapter as core_chapter
 pub use Rattle.core_steps.specs.Below.core_flight as core_flight
 pub use Rattle.core_steps.specs.Below.core_log as core_log
 pub use Rattle.core_steps.specs as core_steps
+pub use Rattle.core_owed.specs as core_owed
+pub use Rattle.event_queue.specs as event_queue

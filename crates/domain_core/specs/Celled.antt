@@ -1,5 +1,5 @@
 -- A domain's cell, as contracts see it.
-use Rattle.std.specs.Prelude.{◌≡◌, ◌≢◌, ℕ, List, length, nat_lt, Bool, true, false, option_map, Option, None, Some, if◌then◌else◌}
+use Rattle.std.specs.Prelude.{◌≡◌, ◌≢◌, ℕ, List, length, nat_lt, Bool, Option, None, Some, if◌then◌else◌}
 use Rattle.domain_spec.specs.Types.{DomainDef}
 use Rattle.domain_spec.specs.declared.standing.Standing.{Standing}
 use Rattle.domain_spec.specs.Cell.{Cell, HeldEvent, LentEars, OpenCall, Share, share_of, standing_of}
@@ -12,6 +12,7 @@ use Rattle.domain_core.specs.Held.{IsLinked}
 use Rattle.domain_core.specs.Linked.{Linked}
 use Rattle.core_step_laws.specs.Made.{made_boot}
 use Rattle.core_step_laws.specs.Steady.{IsSteady}
+use Rattle.core_owed.specs.Owing.{IsOwing}
 
 -- the domain between two turns, and the boot whose monitor is out with the ticket of the open call
 pub record Celled : Type 0 where
@@ -68,9 +69,11 @@ abbrev pub boot_to_lend : Celled → Option ℕ
 boot_to_lend c = lendable (made_boot (standing_in c)) (cell_in c).held (cell_in c).ears
 
 -- what holds between two turns: the link that is here is that of the guest that is there, the history is legal and its
--- boots are counted, and what was asked stays what is asked
+-- boots are counted, what was asked stays what is asked, and what pends for each registration, with what was taken, is
+-- what its history owes
 pub record IsCell (t : Turning) (out : Option ℕ) (link : Option Linked) : Type 0 where
   pub linked : IsLinked t out link
   pub steady : IsSteady (standing_of t.cell)
   pub counted : IsCounted (at_base t.cell.base)
   pub legal : IsLegal (at_base t.cell.base) t.cell.marks
+  pub owed : IsOwing t.cell

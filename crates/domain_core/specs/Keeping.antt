@@ -1,7 +1,6 @@
 -- No mark lowers the number of boots, and a new chapter keeps it.
-use Rattle.std.proofs.Common.{◌≡◌, ◌≤◌, ◌++◌, ℕ, List, ap, sym, subst, le_refl}
+use Rattle.std.proofs.Common.{◌≤◌, sym, subst, le_refl}
 use Rattle.turn_cell.specs.Meaning.{NewBaseKeeps, NoMarkLowers}
-use Rattle.domain_spec.specs.declared.mark.Mark.{Mark}
 use Rattle.domain_spec.specs.declared.standing.Standing.{Standing}
 use Rattle.domain_spec.specs.Fold.{at_base, standing}
 use Rattle.domain_spec.specs.Reading.{boots_of}

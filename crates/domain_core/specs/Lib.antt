@@ -3,8 +3,10 @@ pub mod Celled
 pub mod Changing
 pub mod Clients
 pub mod Core
+pub mod Entering
 pub mod Held
 pub mod Keeping
+pub mod Leading
 pub mod Linked
 pub mod Meaning
 pub mod OfOperations

@@ -1,10 +1,10 @@
 -- What a turn cell sees in a domain's cell: its chapters, and what it keeps for the number of each pass alone.
-use Rattle.std.specs.Prelude.{ℕ, [], Bool, false, Option, None, Some}
+use Rattle.std.specs.Prelude.{ℕ, [], false, None}
 use Rattle.history_spec.specs.declared.history.History.{History}
 use Rattle.turn_cell.specs.Meaning.{Meaning}
 use Rattle.domain_spec.specs.declared.mark.Mark.{Mark}
 use Rattle.domain_spec.specs.declared.standing.Base.{Base}
-use Rattle.domain_spec.specs.Cell.{Share, standing_of}
+use Rattle.domain_spec.specs.Cell.{standing_of}
 use Rattle.domain_spec.specs.Chapter.{first_base, next_base, rising_number}
 use Rattle.domain_core.specs.Celled.{CellShare, Celled, cell_in, cell_share}
 use Rattle.core_step_laws.specs.Shares.{whose}

@@ -10,6 +10,7 @@ use Rattle.domain_spec.specs.CanTake.{CanLook, CanTake}
 use Rattle.domain_spec.specs.Cell.{Cell, OpenCall, Share, share_of, standing_of}
 use Rattle.core_steps.specs.OperationEnding.{CanEnd}
 use Rattle.core_steps.specs.Phasing.{IsDue}
+use Rattle.core_owed.specs.Taking.{taken_by}
 
 -- nothing of the pass is open, and it waits as this caller or doesn't wait
 pub record IsFree (s : Share) (who : Who) : Type 0 where
@@ -49,3 +50,7 @@ OperationSharesPhase = (c : Cell) (n : ℕ) (who : Who) → IsDue (share_of c n)
 
 abbrev pub OperationSharesEnd : Type 0
 OperationSharesEnd = (c : Cell) (n : ℕ) (who : Who) → CanEnd (share_of c n).operation n who → CanEnd (standing_of c).operation n who
+
+-- a pass that has a registration may take what pends for it
+abbrev pub RegisteredSharesTake : Type 0
+RegisteredSharesTake = (c : Cell) (n client taken : ℕ) → taken_by (share_of c n).registrations client ≡ Some taken → CanTake c (step.Take n client)

@@ -1,5 +1,5 @@
 -- What the turns of a cell answer, and the tickets that they hand out.
-use Rattle.std.specs.Prelude.{◌≡◌, ◌≤◌, ℕ, List, is_some, Bool, true, false, Option, None, Some}
+use Rattle.std.specs.Prelude.{◌≡◌, ◌≤◌, ℕ, is_some, Bool, true, false, Option, None, Some}
 use Rattle.domain_spec.specs.Types.{Answer, Ask, EndReason}
 use Rattle.domain_spec.specs.Types.answer
 use Rattle.domain_spec.specs.Types.ask
@@ -7,6 +7,8 @@ use Rattle.domain_spec.specs.Types.reason
 use Rattle.domain_spec.specs.Asks.{is_ended_answer, is_lost_answer, is_ok_answer}
 use Rattle.domain_spec.specs.Cell.{Cell, standing_of}
 use Rattle.domain_spec.specs.Lawful.{IsUnsent}
+use Rattle.domain_spec.specs.declared.open.OpenOperation.{OpenOperation}
+use Rattle.domain_core.specs.Leading.{Leads, step_of}
 use Rattle.core_steps.specs.OfLedger.back_variants as core_back
 use Rattle.core_steps.specs.OfLedger.{Back as CoreBack}
 use Rattle.core_steps.specs.declared.looking.Looked.{Looked}
@@ -22,49 +24,58 @@ use Rattle.domain_core.specs.declared.ticket.PhaseLook.TheVariants as phase
 use Rattle.domain_core.specs.declared.ticket.Ticket.{Ticket}
 use Rattle.core_step_laws.specs.Made.{AsksThis}
 
-module _ {M : Type 0} where
+module _ {G M E Z : Type 0} where
   -- the same without tickets
-  abbrev pub looked_of : Look M → Looked
+  abbrev pub looked_of : Look G M E Z → Looked
   looked_of (look.Done r) = core_look.Done r
   looked_of (look.Away t x) = core_look.Away x
   looked_of (look.Excluded held boot looks) = core_look.Excluded held boot looks
   looked_of (look.WaitersFull waiting) = core_look.WaitersFull waiting
   looked_of look.NoMemory = core_look.NoMemory
 
-  abbrev pub phased_of : PhaseLook M → CorePhase
+  abbrev pub phased_of : PhaseLook G M E Z → CorePhase
   phased_of (phase.Away t x) = core_phase.Away x
-  phased_of (phase.Phased step) = core_phase.Phased step
+  phased_of (phase.Phased said) = core_phase.Phased (step_of said)
   phased_of phase.Excluded = core_phase.Excluded
   phased_of phase.NoMemory = core_phase.NoMemory
 
-  abbrev pub back_of : Back M → CoreBack
+  abbrev pub back_of : Back G M E Z → CoreBack
   back_of (back.Done r) = core_back.Done r
   back_of (back.Away t x) = core_back.Away x
-  back_of (back.Phased step) = core_back.Phased step
+  back_of (back.Phased said) = core_back.Phased (step_of said)
+
+  -- what a phase led to is told so, over the operation as it is
+  abbrev pub LeadsOn : Option OpenOperation → PhaseLook G M E Z → Type 0
+  LeadsOn o (phase.Phased said) = Leads o (step_of said) said
+  LeadsOn o other = Unit {0}
+
+  abbrev pub LeadsBack : Option OpenOperation → Back G M E Z → Type 0
+  LeadsBack o (back.Phased said) = Leads o (step_of said) said
+  LeadsBack o other = Unit {0}
 
   -- the ticket that a turn hands out
-  abbrev pub look_ticket : Look M → Option (Ticket M)
+  abbrev pub look_ticket : Look G M E Z → Option (Ticket G M E Z)
   look_ticket (look.Away t x) = Some t
   look_ticket other = None
 
-  abbrev pub phase_ticket : PhaseLook M → Option (Ticket M)
+  abbrev pub phase_ticket : PhaseLook G M E Z → Option (Ticket G M E Z)
   phase_ticket (phase.Away t x) = Some t
   phase_ticket other = None
 
-  abbrev pub back_ticket : Back M → Option (Ticket M)
+  abbrev pub back_ticket : Back G M E Z → Option (Ticket G M E Z)
   back_ticket (back.Away t x) = Some t
   back_ticket other = None
 
   -- a ticket that goes out has a monitor or not
-  abbrev pub HasMonitor : Bool → Option (Ticket M) → Type 0
+  abbrev pub HasMonitor : Bool → Option (Ticket G M E Z) → Type 0
   HasMonitor has None = Unit {0}
   HasMonitor has (Some t) = is_some t.monitor ≡ has
 
-  -- a guest has ended, or the link to it was lost, only where its monitor counted that
-  abbrev pub IsCounted : (M → ℕ) → (M → ℕ) → Option M → Answer → Type 0
-  IsCounted ends faults (Some m) (answer.Ended why) = 1 ≤ ends m
-  IsCounted ends faults (Some m) answer.Lost = 1 ≤ faults m
-  IsCounted ends faults monitor other = Unit {0}
+-- a guest has ended, or the link to it was lost, only where its monitor counted that
+abbrev pub IsCounted : {M : Type 0} → (M → ℕ) → (M → ℕ) → Option M → Answer → Type 0
+IsCounted ends faults (Some m) (answer.Ended why) = 1 ≤ ends m
+IsCounted ends faults (Some m) answer.Lost = 1 ≤ faults m
+IsCounted ends faults monitor other = Unit {0}
 
 -- the same of what ears heard of an end
 abbrev pub IsHeardCounted : ℕ → ℕ → EndReason → Type 0

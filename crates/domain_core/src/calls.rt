@@ -8,7 +8,7 @@ ghost use Rattle.domain_spec.specs.declared.core_step.CoreStep.TheVariants as st
 ghost use Rattle.domain_core.specs.Core.{excluded_by};
 ghost use Rattle.domain_core.specs.Celled.{KeepsOtherShares, cell_in, standing_in};
 ghost use Rattle.domain_core.specs.Held.{out_by};
-ghost use Rattle.domain_core.specs.Tickets.{HasMonitor, IsAnswered, IsCounted, back_of, back_ticket, look_ticket, looked_of};
+ghost use Rattle.domain_core.specs.Tickets.{HasMonitor, IsAnswered, IsCounted, LeadsBack, back_of, back_ticket, look_ticket, looked_of};
 ghost use Rattle.core_steps.specs.Answering.{GoesBack};
 ghost use Rattle.core_steps.specs.Looking.{IsKnownFirst, Looks};
 ghost use Rattle.core_steps.specs.Refusing.{HasRefused};
@@ -20,15 +20,15 @@ use crate::cell::DomainCell;
 use crate::{Back, Look, Ticket, hand_back, hand_look, keep, keep_or_take, put_monitor};
 use domain_spec::First;
 use history_spec::Stamp;
-use monitor_link::{Ears, Killer, Link, Monitor};
+use monitor_link::{Guests, Link};
 use std::alloc::Global;
 use virt_types::{Answer, Call, Reply, Who};
 
-impl<M: Monitor + Drop, E: Ears + Drop, Z: Killer + Drop> DomainCell<M, E, Z> {
+impl<G: Guests> DomainCell<G> {
     /// A call looks: it is let in, and is done at once or asks somebody; or it is excluded and waits; or it
     /// may not wait, since 32 others do. It neither begins an operation nor takes one up. Where it asks it gets the
     /// monitor of the guest that is there. Where there is no memory nothing is left of it.
-    pub fn look(&mut self, alloc: Global, by: Stamp, who: Who, call: &Call, first: First) -> Look<M>
+    pub fn look(&mut self, alloc: Global, by: Stamp, who: Who, call: &Call, first: First) -> Look<G>
         requires can { CanLook (cell_in self.old) by.number who call.now first }
         requires known { IsKnownFirst first (cell_in self.old) }
         ensures looks { Looks by.number who call.now first self.old.core.turning self.new.core.turning (looked_of result) }
@@ -46,19 +46,21 @@ impl<M: Monitor + Drop, E: Ears + Drop, Z: Killer + Drop> DomainCell<M, E, Z> {
 
     /// The ask that the open call, or the phase, made last is answered so: it is done, and then the held events
     /// apply, or it asks on. The ticket comes back; with the answer that a guest was made comes its link. It takes no
-    /// memory but for the next ask.
+    /// memory but for the next ask, and for a copy of what the call of an operation is told that rests.
     pub fn back(
         &mut self,
+        alloc: Global,
         by: Stamp,
-        ticket: Ticket<M>,
+        ticket: Ticket<G>,
         answer: Answer,
-        made: Option<Link<M, E, Z>>,
-    ) -> Back<M>
+        made: Option<Link<G>>,
+    ) -> Back<G>
         requires can { CanTake (cell_in self.old) (step.Back by.number answer) }
         requires ticket { is_some ticket.monitor ≡ is_some self.old.out }
         requires answered { IsAnswered (cell_in self.old) (is_some ticket.monitor) answer (is_some made) }
-        requires counted { IsCounted M.ends M.faults ticket.monitor answer }
+        requires counted { IsCounted G.M.ends G.M.faults ticket.monitor answer }
         ensures back { GoesBack by.number answer self.old.core.turning self.new.core.turning (back_of result) }
+        ensures leads { LeadsBack (standing_in self.new).operation result }
         ensures excluded { self.new.core.excluded ≡ None }
         ensures out { self.new.out ≡ out_by (is_some (back_ticket result)) (made_boot (standing_in self.new)) None }
         ensures ticket { HasMonitor (is_some self.new.out) (back_ticket result) }
@@ -69,7 +71,7 @@ impl<M: Monitor + Drop, E: Ears + Drop, Z: Killer + Drop> DomainCell<M, E, Z> {
         let left = self.turns.back(by, answer);
         let now = self.turns.made();
         keep_or_take(&mut self.link, now, made, self.turns.heard());
-        hand_back(left, &mut self.link, &mut self.out, now)
+        hand_back(left, &self.turns, alloc, &mut self.link, &mut self.out, now)
     }
 
     /// The call that the turn before found excluded looked often enough: it is refused, and waits no more. It

@@ -1,7 +1,5 @@
 // A domain's cell: a domain between two turns, with the link of its guest.
 ghost use Rattle.std.specs.Prelude.{◌≡◌, IfOk, is_some, length};
-ghost use Rattle.core_steps.specs.Resting.{rested_in};
-ghost use Rattle.core_steps.specs.OfLedger.{IsToldAtEnd};
 ghost use Rattle.domain_spec.specs.Fold.{at_base};
 ghost use Rattle.domain_spec.specs.Laws.{IsCounted};
 ghost use Rattle.domain_spec.specs.Legal.{IsLegal};
@@ -12,10 +10,12 @@ ghost use Rattle.domain_core.specs.Celled.{cell_in, new_cell, standing_in};
 ghost use Rattle.domain_core.specs.Meaning.{history_of};
 ghost use Rattle.domain_core.specs.Held.{IsOutWith};
 ghost use Rattle.core_step_laws.specs.Steady.{IsSteady};
+ghost use Rattle.core_owed.specs.Owing.{IsOwing};
+ghost use Rattle.event_queue.specs.Listening.{has_client, registrations};
 
 use crate::{DomainTurns, Here};
 use core_steps::Chronicle;
-use monitor_link::{Ears, Killer, Monitor};
+use monitor_link::Guests;
 use std::alloc::Global;
 use std::marker::Model;
 use virt_types::{DomainDef, Front, NoMemory, Query, Reply, State};
@@ -24,13 +24,13 @@ use virt_types::{DomainDef, Front, NoMemory, Query, Reply, State};
 /// or a client is one step of it. The guest's monitor goes out with the ticket of the open call; its ears with a pass
 /// that hears.
 #[derive(Drop)]
-pub struct DomainCell<M, E, Z> {
+pub struct DomainCell<G: Guests> {
     pub(crate) turns: DomainTurns,
-    pub(crate) link: Option<Here<M, E, Z>>,
+    pub(crate) link: Option<Here<G>>,
     pub(crate) out: Option<u64>,
 }
 
-impl<M, E, Z> Model for DomainCell<M, E, Z> {
+impl<G: Guests> Model for DomainCell<G> {
     ghost use Rattle.domain_core.specs.Celled.{Celled, IsCell};
 
     ghost Value = { Celled };
@@ -40,14 +40,14 @@ impl<M, E, Z> Model for DomainCell<M, E, Z> {
     ghost invariant = { λ c. IsCell c.turns.turning c.out c.link };
 }
 
-impl<M: Monitor + Drop, E: Ears + Drop, Z: Killer + Drop> DomainCell<M, E, Z> {
+impl<G: Guests> DomainCell<G> {
     /// A domain as the store was opened: with this stored definition and its autostart, or vacant. Nobody waits
     /// or is registered.
     pub fn new(
         alloc: Global,
         stored: Option<DomainDef>,
         autostart: bool,
-    ) -> Result<DomainCell<M, E, Z>, NoMemory>
+    ) -> Result<DomainCell<G>, NoMemory>
         ensures { IfOk result (λ c. c ≡ new_cell stored autostart) }
     {
         Ok(DomainCell {
@@ -99,14 +99,6 @@ impl<M: Monitor + Drop, E: Ears + Drop, Z: Killer + Drop> DomainCell<M, E, Z> {
         self.turns.has_job()
     }
 
-    /// The reply of the phase that led the operation to rest: what the call is told that came so far, or, where there
-    /// is no memory for one more copy of it, that.
-    pub fn rest_reply(&self, alloc: Global) -> Reply
-        ensures { IsToldAtEnd (rested_in (standing_in self.now).operation) result }
-    {
-        self.turns.rest_reply(alloc)
-    }
-
     /// The place of the chapter's last mark that is no boot's end, no guest's event and no cut; before all marks
     /// where there is none.
     pub fn last(&self) -> Front
@@ -116,9 +108,10 @@ impl<M: Monitor + Drop, E: Ears + Drop, Z: Killer + Drop> DomainCell<M, E, Z> {
         self.turns.last()
     }
 
-    /// The history of the chapter by itself, once nothing more happens.
+    /// The history of the chapter by itself, once nothing more happens: it is legal.
     pub fn into_history(self) -> Chronicle
-        ensures { result ≡ history_of self }
+        ensures history { result ≡ history_of self }
+        ensures legal { IsLegal (at_base result.base) result.marks }
     {
         let DomainCell {
             turns,
@@ -128,14 +121,25 @@ impl<M: Monitor + Drop, E: Ears + Drop, Z: Killer + Drop> DomainCell<M, E, Z> {
         turns.into_history()
     }
 
-    /// The history is legal and its boots are counted, what was asked stays what is asked, and a monitor is out only
-    /// while a call is open. It does nothing.
+    /// Whether this client is registered.
+    pub fn has(&self, client: u32) -> bool
+        ensures { result ≡ has_client self.now.core.turning.listeners client }
+    {
+        self.turns.has(client)
+    }
+
+    /// The history is legal and its boots are counted, what was asked stays what is asked, a monitor is out only while
+    /// a call is open, and what pends for each listener, with what was taken, is what its history owes. It does
+    /// nothing.
     pub fn holds(&self)
         ensures legal { IsLegal (at_base (cell_in self.now).base) (cell_in self.now).marks }
         ensures counted { IsCounted (at_base (cell_in self.now).base) }
         ensures steady { IsSteady (standing_in self.now) }
         ensures out { IsOutWith (standing_in self.now) self.now.out }
+        ensures owed { IsOwing (cell_in self.now) }
+        ensures listeners { (cell_in self.now).registrations ≡ registrations self.now.core.turning.listeners }
     {
+        self.turns.listens();
         let _out = self.out;
     }
 }

@@ -6,7 +6,7 @@ ghost use Rattle.domain_spec.specs.declared.core_step.CoreStep.TheVariants as st
 ghost use Rattle.domain_spec.specs.declared.mark.Mark.TheVariants as mark;
 ghost use Rattle.domain_core.specs.Clients.{WatchesSo, with_queue};
 ghost use Rattle.domain_core.specs.Celled.{KeepsOtherShares, cell_in};
-ghost use Rattle.event_queue.specs.Listening.{HandsOut, listening_of};
+ghost use Rattle.event_queue.specs.Listening.{HandsOut, dropped_by, listening_of};
 ghost use Rattle.core_steps.specs.Turning.{Takes};
 ghost use Rattle.core_steps.specs.ClientLaws.{IsDropping, IsTaking};
 
@@ -15,11 +15,11 @@ use crate::keep;
 use core_steps::WatchFault;
 use event_queue::Taken;
 use history_spec::Stamp;
-use monitor_link::{Ears, Killer, Monitor};
+use monitor_link::Guests;
 use std::alloc::Global;
 use virt_types::{NoMemory, Who};
 
-impl<M: Monitor + Drop, E: Ears + Drop, Z: Killer + Drop> DomainCell<M, E, Z> {
+impl<G: Guests> DomainCell<G> {
     /// Registers a client for the transitions that come from now on, under the least number below 16 that no
     /// registration has.
     pub fn watch(&mut self, alloc: Global, by: Stamp) -> Result<u32, WatchFault>
@@ -65,6 +65,7 @@ impl<M: Monitor + Drop, E: Ears + Drop, Z: Killer + Drop> DomainCell<M, E, Z> {
     pub fn drop_events(&mut self, by: Stamp, client: u32)
         requires can { CanTake (cell_in self.old) (step.Take by.number client) }
         ensures drops { IsDropping by.number client self.old.core.turning self.new.core.turning }
+        ensures listeners { self.new.core.turning.listeners ≡ dropped_by self.old.core.turning.listeners client }
         ensures excluded { self.new.core.excluded ≡ None }
         ensures out { self.new.out ≡ self.old.out }
         ensures others { KeepsOtherShares by.number self.old self.new }

@@ -14,17 +14,17 @@ ghost use Rattle.core_steps.specs.Guests.{AreUntold, applies_now, boot_to_hear, 
 use crate::cell::DomainCell;
 use crate::{DomainTurns, Here, keep, kill, put_ears, take_ears};
 use history_spec::Stamp;
-use monitor_link::{Ears, Killer, Monitor};
+use monitor_link::Guests;
 use std::alloc::Global;
 use virt_types::{EndReason, GuestEvent, NoMemory};
 
 // Lends the ears of the guest that is there.
-fn lend<M, E, Z>(
+fn lend<G: Guests>(
     turns: &mut DomainTurns,
-    link: &mut Option<Here<M, E, Z>>,
+    link: &mut Option<Here<G>>,
     alloc: Global,
     by: Stamp,
-) -> Result<Option<(u64, E)>, NoMemory>
+) -> Result<Option<(u64, G::E)>, NoMemory>
     requires ears { turns.old.turning.cell.ears ≡ None → has_ears link.old ≡ true }
     ensures boot { IfOk result (λ lent. lent_boot lent ≡ boot_to_hear (standing_of turns.old.turning.cell).state turns.old.turning.cell.held turns.old.turning.cell.ears) }
     ensures lent { IfOk result (λ lent. turns.new.turning ≡ with_ears turns.old.turning (ears_lent by.number (lent_boot lent) turns.old.turning.cell.ears)) }
@@ -43,7 +43,7 @@ fn lend<M, E, Z>(
     }
 }
 
-impl<M: Monitor + Drop, E: Ears + Drop, Z: Killer + Drop> DomainCell<M, E, Z> {
+impl<G: Guests> DomainCell<G> {
     /// Ends the guest that is there, without asking it; nothing where none is. It may wait for the guest.
     pub fn kill(&mut self)
         ensures { self.new ≡ self.old }
@@ -53,10 +53,10 @@ impl<M: Monitor + Drop, E: Ears + Drop, Z: Killer + Drop> DomainCell<M, E, Z> {
 
     /// A boot ended so, as the ears told that are out: where it is live that is marked, and its listeners hear it.
     /// It takes no memory.
-    pub fn exit(&mut self, by: Stamp, boot: u64, why: EndReason, ears: &E)
+    pub fn exit(&mut self, by: Stamp, boot: u64, why: EndReason, ears: &G::E)
         requires own { HasOut by.number boot (cell_in self.old).ears }
         requires untold { AreUntold (cell_in self.old).ears boot }
-        requires counted { IsHeardCounted (E.ends ears.now) (E.faults ears.now) why }
+        requires counted { IsHeardCounted (G.E.ends ears.now) (G.E.faults ears.now) why }
         ensures exits { Takes self.old.core.turning self.new.core.turning (step.Exit boot why) (λ left. left ≡ exit_marks (is_live (standing_in self.old).state boot) boot why self.old.core.turning.listeners) }
         ensures excluded { self.new.core.excluded ≡ None }
         ensures out { self.new.out ≡ self.old.out }
@@ -86,7 +86,7 @@ impl<M: Monitor + Drop, E: Ears + Drop, Z: Killer + Drop> DomainCell<M, E, Z> {
     /// Lends the ears of the guest that is there to the pass of this stamp, with room for one thing that they tell.
     /// None where no guest is there, its ears are out, or 64 events are held. It leaves no mark; where there is no
     /// memory the ears stay.
-    pub fn lend_ears(&mut self, alloc: Global, by: Stamp) -> Result<Option<(u64, E)>, NoMemory>
+    pub fn lend_ears(&mut self, alloc: Global, by: Stamp) -> Result<Option<(u64, G::E)>, NoMemory>
         ensures boot { IfOk result (λ lent. lent_boot lent ≡ boot_to_lend self.old) }
         ensures lent { IfOk result (λ lent. self.new.core.turning ≡ with_ears self.old.core.turning (ears_lent by.number (lent_boot lent) (cell_in self.old).ears)) }
         ensures err { OnErr result (self.new.core.turning ≡ self.old.core.turning) }
@@ -101,7 +101,7 @@ impl<M: Monitor + Drop, E: Ears + Drop, Z: Killer + Drop> DomainCell<M, E, Z> {
 
     /// Takes the ears back, which were lent to the pass of this stamp; they are let go where their boot is not live
     /// any more. It leaves no mark.
-    pub fn return_ears(&mut self, by: Stamp, boot: u64, ears: E)
+    pub fn return_ears(&mut self, by: Stamp, boot: u64, ears: G::E)
         requires own { HasOut by.number boot (cell_in self.old).ears }
         ensures back { self.new.core.turning ≡ with_ears self.old.core.turning None }
         ensures excluded { self.new.core.excluded ≡ None }

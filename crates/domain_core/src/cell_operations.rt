@@ -1,13 +1,13 @@
 // The turns of operations.
 ghost use Rattle.std.specs.Prelude.{◌≡◌, None, is_some};
-ghost use Rattle.domain_spec.specs.CanTake.{CanTake};
-ghost use Rattle.domain_spec.specs.declared.core_step.CoreStep.TheVariants as step;
+ghost use Rattle.domain_spec.specs.Cell.{share_of};
 ghost use Rattle.domain_core.specs.Core.{excluded_so};
+ghost use Rattle.domain_core.specs.Entering.{LooksFor, Operates};
+ghost use Rattle.domain_core.specs.Shares.{IsFree};
 ghost use Rattle.domain_core.specs.Celled.{KeepsOtherShares, cell_in, standing_in};
 ghost use Rattle.domain_core.specs.Held.{out_by};
-ghost use Rattle.domain_core.specs.Tickets.{HasMonitor, phase_ticket, phased_of};
+ghost use Rattle.domain_core.specs.Tickets.{HasMonitor, LeadsOn, phase_ticket, phased_of};
 ghost use Rattle.core_step_laws.specs.Made.{made_boot};
-ghost use Rattle.core_steps.specs.Beginning.{LooksToBegin, LooksToTakeUp};
 ghost use Rattle.core_steps.specs.OperationEnding.{CanEnd, Ends};
 ghost use Rattle.core_steps.specs.Phasing.{IsDue, Phases};
 ghost use Rattle.core_step_laws.specs.Queued.{queue_by};
@@ -16,46 +16,33 @@ use crate::cell::DomainCell;
 use crate::{PhaseLook, hand_phase, keep};
 use core_steps::OperationLook;
 use history_spec::Stamp;
-use monitor_link::{Ears, Killer, Monitor};
+use monitor_link::Guests;
 use std::alloc::Global;
 use virt_types::{Call, Reply, Who};
 
-impl<M: Monitor + Drop, E: Ears + Drop, Z: Killer + Drop> DomainCell<M, E, Z> {
-    /// A call looks that begins an operation: where nothing is held it is let in, and the operation begins, or the
-    /// call is done since its tests refuse it; else it waits, or may not, since 32 others do.
-    pub fn begin_op(&mut self, alloc: Global, by: Stamp, who: Who, call: &Call) -> OperationLook
-        requires can { CanTake (cell_in self.old) (step.BeginOp by.number who call.now) }
-        ensures looks { LooksToBegin by.number who call.now self.old.core.turning self.new.core.turning result }
+impl<G: Guests> DomainCell<G> {
+    /// A call looks that begins an operation, or takes one up that rests: where the job table lets it in, the operation goes
+    /// on for it, or it is refused; else it waits, or may not, since 32 others do.
+    pub fn enter_op(&mut self, alloc: Global, by: Stamp, who: Who, call: &Call) -> OperationLook
+        requires free { IsFree (share_of (cell_in self.old) by.number) who }
+        requires operates { Operates call.now }
+        ensures looks { LooksFor by.number who call.now self.old.core.turning self.new.core.turning result }
         ensures queue { (cell_in self.new).queue ≡ queue_by result (cell_in self.old).queue by.number who }
         ensures excluded { self.new.core.excluded ≡ excluded_so who call.now result }
         ensures out { self.new.out ≡ self.old.out }
         ensures others { KeepsOtherShares by.number self.old self.new }
     {
-        let looked = self.turns.begin_op(alloc, by, who, call);
-        keep(&mut self.link, self.turns.made());
-        looked
-    }
-
-    /// A call looks that takes up an operation that rests: where nobody else works on the domain it is let in, and
-    /// takes it up or is refused; else it waits, or may not, since 32 others do.
-    pub fn take_up(&mut self, alloc: Global, by: Stamp, who: Who, call: &Call) -> OperationLook
-        requires can { CanTake (cell_in self.old) (step.TakeUp by.number who call.now) }
-        ensures looks { LooksToTakeUp by.number who call.now self.old.core.turning self.new.core.turning result }
-        ensures queue { (cell_in self.new).queue ≡ queue_by result (cell_in self.old).queue by.number who }
-        ensures excluded { self.new.core.excluded ≡ excluded_so who call.now result }
-        ensures out { self.new.out ≡ self.old.out }
-        ensures others { KeepsOtherShares by.number self.old self.new }
-    {
-        let looked = self.turns.take_up(alloc, by, who, call);
+        let looked = self.turns.enter_op(alloc, by, who, call);
         keep(&mut self.link, self.turns.made());
         looked
     }
 
     /// The due phase of the operation that this caller has open: it is let in where no normal job is open, and else
     /// is excluded and leaves nothing. Where it asks it gets the monitor of the guest that is there.
-    pub fn phase(&mut self, alloc: Global, by: Stamp, who: Who) -> PhaseLook<M>
+    pub fn phase(&mut self, alloc: Global, by: Stamp, who: Who) -> PhaseLook<G>
         requires due { IsDue (standing_in self.old).operation by.number who }
         ensures phases { Phases by.number who self.old.core.turning self.new.core.turning (phased_of result) }
+        ensures leads { LeadsOn (standing_in self.new).operation result }
         ensures excluded { self.new.core.excluded ≡ None }
         ensures out { self.new.out ≡ out_by (is_some (phase_ticket result)) (made_boot (standing_in self.new)) self.old.out }
         ensures ticket { HasMonitor (is_some self.new.out) (phase_ticket result) }
@@ -64,7 +51,14 @@ impl<M: Monitor + Drop, E: Ears + Drop, Z: Killer + Drop> DomainCell<M, E, Z> {
         let looked = self.turns.phase(alloc, by, who);
         let made = self.turns.made();
         keep(&mut self.link, made);
-        hand_phase(looked, &mut self.link, &mut self.out, made)
+        hand_phase(
+            looked,
+            &self.turns,
+            alloc,
+            &mut self.link,
+            &mut self.out,
+            made,
+        )
     }
 
     /// The operation that this caller has open, and that is over, ends with the reply of its last phase.

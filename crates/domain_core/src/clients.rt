@@ -4,13 +4,13 @@ ghost use Rattle.domain_spec.specs.CanTake.{CanTake};
 ghost use Rattle.domain_spec.specs.Kept.{left_queue};
 ghost use Rattle.domain_spec.specs.declared.core_step.CoreStep.TheVariants as step;
 ghost use Rattle.domain_core.specs.Clients.{WatchesSo, with_queue};
-ghost use Rattle.event_queue.specs.Listening.{HandsOut, listening_of};
+ghost use Rattle.event_queue.specs.Listening.{HandsOut, dropped_by, listening_of};
 ghost use Rattle.domain_spec.specs.declared.mark.Mark.TheVariants as mark;
 ghost use Rattle.core_steps.specs.Turning.{Takes};
 ghost use Rattle.core_step_laws.specs.Shares.{KeepsOthers};
 ghost use Rattle.core_steps.specs.ClientLaws.{IsDropping, IsTaking};
 
-use crate::turns::{DomainTurns, are_apart};
+use crate::turns::{DomainTurns, facts};
 use core_steps::{WatchFault, drop_events, rotate, take_events, unwatch, watch};
 use event_queue::Taken;
 use history_spec::Stamp;
@@ -26,13 +26,10 @@ impl DomainTurns {
         ensures others { KeepsOthers by.number self.old.turning.cell self.new.turning.cell }
         ensures excluded { self.new.excluded ≡ None }
     {
-        self.kept.is_away();
-        self.kept.state();
-        are_apart(&self.kept);
+        facts(&self.kept);
         self.excluded = None;
         let watched = watch(&mut self.kept, self.rooms.len(), alloc, by);
-        self.kept.is_away();
-        self.kept.state();
+        facts(&self.kept);
         watched
     }
 
@@ -44,13 +41,10 @@ impl DomainTurns {
         ensures others { KeepsOthers by.number self.old.turning.cell self.new.turning.cell }
         ensures excluded { self.new.excluded ≡ None }
     {
-        self.kept.is_away();
-        self.kept.state();
-        self.kept.has(client);
+        facts(&self.kept);
         self.excluded = None;
         unwatch(&mut self.kept, by, client);
-        self.kept.is_away();
-        self.kept.state();
+        facts(&self.kept);
     }
 
     /// Hands out all that pends for a client, or its loss, once, where nothing does. Where there is no memory
@@ -64,9 +58,7 @@ impl DomainTurns {
         ensures others { KeepsOthers by.number self.old.turning.cell self.new.turning.cell }
         ensures excluded { self.new.excluded ≡ None }
     {
-        self.kept.is_away();
-        self.kept.state();
-        self.kept.has(client);
+        facts(&self.kept);
         self.excluded = None;
         drop(by);
         take_events(&mut self.kept, alloc, client)
@@ -77,12 +69,11 @@ impl DomainTurns {
     pub fn drop_events(&mut self, by: Stamp, client: u32)
         requires can { CanTake self.old.turning.cell (step.Take by.number client) }
         ensures drops { IsDropping by.number client self.old.turning self.new.turning }
+        ensures listeners { self.new.turning.listeners ≡ dropped_by self.old.turning.listeners client }
         ensures others { KeepsOthers by.number self.old.turning.cell self.new.turning.cell }
         ensures excluded { self.new.excluded ≡ None }
     {
-        self.kept.is_away();
-        self.kept.state();
-        self.kept.has(client);
+        facts(&self.kept);
         self.excluded = None;
         drop(by);
         drop_events(&mut self.kept, client);
@@ -100,9 +91,7 @@ impl DomainTurns {
         ensures others { KeepsOthers by.number self.old.turning.cell self.new.turning.cell }
         ensures excluded { self.new.excluded ≡ None }
     {
-        self.kept.is_away();
-        self.kept.state();
-        are_apart(&self.kept);
+        facts(&self.kept);
         self.excluded = None;
         let rotated = rotate(
             &mut self.kept,
@@ -112,8 +101,7 @@ impl DomainTurns {
             by,
             who,
         );
-        self.kept.is_away();
-        self.kept.state();
+        facts(&self.kept);
         rotated
     }
 }

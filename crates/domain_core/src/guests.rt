@@ -8,7 +8,7 @@ ghost use Rattle.core_steps.specs.Turning.{Takes};
 ghost use Rattle.core_step_laws.specs.Shares.{KeepsOthers};
 ghost use Rattle.core_steps.specs.Guests.{AreUntold, applies_now, boot_to_hear, ears_lent, event_marks, exit_marks};
 
-use crate::turns::{DomainTurns, are_apart};
+use crate::turns::{DomainTurns, facts};
 use core_steps::{event, exit, lend, take_back};
 use history_spec::Stamp;
 use std::alloc::Global;
@@ -25,14 +25,11 @@ impl DomainTurns {
         ensures others { KeepsOthers by.number self.old.turning.cell self.new.turning.cell }
         ensures excluded { self.new.excluded ≡ None }
     {
-        self.kept.is_away();
-        self.kept.state();
-        are_apart(&self.kept);
+        facts(&self.kept);
         self.excluded = None;
         drop(by);
         exit(&mut self.kept, &mut self.rooms, &mut self.ears, boot, why);
-        self.kept.is_away();
-        self.kept.state();
+        facts(&self.kept);
     }
 
     /// A guest did this, as the ears told that are out. An event of a boot that is not live is dropped; another
@@ -47,9 +44,7 @@ impl DomainTurns {
         ensures others { KeepsOthers by.number self.old.turning.cell self.new.turning.cell }
         ensures excluded { self.new.excluded ≡ None }
     {
-        self.kept.is_away();
-        self.kept.state();
-        are_apart(&self.kept);
+        facts(&self.kept);
         self.excluded = None;
         drop(by);
         let can_hold = event(
@@ -60,8 +55,7 @@ impl DomainTurns {
             boot,
             event_heard,
         );
-        self.kept.is_away();
-        self.kept.state();
+        facts(&self.kept);
         can_hold
     }
 

@@ -3,7 +3,7 @@ ghost use Rattle.domain_core.specs.Celled.{CellShare};
 
 use crate::cell::DomainCell;
 use domain_spec::{Base, Mark};
-use monitor_link::{Ears, Killer, Monitor};
+use monitor_link::Guests;
 use std::marker::{Model, PhantomData};
 use turn_cell::Kept;
 
@@ -26,7 +26,7 @@ impl Model for Share {
     ghost also_owns = { λ _. ftrue };
 }
 
-impl<M: Monitor + Drop, E: Ears + Drop, Z: Killer + Drop> Kept for DomainCell<M, E, Z> {
+impl<G: Guests> Kept for DomainCell<G> {
     ghost use Rattle.domain_core.specs.Meaning.{meaning};
     ghost use Rattle.domain_core.specs.Keeping.{new_base_keeps, no_mark_lowers};
 

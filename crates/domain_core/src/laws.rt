@@ -1,5 +1,5 @@
 // Laws of the definitions: each function's contract is one, and its body does nothing.
-ghost use Rattle.domain_core.specs.Shares.{FreeSharesBegin, FreeSharesLook, FreeSharesTakeUp, OpenSharesGoBack, OperationSharesEnd, OperationSharesPhase};
+ghost use Rattle.domain_core.specs.Shares.{FreeSharesBegin, FreeSharesLook, FreeSharesTakeUp, OpenSharesGoBack, OperationSharesEnd, OperationSharesPhase, RegisteredSharesTake};
 
 /// A pass of which nothing is open may look.
 pub fn free_shares_look()
@@ -29,4 +29,9 @@ pub fn operation_shares_phase()
 /// It may end the operation once that is over.
 pub fn operation_shares_end()
     ensures { OperationSharesEnd }
+{}
+
+/// A pass that has a registration may take what pends for it.
+pub fn registered_shares_take()
+    ensures { RegisteredSharesTake }
 {}

@@ -14,8 +14,10 @@ mod guests;
 mod kept;
 mod laws;
 mod link;
+mod listening;
 mod looking;
 mod made;
+mod next;
 mod operations;
 mod ticket;
 mod turns;
@@ -23,11 +25,13 @@ mod turns;
 pub use cell::DomainCell;
 pub use cell_laws::{still_turns_change, turns_change};
 pub use core_steps::{Chronicle, OperationLook, Step, WatchFault, takes_up};
+pub use event_queue::Taken;
 pub use kept::Share;
 pub use laws::{
     free_shares_begin, free_shares_look, free_shares_take_up, open_shares_go_back,
-    operation_shares_end, operation_shares_phase,
+    operation_shares_end, operation_shares_phase, registered_shares_take,
 };
 pub use link::{Here, keep, keep_or_take, kill, put_ears, put_monitor, take_ears, take_monitor};
+pub use next::Next;
 pub use ticket::{Back, Look, PhaseLook, Ticket, hand_back, hand_look, hand_phase};
 pub use turns::DomainTurns;

@@ -2,20 +2,20 @@
 ghost use Rattle.std.specs.Prelude.{◌≡◌, None, Some, is_some, true};
 ghost use Rattle.domain_core.specs.Linked.{has_ears, has_monitor, kept_link, link_made, new_link, with_ears_of, with_monitor, without_ears, without_monitor};
 
-use monitor_link::{Killer, Link};
+use monitor_link::{Guests, Killer, Link};
 use std::marker::Model;
 
 /// The link of a guest: its monitor goes out with the ticket of the open call, its ears with a pass that hears. Contracts
 /// see its boot, and which of the two are here.
 #[derive(Drop)]
-pub struct Here<M, E, Z> {
+pub struct Here<G: Guests> {
     boot: u64,
-    monitor: Option<M>,
-    ears: Option<E>,
-    killer: Z,
+    monitor: Option<G::M>,
+    ears: Option<G::E>,
+    killer: G::Z,
 }
 
-impl<M, E, Z> Model for Here<M, E, Z> {
+impl<G: Guests> Model for Here<G> {
     ghost use Rattle.std.specs.Prelude.{is_some};
     ghost use Rattle.domain_core.specs.Linked.{Linked};
 
@@ -24,9 +24,9 @@ impl<M, E, Z> Model for Here<M, E, Z> {
     ghost view = { λ h. record { boot = h.boot; monitor = is_some h.monitor; ears = is_some h.ears } };
 }
 
-impl<M: Drop, E: Drop, Z: Drop> Here<M, E, Z> {
+impl<G: Guests> Here<G> {
     // The link of a guest that was made now. Ears of its boot can't be out already; were they, they would be the ones.
-    fn new(boot: u64, link: Link<M, E, Z>, heard: Option<u64>) -> Here<M, E, Z>
+    fn new(boot: u64, link: Link<G>, heard: Option<u64>) -> Here<G>
         ensures { Some result ≡ new_link true heard boot }
     {
         let Link {
@@ -49,7 +49,7 @@ impl<M: Drop, E: Drop, Z: Drop> Here<M, E, Z> {
 }
 
 /// The link is let go unless its guest is the one that is there.
-pub fn keep<M: Drop, E: Drop, Z: Drop>(link: &mut Option<Here<M, E, Z>>, made: Option<u64>)
+pub fn keep<G: Guests>(link: &mut Option<Here<G>>, made: Option<u64>)
     ensures { link.new ≡ kept_link made link.old }
 {
     let is_made = match &*link {
@@ -62,10 +62,10 @@ pub fn keep<M: Drop, E: Drop, Z: Drop>(link: &mut Option<Here<M, E, Z>>, made: O
 }
 
 // The link of a guest that was made now, if one was, where no link is here.
-fn take_new<M: Drop, E: Drop, Z: Drop>(
-    link: &mut Option<Here<M, E, Z>>,
+fn take_new<G: Guests>(
+    link: &mut Option<Here<G>>,
     boot: u64,
-    fresh: Option<Link<M, E, Z>>,
+    fresh: Option<Link<G>>,
     heard: Option<u64>,
 )
     requires { link.old ≡ None }
@@ -78,10 +78,10 @@ fn take_new<M: Drop, E: Drop, Z: Drop>(
 }
 
 /// The link of the guest that is there after an answer: the one that is here, or else the one that was made now.
-pub fn keep_or_take<M: Drop, E: Drop, Z: Drop>(
-    link: &mut Option<Here<M, E, Z>>,
+pub fn keep_or_take<G: Guests>(
+    link: &mut Option<Here<G>>,
     made: Option<u64>,
-    fresh: Option<Link<M, E, Z>>,
+    fresh: Option<Link<G>>,
     heard: Option<u64>,
 )
     ensures { link.new ≡ link_made (is_some fresh) heard made link.old }
@@ -94,7 +94,7 @@ pub fn keep_or_take<M: Drop, E: Drop, Z: Drop>(
 }
 
 /// The monitor goes out.
-pub fn take_monitor<M, E, Z>(link: &mut Option<Here<M, E, Z>>) -> Option<M>
+pub fn take_monitor<G: Guests>(link: &mut Option<Here<G>>) -> Option<G::M>
     ensures monitor { is_some result ≡ has_monitor link.old }
     ensures link { link.new ≡ without_monitor link.old }
 {
@@ -105,11 +105,7 @@ pub fn take_monitor<M, E, Z>(link: &mut Option<Here<M, E, Z>>) -> Option<M>
 }
 
 /// A monitor that was out comes back, where its guest is there still.
-pub fn put_monitor<M: Drop, E, Z>(
-    link: &mut Option<Here<M, E, Z>>,
-    out: Option<u64>,
-    monitor: Option<M>,
-)
+pub fn put_monitor<G: Guests>(link: &mut Option<Here<G>>, out: Option<u64>, monitor: Option<G::M>)
     requires { is_some monitor ≡ is_some out }
     ensures { link.new ≡ with_monitor out link.old }
 {
@@ -121,7 +117,7 @@ pub fn put_monitor<M: Drop, E, Z>(
 }
 
 /// The ears go out.
-pub fn take_ears<M, E, Z>(link: &mut Option<Here<M, E, Z>>) -> Option<E>
+pub fn take_ears<G: Guests>(link: &mut Option<Here<G>>) -> Option<G::E>
     ensures ears { is_some result ≡ has_ears link.old }
     ensures link { link.new ≡ without_ears link.old }
 {
@@ -132,7 +128,7 @@ pub fn take_ears<M, E, Z>(link: &mut Option<Here<M, E, Z>>) -> Option<E>
 }
 
 /// The ears of this boot come back, where its guest is there still.
-pub fn put_ears<M, E: Drop, Z>(link: &mut Option<Here<M, E, Z>>, boot: u64, ears: E)
+pub fn put_ears<G: Guests>(link: &mut Option<Here<G>>, boot: u64, ears: G::E)
     ensures { link.new ≡ with_ears_of boot link.old }
 {
     if let Some(here) = link {
@@ -143,7 +139,7 @@ pub fn put_ears<M, E: Drop, Z>(link: &mut Option<Here<M, E, Z>>, boot: u64, ears
 }
 
 /// The guest is ended without being asked.
-pub fn kill<M, E, Z: Killer>(link: &mut Option<Here<M, E, Z>>)
+pub fn kill<G: Guests>(link: &mut Option<Here<G>>)
     ensures { link.new ≡ link.old }
 {
     if let Some(here) = link {

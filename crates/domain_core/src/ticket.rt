@@ -2,28 +2,33 @@
 ghost use Rattle.std.specs.Prelude.{◌≡◌, None, is_some, true};
 ghost use Rattle.domain_core.specs.Held.{out_by};
 ghost use Rattle.domain_core.specs.Linked.{has_monitor, link_by};
-ghost use Rattle.domain_core.specs.Tickets.{HasMonitor, back_of, back_ticket, look_ticket, looked_of, phase_ticket, phased_of};
+ghost use Rattle.domain_core.specs.Tickets.{HasMonitor, LeadsBack, LeadsOn, back_of, back_ticket, look_ticket, looked_of, phase_ticket, phased_of};
+ghost use Rattle.domain_spec.specs.Cell.{standing_of};
 
 use crate::link::{Here, take_monitor};
-use core_steps::{Back as CoreBack, Looked, PhaseLook as CorePhase, Step};
+use crate::next::Next;
+use crate::turns::DomainTurns;
+use core_steps::{Back as CoreBack, Looked, PhaseLook as CorePhase};
 use job_rules::JobRecord;
+use monitor_link::Guests;
+use std::alloc::Global;
 use virt_types::{Ask, Reply};
 
 /// What a call takes along that asks: the monitor of its domain's guest, where that is there. It comes back with the
 /// answer.
 #[derive(Drop)]
-pub struct Ticket<M> {
+pub struct Ticket<G: Guests> {
     /// What sends commands to the guest.
-    pub monitor: Option<M>,
+    pub monitor: Option<G::M>,
 }
 
 /// What became of a call that looked.
 #[derive(Drop)]
-pub enum Look<M> {
+pub enum Look<G: Guests> {
     /// It is done; its caller is told this.
     Done(Reply),
     /// It asks this.
-    Away(Ticket<M>, Ask),
+    Away(Ticket<G>, Ask),
     /// Its job is excluded, and it waits.
     Excluded {
         /// What is held.
@@ -41,11 +46,11 @@ pub enum Look<M> {
 
 /// What became of a due phase.
 #[derive(Drop)]
-pub enum PhaseLook<M> {
+pub enum PhaseLook<G: Guests> {
     /// It asks this.
-    Away(Ticket<M>, Ask),
-    /// It is done, and led to this.
-    Phased(Step),
+    Away(Ticket<G>, Ask),
+    /// It is done, and leads on so.
+    Phased(Next),
     /// A normal job is open: nothing changed.
     Excluded,
     /// There was no memory even for the answer that there is none, and nothing is left of it.
@@ -54,21 +59,21 @@ pub enum PhaseLook<M> {
 
 /// What became of a call, or a phase, whose ask was answered.
 #[derive(Drop)]
-pub enum Back<M> {
+pub enum Back<G: Guests> {
     /// The call is done; its caller is told this.
     Done(Reply),
     /// It asks this next.
-    Away(Ticket<M>, Ask),
-    /// The phase is done, and led to this.
-    Phased(Step),
+    Away(Ticket<G>, Ask),
+    /// The phase is done, and leads on so.
+    Phased(Next),
 }
 
 // The monitor of the guest that is there goes out.
-fn hand_ticket<M, E, Z>(
-    link: &mut Option<Here<M, E, Z>>,
+fn hand_ticket<G: Guests>(
+    link: &mut Option<Here<G>>,
     out: &mut Option<u64>,
     made: Option<u64>,
-) -> Ticket<M>
+) -> Ticket<G>
     ensures monitor { is_some result.monitor ≡ has_monitor link.old }
     ensures link { link.new ≡ link_by true link.old }
     ensures out { out.new ≡ made }
@@ -80,12 +85,12 @@ fn hand_ticket<M, E, Z>(
 }
 
 // The same with a ticket, where it asks: with the monitor of the guest that is there.
-pub fn hand_look<M, E, Z>(
+pub fn hand_look<G: Guests>(
     looked: Looked,
-    link: &mut Option<Here<M, E, Z>>,
+    link: &mut Option<Here<G>>,
     out: &mut Option<u64>,
     made: Option<u64>,
-) -> Look<M>
+) -> Look<G>
     ensures same { looked_of result ≡ looked }
     ensures ticket { HasMonitor (has_monitor link.old) (look_ticket result) }
     ensures link { link.new ≡ link_by (is_some (look_ticket result)) link.old }
@@ -100,34 +105,40 @@ pub fn hand_look<M, E, Z>(
     }
 }
 
-// The same with a ticket, where it asks: with the monitor of the guest that is there.
-pub fn hand_phase<M, E, Z>(
+// The same with a ticket, where it asks; and where it is done with what its call is told, as the domain is now.
+pub fn hand_phase<G: Guests>(
     looked: CorePhase,
-    link: &mut Option<Here<M, E, Z>>,
+    turns: &DomainTurns,
+    alloc: Global,
+    link: &mut Option<Here<G>>,
     out: &mut Option<u64>,
     made: Option<u64>,
-) -> PhaseLook<M>
+) -> PhaseLook<G>
     ensures same { phased_of result ≡ looked }
+    ensures leads { LeadsOn (standing_of turns.now.turning.cell).operation result }
     ensures ticket { HasMonitor (has_monitor link.old) (phase_ticket result) }
     ensures link { link.new ≡ link_by (is_some (phase_ticket result)) link.old }
     ensures out { out.new ≡ out_by (is_some (phase_ticket result)) made out.old }
 {
     match looked {
         CorePhase::Away(ask) => PhaseLook::Away(hand_ticket(link, out, made), ask),
-        CorePhase::Phased(step) => PhaseLook::Phased(step),
+        CorePhase::Phased(step) => PhaseLook::Phased(turns.next(alloc, step)),
         CorePhase::Excluded => PhaseLook::Excluded,
         CorePhase::NoMemory => PhaseLook::NoMemory,
     }
 }
 
-// The same with a ticket, where it asks: with the monitor of the guest that is there.
-pub fn hand_back<M, E, Z>(
+// The same with a ticket, where it asks; and where a phase is done with what its call is told, as the domain is now.
+pub fn hand_back<G: Guests>(
     left: CoreBack,
-    link: &mut Option<Here<M, E, Z>>,
+    turns: &DomainTurns,
+    alloc: Global,
+    link: &mut Option<Here<G>>,
     out: &mut Option<u64>,
     made: Option<u64>,
-) -> Back<M>
+) -> Back<G>
     ensures same { back_of result ≡ left }
+    ensures leads { LeadsBack (standing_of turns.now.turning.cell).operation result }
     ensures ticket { HasMonitor (has_monitor link.old) (back_ticket result) }
     ensures link { link.new ≡ link_by (is_some (back_ticket result)) link.old }
     ensures out { out.new ≡ out_by (is_some (back_ticket result)) made out.old }
@@ -135,6 +146,6 @@ pub fn hand_back<M, E, Z>(
     match left {
         CoreBack::Away(ask) => Back::Away(hand_ticket(link, out, made), ask),
         CoreBack::Done(reply) => Back::Done(reply),
-        CoreBack::Phased(step) => Back::Phased(step),
+        CoreBack::Phased(step) => Back::Phased(turns.next(alloc, step)),
     }
 }

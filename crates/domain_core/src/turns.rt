@@ -11,7 +11,10 @@ ghost use Rattle.domain_spec.specs.declared.core_step.CoreStep.TheVariants as st
 ghost use Rattle.domain_core.specs.Answering.{MayGoBack};
 ghost use Rattle.domain_core.specs.Core.{excluded_by, is_occupied, new_core};
 ghost use Rattle.core_step_laws.specs.Chapters.{history_at};
-ghost use Rattle.event_queue.specs.Listening.{AreApart};
+ghost use Rattle.core_steps.specs.OfLedger.{WaitsWith};
+ghost use Rattle.core_steps.specs.OfRecord.{force_of};
+ghost use Rattle.domain_spec.specs.Turns.{AllHaveRoom};
+ghost use Rattle.event_queue.specs.Listening.{AreApart, registrations};
 ghost use Rattle.core_steps.specs.Answering.{GoesBack, held_after};
 ghost use Rattle.core_steps.specs.Looking.{IsKnownFirst, Looks};
 ghost use Rattle.core_steps.specs.Refusing.{HasRefused};
@@ -67,10 +70,16 @@ fn let_go(held: &mut Vec<HeldEvent>, left: &Back)
     }
 }
 
-// No two registrations are one client's.
-pub(crate) fn are_apart(kept: &Record)
-    ensures { AreApart kept.now.listeners }
+// What the type of a domain's history keeps, as clauses: no boot's end is left to be marked, a call is open exactly where
+// one is away, each registration has room for all that comes for it, and no two are one client's. It does nothing.
+pub(crate) fn facts(kept: &Record)
+    ensures lost { (force_of kept.now).lost ≡ None }
+    ensures waits { WaitsWith (force_of kept.now) (force_of kept.now).job kept.now.course }
+    ensures room { AllHaveRoom (registrations kept.now.listeners) }
+    ensures apart { AreApart kept.now.listeners }
 {
+    kept.is_away();
+    kept.state();
     kept.has(0);
 }
 
@@ -111,9 +120,7 @@ impl DomainTurns {
         ensures others { KeepsOthers by.number self.old.turning.cell self.new.turning.cell }
         ensures excluded { self.new.excluded ≡ excluded_by who call.now result }
     {
-        self.kept.is_away();
-        self.kept.state();
-        are_apart(&self.kept);
+        facts(&self.kept);
         let lent = rooms_lent(&self.ears);
         let looked = look_on(
             &mut self.kept,
@@ -127,8 +134,7 @@ impl DomainTurns {
             call,
             first,
         );
-        self.kept.is_away();
-        self.kept.state();
+        facts(&self.kept);
         looked
     }
 
@@ -141,9 +147,7 @@ impl DomainTurns {
         ensures others { KeepsOthers by.number self.old.turning.cell self.new.turning.cell }
         ensures excluded { self.new.excluded ≡ None }
     {
-        self.kept.is_away();
-        self.kept.state();
-        are_apart(&self.kept);
+        facts(&self.kept);
         self.excluded = None;
         let left = back(
             &mut self.kept,
@@ -152,8 +156,7 @@ impl DomainTurns {
             by,
             answer,
         );
-        self.kept.is_away();
-        self.kept.state();
+        facts(&self.kept);
         let_go(&mut self.held, &left);
         left
     }
@@ -169,15 +172,12 @@ impl DomainTurns {
         ensures others { KeepsOthers by.number self.old.turning.cell self.new.turning.cell }
         ensures excluded { self.new.excluded ≡ None }
     {
-        self.kept.is_away();
-        self.kept.state();
-        are_apart(&self.kept);
+        facts(&self.kept);
         match self.excluded.take() {
             Some(refusable) => give_up(&mut self.kept, &mut self.queue, by, refusable),
             None => unreachable!(),
         }
-        self.kept.is_away();
-        self.kept.state();
+        facts(&self.kept);
         Reply::No(Refusal {
             code: RefusalCode::OperationTimeout,
             kept: Text::of(String::new(alloc)),

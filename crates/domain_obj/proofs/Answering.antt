@@ -18,14 +18,12 @@ use Rattle.virt_types.specs.Below.types_base.declared.caller.Front.{Front}
 use Rattle.domain_obj.specs.InTurn.{DomainPass, DomainTurn, GoesBackIn}
 use Rattle.domain_obj.specs.Placing.{IsLastPlace}
 use Rattle.domain_obj.specs.Running.{Goes, IsLegalHistory}
-use Rattle.domain_obj.specs.Turns.{BackWaits, HasAnswered, IsClosedSo, TellsBack, answered_of}
-use Rattle.domain_obj.specs.declared.calls.Answered.{Answered}
-use Rattle.domain_obj.proofs.Closed.{back_told, closed_so, ticket_told}
+use Rattle.domain_obj.specs.Turns.{BackWaits, HasAnswered, IsClosedSo}
+use Rattle.domain_obj.proofs.Closed.{closed_so}
 use Rattle.domain_obj.proofs.Entering.{awaits_now, kept_found, kept_turn, may_leave}
 use Rattle.domain_obj.proofs.Taking.{one_turn}
-use Rattle.domain_core.specs.Tickets.{HasMonitor, back_of}
+use Rattle.domain_core.specs.Tickets.{back_of}
 use Rattle.domain_core.specs.declared.ticket.Back.{Back}
-use Rattle.domain_core.specs.declared.ticket.Ticket.{Ticket}
 use Rattle.turn_cell.specs.Passes.{Enters, left_by}
 use Rattle.turn_cell.specs.Turning.{Changes, HasTurned as PassTurned}
 use Rattle.turn_cell.proofs.Turning.{has_turned}
@@ -57,7 +55,7 @@ back_leaves : (before : DomainPass) (turn : DomainTurn) (mid : Celled) (asked : 
 back_leaves before turn mid asked x r c asks enters steady was is goes =
     answers_leave turn.value.core.turning mid.core.turning turn.pass.number x r c asks asked goes steady (ap (λ (s : Share). s.call) (sym (kept_found before turn enters)) ∙ was) is
 
-pub back_may_leave : {M : Type 0} (before : DomainPass) (first turn mid now : DomainTurn) (asked : Ask) (x : Answer) (r : Back M) → IsAsked before asked → Enters meaning before first → turn ≡ first → IsSteady (standing_in first.value)
+pub back_may_leave : {G M E Z : Type 0} (before : DomainPass) (first turn mid now : DomainTurn) (asked : Ask) (x : Answer) (r : Back G M E Z) → IsAsked before asked → Enters meaning before first → turn ≡ first → IsSteady (standing_in first.value)
     → GoesBackIn turn.pass.number x turn.value mid.value r → mid ≡ record turn { value = mid.value } → now ≡ mid → (more : List (Mark ℕ)) × Changes meaning now.pass.number more now.entry now.value
 back_may_leave before first turn mid now asked x r last entered begun steady goes same told =
     let enters : Enters meaning before turn = subst (λ (t : DomainTurn). Enters meaning before t) (sym begun) entered in
@@ -71,9 +69,9 @@ back_may_leave before first turn mid now asked x r last entered begun steady goe
           (subst (λ (v : Celled). Changes meaning n (own whose n leaves.0) turn.value v) (sym value) (back_changes n x turn.value mid.value leaves.0 leaves.1 goes.others)),
     )
 
-pub answered_once : {M : Type 0} (before after : DomainPass) (first turn mid now : DomainTurn) (asked : Ask) (x : Answer) (b : Back M) (said : Answered M) (place : Front) → TellsBack (standing_in mid.value).operation b said → IsLastPlace place mid.value → IsAsked before asked → Enters meaning before first → turn ≡ first
-    → IsSteady (standing_in first.value) → GoesBackIn turn.pass.number x turn.value mid.value b → mid ≡ record turn { value = mid.value } → now ≡ mid → IsLegalHistory (history_of mid.value) → after ≡ left_by meaning now → HasAnswered asked x before after said place
-answered_once {M} before after first turn mid now asked x b said place tells at last entered begun steady goes same told legal left =
+pub answered_once : {G M E Z : Type 0} (before after : DomainPass) (first turn mid now : DomainTurn) (asked : Ask) (x : Answer) (b : Back G M E Z) (place : Front) → IsLastPlace place mid.value → IsAsked before asked → Enters meaning before first → turn ≡ first
+    → IsSteady (standing_in first.value) → GoesBackIn turn.pass.number x turn.value mid.value b → mid ≡ record turn { value = mid.value } → now ≡ mid → IsLegalHistory (history_of mid.value) → after ≡ left_by meaning now → HasAnswered asked x before after b place
+answered_once before after first turn mid now asked x b place at last entered begun steady goes same told legal left =
     let enters : Enters meaning before turn = subst (λ (t : DomainTurn). Enters meaning before t) (sym begun) entered in
     let steady_now : IsSteady (standing_in turn.value) = subst (λ (t : DomainTurn). IsSteady (standing_in t.value)) (sym begun) steady in
     let (c, was, asks, is) = open_call before.share.kept.call asked last in
@@ -81,10 +79,8 @@ answered_once {M} before after first turn mid now asked x b said place tells at 
     let n = turn.pass.number in
     let number : n ≡ before.number = ap (λ (p : DomainPass). p.number) enters.pass in
     let kept = kept_turn turn mid now same told in
-    let r : CoreBack = answered_of said in
-    let goes_so : GoesBack n x turn.value.core.turning mid.value.core.turning r =
-    subst (λ (k : CoreBack). GoesBack n x turn.value.core.turning mid.value.core.turning k) (back_told (standing_in mid.value).operation b said tells) goes.back in
-    let leaves = back_leaves before turn mid.value asked x r c asks enters steady_now was is goes_so in
+    let r : CoreBack = back_of b in
+    let leaves = back_leaves before turn mid.value asked x r c asks enters steady_now was is goes.back in
     let change : Changes meaning n (own whose n leaves.0) turn.value now.value =
     subst (λ (v : Celled). Changes meaning n (own whose n leaves.0) turn.value v) (sym value) (back_changes n x turn.value mid.value leaves.0 leaves.1 goes.others) in
     let turned : PassTurned meaning before after turn.entry now.value = has_turned meaning before after turn now enters kept left in
@@ -106,19 +102,19 @@ answered_once {M} before after first turn mid now asked x b said place tells at 
           (subst (λ (s : Share). BackLeaves n c asked x s after.share.kept r leaves.0) (sym (kept_found before turn enters))
           (subst (λ (s : Share). BackLeaves n c asked x (share_of (cell_in turn.value) n) s r leaves.0) kept_now leaves.2));
       closed =
-          subst (λ (k : ℕ). IsClosedSo k c leaves.0 said) number
-          (closed_so turn.value.core.turning mid.value.core.turning n x c asked (share_of (cell_in turn.value) n) (share_of (cell_in mid.value) n) leaves.0 b said goes.back
-          (ap (λ (s : Share). s.call) (sym (kept_found before turn enters)) ∙ was) of_pass leaves.1 leaves.2 tells);
+          subst (λ (k : ℕ). IsClosedSo k c leaves.0 b) number
+          (closed_so turn.value.core.turning mid.value.core.turning n x c asked (share_of (cell_in turn.value) n) (share_of (cell_in mid.value) n) leaves.0 b goes.back
+          (ap (λ (s : Share). s.call) (sym (kept_found before turn enters)) ∙ was) of_pass leaves.1 leaves.2 goes.leads);
       share_was = ap (λ (v : Celled). cell_share v before.number) enters.value ∙ enters.share;
       share_is = share;
       same_chapter = leaves.1.chapter;
-      ticket = subst (λ (t : Option (Ticket M)). HasMonitor (is_some mid.value.out) t) (ticket_told (standing_in mid.value).operation b said tells) goes.ticket;
+      ticket = goes.ticket;
       waits =
-          back_waits n x turn.value.core.turning mid.value.core.turning r after.share.kept.call goes_so
+          back_waits n x turn.value.core.turning mid.value.core.turning r after.share.kept.call goes.back
           (ap (λ (s : Share). s.call) (sym kept_now));
       keeps =
           subst (λ (s : Share). IsAnsweredTo s after.share.kept r) (sym (kept_found before turn enters))
-          (subst (λ (s : Share). IsAnsweredTo (share_of (cell_in turn.value) n) s r) kept_now (answers_keep turn.value.core.turning mid.value.core.turning n x r goes_so));
+          (subst (λ (s : Share). IsAnsweredTo (share_of (cell_in turn.value) n) s r) kept_now (answers_keep turn.value.core.turning mid.value.core.turning n x r goes.back));
       saw = turned.seen ∙ ap history_of value;
       marks_are = leaves.1.leads.marks;
       of_pass = subst (λ (k : ℕ). AreOf whose k leaves.0) number of_pass;

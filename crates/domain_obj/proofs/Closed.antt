@@ -11,20 +11,17 @@ use Rattle.domain_spec.specs.declared.open.OpenOperation.{OpenOperation}
 use Rattle.domain_spec.specs.Cell.{Cell, OpenCall, Share, share_of, standing_of}
 use Rattle.domain_spec.specs.Lawful.{IsDone}
 use Rattle.domain_spec.specs.Turns.{BeginsBy, GoOn, GoesOnBy, MayLeave}
-use Rattle.domain_obj.specs.Turns.{IsClosedSo, TellsBack, answered_of, answered_ticket}
-use Rattle.domain_obj.specs.declared.calls.Answered.{Answered}
-use Rattle.domain_obj.specs.declared.calls.Answered.TheVariants as answered
-use Rattle.domain_obj.proofs.Leading.{IsLedTo, leads_step, led_stands, led_told, own_led}
+use Rattle.domain_obj.specs.Turns.{IsClosedSo}
+use Rattle.domain_core.specs.Leading.{step_of}
+use Rattle.domain_obj.proofs.Leading.{IsLedTo, led_stands, led_told, own_led}
 use Rattle.domain_core.specs.OfTurns.back_variants as core_back
-use Rattle.domain_core.specs.OfTurns.{Step}
 use Rattle.domain_core.specs.OfTurns.{GoesBack}
 use Rattle.domain_core.specs.OfTurns.{HasLedTo}
 use Rattle.domain_core.specs.OfTurns.{HasTurned, Turning}
 use Rattle.domain_core.proofs.OfTurns.{not_nested}
-use Rattle.domain_core.specs.Tickets.{back_of, back_ticket}
+use Rattle.domain_core.specs.Tickets.{LeadsBack, back_of}
 use Rattle.domain_core.specs.declared.ticket.Back.{Back}
 use Rattle.domain_core.specs.declared.ticket.Back.TheVariants as back
-use Rattle.domain_core.specs.declared.ticket.Ticket.{Ticket}
 use Rattle.domain_core.specs.OfShares.{BackLeaves}
 use Rattle.domain_core.proofs.OfShares.{IsAnswered, answered_by}
 use Rattle.domain_core.proofs.OfShares.{IsDoneIn, IsOpenAs, done_in, open_keeps}
@@ -53,42 +50,14 @@ done_normal old new n x r o h was nested =
     not_nested d.call
     (sym done.0.own_job ∙ ap (λ (k : OpenJob). k.job) d.holds.same ∙ sym (ap (λ (k : OpenCall). k.job.job) a.open_is) ∙ nested)
 
--- what became of it is told so
+-- how it was closed
 
-module _ {M : Type 0} where
-  pub back_told : (q : Option OpenOperation) (b : Back M) (said : Answered M) → TellsBack q b said → back_of b ≡ answered_of said
-  back_told q (back.Done r) (answered.Done s) h = ap (λ (x : Reply). core_back.Done x) (sym h)
-  back_told q (back.Done r) (answered.Away t x) h = absurd h
-  back_told q (back.Done r) (answered.Phased s) h = absurd h
-  back_told q (back.Away t x) (answered.Done s) h = absurd h
-  back_told q (back.Away t x) (answered.Away u y) h = ap (λ (z : Ask). core_back.Away z) (sym h.1)
-  back_told q (back.Away t x) (answered.Phased s) h = absurd h
-  back_told q (back.Phased st) (answered.Done s) h = absurd h
-  back_told q (back.Phased st) (answered.Away t x) h = absurd h
-  back_told q (back.Phased st) (answered.Phased s) h = ap (λ (z : Step). core_back.Phased z) (leads_step q st s h)
-
-  pub ticket_told : (q : Option OpenOperation) (b : Back M) (said : Answered M) → TellsBack q b said → back_ticket b ≡ answered_ticket said
-  ticket_told q (back.Done r) (answered.Done s) h = refl
-  ticket_told q (back.Done r) (answered.Away t x) h = absurd h
-  ticket_told q (back.Done r) (answered.Phased s) h = refl
-  ticket_told q (back.Away t x) (answered.Done s) h = absurd h
-  ticket_told q (back.Away t x) (answered.Away u y) h = ap (λ (z : Ticket M). Some z) (sym h.0)
-  ticket_told q (back.Away t x) (answered.Phased s) h = absurd h
-  ticket_told q (back.Phased st) (answered.Done s) h = refl
-  ticket_told q (back.Phased st) (answered.Away t x) h = absurd h
-  ticket_told q (back.Phased st) (answered.Phased s) h = refl
-
-  -- how it was closed
-  pub closed_so : (old new : Turning) (n : ℕ) (x : Answer) (c : OpenCall) (y : Ask) (s t : Share) (left : List (Mark ℕ)) (b : Back M) (said : Answered M) → GoesBack n x old new (back_of b) → (share_of old.cell n).call ≡ Some c
-      → AreOf whose n left → HasTurned old new (step.Back n x) left → BackLeaves n c y x s t (answered_of said) left → TellsBack (standing_of new.cell).operation b said → IsClosedSo n c left said
-  closed_so old new n x c y s t left (back.Done r) (answered.Done q) goes was of turned leaves tells = done_normal old new n x r c goes was
-  closed_so old new n x c y s t left (back.Away u z) (answered.Done q) goes was of turned leaves tells = absurd tells
-  closed_so old new n x c y s t left (back.Phased st) (answered.Done q) goes was of turned leaves tells = absurd tells
-  closed_so old new n x c y s t left b (answered.Away u z) goes was of turned leaves tells = tt
-  closed_so old new n x c y s t left (back.Done r) (answered.Phased said) goes was of turned leaves tells = absurd tells
-  closed_so old new n x c y s t left (back.Away u z) (answered.Phased said) goes was of turned leaves tells = absurd tells
-  closed_so old new n x c y s t left (back.Phased st) (answered.Phased said) goes was of turned leaves tells =
-      let q : Option OpenOperation = (standing_of new.cell).operation in
-      let led : HasLedTo n leaves.next left = own_led n leaves.next left of (subst (λ (ms : List (Mark ℕ)). HasLedTo n leaves.next ms) (sym leaves.own_are) (refl, refl)) in
-      let stands : IsLedTo leaves.next q = led_stands old.cell new.cell (step.Back n x) n leaves.next left turned.turn.left led turned.leads.base turned.leads.marks in
-      (leaves.next, led, led_told leaves.next q st said stands (leads_step q st said tells ∙ leaves.leads) tells)
+pub closed_so : {G M E Z : Type 0} (old new : Turning) (n : ℕ) (x : Answer) (c : OpenCall) (y : Ask) (s t : Share) (left : List (Mark ℕ)) (b : Back G M E Z) → GoesBack n x old new (back_of b) → (share_of old.cell n).call ≡ Some c
+    → AreOf whose n left → HasTurned old new (step.Back n x) left → BackLeaves n c y x s t (back_of b) left → LeadsBack (standing_of new.cell).operation b → IsClosedSo n c left b
+closed_so old new n x c y s t left (back.Done r) goes was of turned leaves leads = done_normal old new n x r c goes was
+closed_so old new n x c y s t left (back.Away u z) goes was of turned leaves leads = tt
+closed_so old new n x c y s t left (back.Phased said) goes was of turned leaves leads =
+    let q : Option OpenOperation = (standing_of new.cell).operation in
+    let led : HasLedTo n leaves.next left = own_led n leaves.next left of (subst (λ (ms : List (Mark ℕ)). HasLedTo n leaves.next ms) (sym leaves.own_are) (refl, refl)) in
+    let stands : IsLedTo leaves.next q = led_stands old.cell new.cell (step.Back n x) n leaves.next left turned.turn.left led turned.leads.base turned.leads.marks in
+    (leaves.next, led, led_told leaves.next q (step_of said) said stands leaves.leads leads)

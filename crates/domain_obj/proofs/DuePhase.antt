@@ -16,7 +16,7 @@ use Rattle.domain_obj.specs.Finishing.{IsClosed, IsPhased, IsStillAway}
 use Rattle.domain_obj.specs.InTurn.{DomainPass}
 use Rattle.domain_obj.specs.Placing.{IsPlaced}
 use Rattle.domain_obj.specs.Running.{Goes, IsSpent}
-use Rattle.domain_obj.specs.declared.next.Next.{Next}
+use Rattle.domain_core.specs.declared.next.Next.{Next}
 use Rattle.domain_obj.proofs.Going.{goes_nowhere, goes_on, some_call}
 use Rattle.domain_core.specs.Celled.{CellShare}
 use Rattle.domain_obj.specs.Phases.{HasFinishedPhase, HasRunPhase, IsInPhase, IsLostAt}

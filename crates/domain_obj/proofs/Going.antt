@@ -1,5 +1,5 @@
 -- A call that asks until it is done: what holds between two of its asks.
-use Rattle.std.proofs.Common.{◌≡◌, ℕ, ◌+◌, ◌++◌, List, [], ◌∷◌, is_some, Bool, Option, None, Some, refl, sym, ap, ◌∙◌, subst, append_assoc, append-nil, arith}
+use Rattle.std.proofs.Common.{◌≡◌, ◌≤◌, ℕ, zero, suc, ◌+◌, ◌++◌, List, [], ◌∷◌, length, is_some, Bool, Option, None, Some, refl, sym, ap, ◌∙◌, subst, append_assoc, append-nil, length-append, arith}
 use Rattle.history_spec.specs.Chapter.{tagged}
 use Rattle.history_spec.specs.Pass.{own}
 use Rattle.history_spec.proofs.Beginnings.{begins_itself}
@@ -16,12 +16,12 @@ use Rattle.domain_core.specs.Meaning.{meaning}
 use Rattle.domain_obj.specs.Asking.{AsksLast, FitsAsk, IsAsked, MayBeAnswered}
 use Rattle.domain_obj.specs.Finishing.{IsAway, IsClosed, IsFinished, IsFinishedBy, IsPhased, IsStillAway}
 use Rattle.domain_obj.specs.InTurn.{DomainPass}
-use Rattle.domain_obj.specs.Leading.{IsTold}
-use Rattle.domain_obj.specs.Running.{Goes, IsSpent}
+use Rattle.domain_core.specs.Leading.{IsTold}
+use Rattle.domain_obj.specs.Running.{Goes, IsLegalHistory, IsSpent}
 use Rattle.domain_obj.specs.Turns.{HasAnswered}
-use Rattle.domain_obj.specs.declared.calls.Answered.{Answered}
-use Rattle.domain_obj.specs.declared.calls.Answered.TheVariants as answered
-use Rattle.domain_obj.specs.declared.next.Next.{Next}
+use Rattle.domain_core.specs.declared.ticket.Back.{Back}
+use Rattle.domain_core.specs.declared.ticket.Back.TheVariants as back
+use Rattle.domain_core.specs.declared.next.Next.{Next}
 use Rattle.domain_obj.proofs.Leading.{led_own}
 use Rattle.domain_obj.proofs.Placing.{placed_last}
 use Rattle.domain_core.specs.declared.ticket.Ticket.{Ticket}
@@ -36,9 +36,17 @@ use Rattle.domain_core.specs.OfShares.{whose}
 pub goes_on : (m n : ℕ) (xs ys : List (ℕ × Mark ℕ)) (a b c : DomainPass) → Goes m xs a b → Goes n ys b c → Goes (m + n) (xs ++ ys) a c
 goes_on m n xs ys a b c p q = record {
   went = went_on meaning no_mark_lowers m n xs ys a b c p.went q.went;
+  legal = λ some. legal_through (m + length xs) (n + length ys) (IsLegalHistory b.seen) (IsLegalHistory c.seen) p.legal q.legal q.legal_seen (some_of m n xs ys some);
   legal_seen = λ l. q.legal_seen (p.legal_seen l);
   legal_held = λ l. q.legal_held (p.legal_held l);
-}
+} where
+  some_of : (m n : ℕ) (xs ys : List (ℕ × Mark ℕ)) → 1 ≤ (m + n) + length (xs ++ ys) → 1 ≤ (m + length xs) + (n + length ys)
+  some_of m n xs ys some = omega (arith, some, length-append xs ys)
+
+  -- what was seen at last is legal by the last turns, or by those before
+  legal_through : (i j : ℕ) (B C : Type 0) → (1 ≤ i → B) → (1 ≤ j → C) → (B → C) → 1 ≤ i + j → C
+  legal_through i zero B C first last on some = on (first (omega (arith, some)))
+  legal_through i (suc j) B C first last on some = last (omega arith)
 
 pub goes_nowhere : (pass : DomainPass) → Goes 0 [] pass pass
 goes_nowhere pass = record {
@@ -51,6 +59,7 @@ goes_nowhere pass = record {
     held = refl;
     held_seen = λ l. l;
   };
+  legal = λ some. absurd (omega (arith, some));
   legal_seen = λ l. l;
   legal_held = λ l. l;
 }
@@ -128,8 +137,8 @@ no_marks : (c : ℕ) (ms : List (Mark ℕ)) → ms ≡ [] → tagged c ms ≡ []
 no_marks c ms e = ap (λ (l : List (Mark ℕ)). tagged c l) e
 
 -- it asks on
-pub keeps_on : {M : Type 0} (first now after : DomainPass) (asked next_ask : Ask) (sent : Bool) (next : Ticket M) (report report_now report_then : List (Ask × Answer)) (x : Answer) (place : Front) → Keeps first now asked sent report report_now
-    → report_then ≡ report_now ++ told (asked ∷ []) (x ∷ []) → HasAnswered asked x now after (answered.Away next next_ask) place → Keeps first after next_ask (is_some next.monitor) report report_then
+pub keeps_on : {G M E Z : Type 0} (first now after : DomainPass) (asked next_ask : Ask) (sent : Bool) (next : Ticket G M E Z) (report report_now report_then : List (Ask × Answer)) (x : Answer) (place : Front) → Keeps first now asked sent report report_now
+    → report_then ≡ report_now ++ told (asked ∷ []) (x ∷ []) → HasAnswered asked x now after (back.Away next next_ask) place → Keeps first after next_ask (is_some next.monitor) report report_then
 keeps_on first now after asked next_ask sent next report report_now report_then x place k then_is h =
     let l = h.leaves in
     let heard_more = told (asked ∷ []) (x ∷ []) in
@@ -177,7 +186,7 @@ closed_share after number new is none =
     }
 
 -- it is closed by this mark, which says all that it was told
-closes_by : {M : Type 0} (first now after : DomainPass) (asked : Ask) (sent : Bool) (report report_now : List (Ask × Answer)) (x : Answer) (r : Answered M) (place : Front) (k : Keeps first now asked sent report report_now) (h : HasAnswered asked x now after r place) (asks : List Ask) (answers : List Answer)
+closes_by : {G M E Z : Type 0} (first now after : DomainPass) (asked : Ask) (sent : Bool) (report report_now : List (Ask × Answer)) (x : Answer) (r : Back G M E Z) (place : Front) (k : Keeps first now asked sent report report_now) (h : HasAnswered asked x now after r place) (asks : List Ask) (answers : List Answer)
     (m own_mark : Mark ℕ) → own whose now.number h.left ≡ own_mark ∷ [] → own_mark ≡ m → told asks answers ≡ told_then h.call asked x → after.share.kept.call ≡ None
     → IsFinishedBy first after (k.more ++ told (asked ∷ []) (x ∷ [])) place k.still.was asks answers m
 closes_by first now after asked sent report report_now x r place k h asks answers m own_mark own_is is told_is none =
@@ -209,8 +218,8 @@ phase_as : (n m : ℕ) (j k : OpenJob) (phase : Phase) (asks : List Ask) (answer
 phase_as n m j k phase asks answers next events e f = ap (λ (i : ℕ). mark.Phase i j.who phase asks answers next events) e ∙ ap (λ (o : OpenJob). mark.Phase m o.who phase asks answers next events) f
 
 -- it is done
-pub finishes : {M : Type 0} (first now after : DomainPass) (asked : Ask) (sent : Bool) (report report_now report_then : List (Ask × Answer)) (x : Answer) (r : Reply) (place : Front) → Keeps first now asked sent report report_now
-    → report_then ≡ report_now ++ told (asked ∷ []) (x ∷ []) → HasAnswered {M = M} asked x now after (answered.Done r) place
+pub finishes : {G M E Z : Type 0} (first now after : DomainPass) (asked : Ask) (sent : Bool) (report report_now report_then : List (Ask × Answer)) (x : Answer) (r : Reply) (place : Front) → Keeps first now asked sent report report_now
+    → report_then ≡ report_now ++ told (asked ∷ []) (x ∷ []) → HasAnswered {G = G} {M = M} {E = E} {Z = Z} asked x now after (back.Done r) place
     → (more : List (Ask × Answer)) × (report_then ≡ report ++ more) × IsFinished first after more r place
 finishes first now after asked sent report report_now report_then x r place k then_is h =
     let l = h.leaves in
@@ -224,7 +233,7 @@ finishes first now after asked sent report report_now report_then x r place k th
         asks = l.asks;
         answers = l.answers;
         events = l.events;
-        by = closes_by first now after asked sent report report_now x (answered.Done r) place k h l.asks l.answers
+        by = closes_by first now after asked sent report report_now x (back.Done r) place k h l.asks l.answers
             (mark.Done first.number k.still.was.job.who k.still.was.job.call k.still.was.job.boot l.asks l.answers r l.events)
             (mark.Done now.number h.call.job.who h.call.job.call h.call.job.boot l.asks l.answers r l.events) l.own_are
             (done_as now.number first.number h.call.job k.still.was.job l.asks l.answers r l.events k.still.goes.went.same.number job) l.told_is h.keeps.call;
@@ -233,8 +242,8 @@ finishes first now after asked sent report report_now report_then x r place k th
     )
 
 -- the phase is done
-pub phases : {M : Type 0} (first now after : DomainPass) (asked : Ask) (sent : Bool) (report report_now report_then : List (Ask × Answer)) (x : Answer) (said : Next) (place : Front) → Keeps first now asked sent report report_now
-    → report_then ≡ report_now ++ told (asked ∷ []) (x ∷ []) → HasAnswered {M = M} asked x now after (answered.Phased said) place
+pub phases : {G M E Z : Type 0} (first now after : DomainPass) (asked : Ask) (sent : Bool) (report report_now report_then : List (Ask × Answer)) (x : Answer) (said : Next) (place : Front) → Keeps first now asked sent report report_now
+    → report_then ≡ report_now ++ told (asked ∷ []) (x ∷ []) → HasAnswered {G = G} {M = M} {E = E} {Z = Z} asked x now after (back.Phased said) place
     → (more : List (Ask × Answer)) × (report_then ≡ report ++ more) × IsPhased first after more said place
 phases first now after asked sent report report_now report_then x said place k then_is h =
     let l = h.leaves in
@@ -255,7 +264,7 @@ phases first now after asked sent report report_now report_then x said place k t
         answers = l.answers;
         next = l.next;
         events = l.events;
-        by = closes_by first now after asked sent report report_now x (answered.Phased said) place k h l.asks l.answers
+        by = closes_by first now after asked sent report report_now x (back.Phased said) place k h l.asks l.answers
             (mark.Phase first.number k.still.was.job.who l.phase l.asks l.answers l.next l.events)
             (mark.Phase now.number h.call.job.who l.phase l.asks l.answers l.next l.events) l.own_are
             (phase_as now.number first.number h.call.job k.still.was.job l.phase l.asks l.answers l.next l.events k.still.goes.went.same.number job) l.told_is h.keeps.call;

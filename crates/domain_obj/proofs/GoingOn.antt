@@ -13,11 +13,11 @@ use Rattle.domain_spec.specs.declared.step.Outcome.TheVariants as outcome
 use Rattle.domain_spec.specs.Fold.{with_outcome}
 use Rattle.domain_obj.specs.Finishing.{IsClosed}
 use Rattle.domain_obj.specs.InTurn.{DomainPass}
-use Rattle.domain_obj.specs.Leading.{IsTold}
+use Rattle.domain_core.specs.Leading.{IsTold}
 use Rattle.domain_obj.specs.Placing.{IsPlaced}
 use Rattle.domain_obj.specs.Running.{Goes, IsSpent}
-use Rattle.domain_obj.specs.declared.next.Next.{Next}
-use Rattle.domain_obj.specs.declared.next.Next.TheVariants as next
+use Rattle.domain_core.specs.declared.next.Next.{Next}
+use Rattle.domain_core.specs.declared.next.Next.TheVariants as next
 use Rattle.domain_obj.proofs.Going.{goes_nowhere, goes_on}
 use Rattle.domain_core.specs.Celled.{CellShare}
 use Rattle.domain_core.specs.OfTurns.{IsToldAtEnd}

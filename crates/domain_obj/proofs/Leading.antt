@@ -19,9 +19,9 @@ use Rattle.domain_core.specs.OfTurns.{IsToldAtEnd}
 use Rattle.domain_core.specs.OfTurns.{Step}
 use Rattle.domain_core.specs.OfTurns.step_variants as step
 use Rattle.domain_core.specs.OfTurns.{HasLedTo}
-use Rattle.domain_obj.specs.Leading.{IsTold, Leads, step_of}
-use Rattle.domain_obj.specs.declared.next.Next.{Next}
-use Rattle.domain_obj.specs.declared.next.Next.TheVariants as next
+use Rattle.domain_core.specs.Leading.{IsTold, Leads}
+use Rattle.domain_core.specs.declared.next.Next.{Next}
+use Rattle.domain_core.specs.declared.next.Next.TheVariants as next
 use Rattle.domain_core.specs.OfTurns.{rested_in, rested_of}
 use Rattle.domain_core.proofs.OfShares.{IsFree, free_on}
 use Rattle.domain_core.proofs.OfShares.{own_here}
@@ -107,14 +107,3 @@ told_so (outcome.Rest r) q (next.Rest said) e h = subst (λ (x : Reply). IsToldA
 
 pub led_told : (o : Outcome) (q : Option OpenOperation) (st : Step) (said : Next) → IsLedTo o q → st ≡ step_to o → Leads q st said → IsTold o said
 led_told o q st said led is h = told_so o q said (rested o q led) (subst (λ (x : Step). Leads q x said) is h)
-
-pub leads_step : (q : Option OpenOperation) (st : Step) (said : Next) → Leads q st said → st ≡ step_of said
-leads_step q step.On next.On h = refl
-leads_step q step.On next.Over h = absurd h
-leads_step q step.On (next.Rest s) h = absurd h
-leads_step q step.Over next.On h = absurd h
-leads_step q step.Over next.Over h = refl
-leads_step q step.Over (next.Rest s) h = absurd h
-leads_step q step.Rest next.On h = absurd h
-leads_step q step.Rest next.Over h = absurd h
-leads_step q step.Rest (next.Rest s) h = refl

@@ -1,5 +1,7 @@
 pub mod Answering
 pub mod Calling
+pub mod ClientCells
+pub mod ClientTurns
 pub mod Closed
 pub mod Composing
 pub mod DuePhase
@@ -12,6 +14,7 @@ pub mod Known
 pub mod Leading
 pub mod LendingTurns
 pub mod Letting
+pub mod Listened
 pub mod Listing
 pub mod Moving
 pub mod Operations
@@ -23,7 +26,9 @@ pub mod SilentTurns
 pub mod Stepped
 pub mod Stepping
 pub mod Taking
+pub mod Takings
 pub mod TellingTurns
 pub mod Turned
 pub mod Waiters
+pub mod WatchTurns
 pub mod Below

@@ -53,7 +53,7 @@ waiters_give_up n who d c looks waits are enough = (
 )
 
 -- so can it where it was excluded often enough
-pub can_give_up : {M : Type 0} (n : ℕ) (who : Who) (d : Call) (f : First) (old mid : Celled) (held : JobRecord) (boot : Option ℕ) (looks : ℕ) → LooksIn {M = M} n who d f old mid (look.Excluded held boot looks) → 30 ≤ looks → CanTake (cell_in mid) (step.GiveUp n who d)
+pub can_give_up : {G M E Z : Type 0} (n : ℕ) (who : Who) (d : Call) (f : First) (old mid : Celled) (held : JobRecord) (boot : Option ℕ) (looks : ℕ) → LooksIn {G = G} {M = M} {E = E} {Z = Z} n who d f old mid (look.Excluded held boot looks) → 30 ≤ looks → CanTake (cell_in mid) (step.GiveUp n who d)
 can_give_up n who d f old mid held boot looks h enough =
     waiters_give_up n who d mid looks (queues_tell (cell_in old) (cell_in mid) n who (looked.Excluded held boot looks) h.queue) h.looks.2.1.looks_are enough
 
@@ -101,7 +101,7 @@ gave_up_adds n who d old mid new left same keeps turned others = record {
 pub give_up_then : (who : Who) (d : Call) (turn now : DomainTurn) → CanTake (cell_in now.value) (step.GiveUp turn.pass.number who d) → now ≡ record turn { value = now.value } → CanTake (cell_in now.value) (step.GiveUp now.pass.number who d)
 give_up_then who d turn now can same = subst (λ (k : ℕ). CanTake (cell_in now.value) (step.GiveUp k who d)) (sym (ap (λ (t : DomainTurn). t.pass.number) same)) can
 
-pub can_give_up_then : {M : Type 0} (who : Who) (d : Call) (f : First) (turn now : DomainTurn) (held : JobRecord) (boot : Option ℕ) (looks : ℕ) → LooksIn {M = M} turn.pass.number who d f turn.value now.value (look.Excluded held boot looks)
+pub can_give_up_then : {G M E Z : Type 0} (who : Who) (d : Call) (f : First) (turn now : DomainTurn) (held : JobRecord) (boot : Option ℕ) (looks : ℕ) → LooksIn {G = G} {M = M} {E = E} {Z = Z} turn.pass.number who d f turn.value now.value (look.Excluded held boot looks)
     → 30 ≤ looks → now ≡ record turn { value = now.value } → CanTake (cell_in now.value) (step.GiveUp now.pass.number who d)
 can_give_up_then who d f turn now held boot looks h enough same =
     give_up_then who d turn now (can_give_up turn.pass.number who d f turn.value now.value held boot looks h enough) same

@@ -1,6 +1,6 @@
 -- What a call does in one turn that begins an operation or takes one up, as one change of its cell.
 use Rattle.std.proofs.Common.{◌≡◌, inl, inr, ◌≤◌, ℕ, List, [], ◌∷◌, is_some, true, Option, None, Some, refl, sym, ap, subst}
-use Rattle.domain_spec.specs.Types.{Call, OpKind, Who}
+use Rattle.domain_spec.specs.Types.{Call, Who}
 use Rattle.domain_spec.specs.declared.core_step.CoreStep.{CoreStep}
 use Rattle.domain_spec.specs.declared.core_step.CoreStep.TheVariants as step
 use Rattle.domain_spec.specs.declared.mark.Mark.{Mark}
@@ -14,7 +14,7 @@ use Rattle.domain_core.specs.Celled.{CellShare, Celled, KeepsOtherShares, cell_i
 use Rattle.domain_core.proofs.Changing.{turns_change}
 use Rattle.domain_core.specs.Shares.{IsFree}
 use Rattle.domain_obj.specs.Entered.{IsFirst}
-use Rattle.domain_obj.specs.Entering.{LooksFor, LooksForIn, MayEnter, Operates}
+use Rattle.domain_obj.specs.Entering.{LooksFor, LooksForIn, MayEnter}
 use Rattle.domain_obj.proofs.Moving.{Adds, give_up_then, waiters_give_up}
 use Rattle.domain_obj.proofs.Turned.{none_own}
 use Rattle.domain_core.specs.OfTurns.{IsFound}
@@ -40,19 +40,6 @@ may_enter_renewed n who a b renewed may = subst (λ (s : Share). IsFree s who) (
 pub may_enter_then : (who : Who) (turn now : DomainTurn) → IsRenewed turn.pass.number who turn.value now.value → now ≡ record turn { value = now.value } → MayEnter turn.pass.number who turn.value → MayEnter now.pass.number who now.value
 may_enter_then who turn now renewed same may =
     subst (λ (k : ℕ). MayEnter k who now.value) (sym (ap (λ (t : DomainTurn). t.pass.number) same)) (may_enter_renewed turn.pass.number who turn.value now.value renewed may)
-
--- which of the two looks a call takes
-
-none_taken : (o : Option OpKind) → o ≡ None → is_some o ≡ true → ⊥
-none_taken None e some = cc
-none_taken (Some k) e some = cc
-
-pub must_begin : (d : Call) → takes_up d ≡ None → Operates d → is_some (begins d) ≡ true
-must_begin d none (inl begins) = begins
-must_begin d none (inr takes) = absurd (none_taken (takes_up d) none takes)
-
-pub must_take_up : (d : Call) (k : OpKind) → takes_up d ≡ Some k → is_some (takes_up d) ≡ true
-must_take_up d k e = ap is_some e
 
 -- where a call was excluded it left no mark, and found this; nor did it without memory
 abbrev pub FoundBy : Who → Call → Celled → Celled → OperationLook → List (Mark ℕ) → Type 0

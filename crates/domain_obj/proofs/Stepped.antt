@@ -15,17 +15,16 @@ use Rattle.domain_obj.proofs.Entering.{kept_found, kept_turn, may_leave, share_f
 use Rattle.domain_core.specs.Celled.{Celled, KeepsOtherShares, cell_in, standing_in}
 use Rattle.domain_core.specs.Meaning.{history_of, meaning}
 use Rattle.domain_core.proofs.Shares.{share_end}
-use Rattle.domain_obj.specs.Going.{EndsIn, GoesOnIn, IsRenewedIfCan, MayEnd, MayGoOn, RenewsAndGoesOn}
+use Rattle.domain_obj.specs.Going.{EndsIn, PhasesIn, IsRenewedIfCan, MayEnd, MayGoOn, RenewsAndGoesOn}
 use Rattle.domain_obj.specs.Phasing.{HasEnded, HasStepped, IsDueFor, IsOverFor}
-use Rattle.domain_obj.specs.declared.operating.phasing.Phasing.{Phasing}
-use Rattle.domain_obj.specs.declared.operating.phasing.Phasing.TheVariants as phasing
+use Rattle.domain_core.specs.Tickets.{phased_of}
+use Rattle.domain_core.specs.declared.ticket.PhaseLook.{PhaseLook}
 use Rattle.domain_obj.proofs.Renewing.{if_can_share, if_can_then}
 use Rattle.domain_obj.proofs.Stepping.{end_adds, ended, phase_adds, stepped}
 use Rattle.domain_obj.proofs.Turned.{IsLeft, pass_goes}
 use Rattle.domain_core.specs.OfTurns.{CanEnd}
 use Rattle.domain_core.specs.OfTurns.{IsDue, Phases}
-use Rattle.domain_core.specs.OfTurns.{PhaseLook}
-use Rattle.domain_core.specs.OfTurns.phase_look_variants as core_look
+use Rattle.domain_core.specs.OfTurns.{PhaseLook as CorePhase}
 use Rattle.turn_cell.specs.Passes.{Enters, left_by}
 use Rattle.turn_cell.specs.Turning.{Changes}
 use Rattle.domain_core.proofs.OfShares.{ends_leave, phases_leave}
@@ -57,19 +56,16 @@ can_end n who c may = share_end (cell_in c) n who may
 
 -- which change a due phase leaves
 
-phase_change : (n : ℕ) (who : Who) (a mid new : Celled) (r : PhaseLook) → IsRenewedIfCan n who a mid → Phases n who mid.core.turning new.core.turning r → KeepsOtherShares n mid new → (more : List (Mark ℕ)) × Changes meaning n more a new
+phase_change : (n : ℕ) (who : Who) (a mid new : Celled) (r : CorePhase) → IsRenewedIfCan n who a mid → Phases n who mid.core.turning new.core.turning r → KeepsOtherShares n mid new → (more : List (Mark ℕ)) × Changes meaning n more a new
 phase_change n who a mid new r renewed phases others =
     let leaves = phases_leave mid.core.turning new.core.turning n who r phases in
     let adds = phase_adds n who mid new leaves.0 leaves.1 others in
     (own whose n leaves.0, if_can_then n who (own whose n leaves.0) a mid new renewed adds.change adds.chapter)
 
-step_change : {M : Type 0} (n : ℕ) (who : Who) (a mid new : Celled) (r : Phasing M) → IsRenewedIfCan n who a mid → GoesOnIn n who mid new r → (more : List (Mark ℕ)) × Changes meaning n more a new
-step_change n who a mid new (phasing.Away t x) renewed h = phase_change n who a mid new (core_look.Away x) renewed h.phases h.others
-step_change n who a mid new (phasing.Phased said) renewed (st, h, leads) = phase_change n who a mid new (core_look.Phased st) renewed h.phases h.others
-step_change n who a mid new phasing.Excluded renewed h = phase_change n who a mid new core_look.Excluded renewed h.phases h.others
-step_change n who a mid new phasing.NoMemory renewed h = phase_change n who a mid new core_look.NoMemory renewed h.phases h.others
+step_change : {G M E Z : Type 0} (n : ℕ) (who : Who) (a mid new : Celled) (r : PhaseLook G M E Z) → IsRenewedIfCan n who a mid → PhasesIn n who mid new r → (more : List (Mark ℕ)) × Changes meaning n more a new
+step_change n who a mid new r renewed h = phase_change n who a mid new (phased_of r) renewed h.phases h.others
 
-pub step_leaves : {M : Type 0} (who : Who) (before : DomainPass) (turn mid now : DomainTurn) (r : Phasing M) → Enters meaning before turn → RenewsAndGoesOn turn.pass.number who turn.value mid.value r → mid ≡ record turn { value = mid.value } → now ≡ mid
+pub step_leaves : {G M E Z : Type 0} (who : Who) (before : DomainPass) (turn mid now : DomainTurn) (r : PhaseLook G M E Z) → Enters meaning before turn → RenewsAndGoesOn turn.pass.number who turn.value mid.value r → mid ≡ record turn { value = mid.value } → now ≡ mid
     → (more : List (Mark ℕ)) × Changes meaning now.pass.number more now.entry now.value
 step_leaves who before turn mid now r enters (renewed, if_can, goes) same told =
     let value : now.value ≡ mid.value = ap (λ (t : DomainTurn). t.value) told in
@@ -93,14 +89,14 @@ is_left before after turn mid now enters same told legal counted left =
       left = left;
     }
 
-pub stepped_once : {M : Type 0} (who : Who) (o : OpenOperation) (before after : DomainPass) (turn mid now : DomainTurn) (place : Front) (r : Phasing M) → Enters meaning before turn → IsDueFor who o before → RenewsAndGoesOn turn.pass.number who turn.value mid.value r
+pub stepped_once : {G M E Z : Type 0} (who : Who) (o : OpenOperation) (before after : DomainPass) (turn mid now : DomainTurn) (place : Front) (r : PhaseLook G M E Z) → Enters meaning before turn → IsDueFor who o before → RenewsAndGoesOn turn.pass.number who turn.value mid.value r
     → mid ≡ record turn { value = mid.value } → now ≡ mid → IsLastPlace place mid.value → IsLegalHistory (history_of mid.value) → IsCounted (at_base (cell_in mid.value).base) → after ≡ left_by meaning now → HasStepped who o before after place r
 stepped_once who o before after turn mid now place r enters due (renewed, if_can, goes) same told at legal counted left =
     let value : mid.value ≡ now.value = ap (λ (t : DomainTurn). t.value) (sym told) in
     let n = turn.pass.number in
     stepped who o before after turn now renewed place r (is_left before after turn mid now enters same told legal counted left) due if_can
     (if_can_share n who turn.value renewed if_can (may_go_on who o before turn enters due).waits ∙ share_found before turn enters)
-    (subst (λ (v : Celled). GoesOnIn n who renewed v r) value goes) (subst (λ (v : Celled). IsLastPlace place v) value at)
+    (subst (λ (v : Celled). PhasesIn n who renewed v r) value goes) (subst (λ (v : Celled). IsLastPlace place v) value at)
 
 -- the end
 

@@ -14,10 +14,10 @@ use Rattle.domain_spec.specs.declared.standing.Standing.{Standing}
 use Rattle.domain_spec.specs.Cell.{OpenCall, Share, share_of}
 use Rattle.domain_obj.specs.Asking.{AsksLast}
 use Rattle.domain_obj.specs.InTurn.{DomainPass, DomainTurn}
-use Rattle.domain_obj.specs.Leading.{Leads}
+use Rattle.domain_core.specs.Leading.{step_of}
 use Rattle.domain_obj.specs.Placing.{IsLastPlace, IsPlaced}
 use Rattle.domain_obj.specs.Running.{DomainHistory, Goes, standing_after}
-use Rattle.domain_obj.specs.declared.next.Next.{Next}
+use Rattle.domain_core.specs.declared.next.Next.{Next}
 use Rattle.domain_obj.proofs.Entering.{awaits_now}
 use Rattle.domain_obj.proofs.Going.{after_chapter, after_monitor}
 use Rattle.domain_obj.proofs.Leading.{led_stands, led_told, own_led}
@@ -25,11 +25,9 @@ use Rattle.domain_obj.proofs.Placing.{placed_last}
 use Rattle.domain_core.specs.Celled.{CellShare, Celled, KeepsOtherShares, cell_in, cell_share, chapter_of, monitor_of, standing_in}
 use Rattle.domain_core.specs.Meaning.{history_of}
 use Rattle.domain_core.proofs.Changing.{turns_change}
-use Rattle.domain_core.specs.OfTurns.{Step}
-use Rattle.domain_obj.specs.Going.{EndsIn, GoesOnIn, IsRenewedIfCan, PhasesIn}
+use Rattle.domain_obj.specs.Going.{EndsIn, PhasesIn, IsRenewedIfCan, PhasesIn}
 use Rattle.domain_obj.specs.Phasing.{HasEnded, HasStepped, IsDueFor, IsOverFor, IsPhaseAway, IsPhaseDone, IsUnchanged, PhaseDone, led, marks_of, phase_let_in, phase_mark}
-use Rattle.domain_obj.specs.declared.operating.phasing.Phasing.{Phasing}
-use Rattle.domain_obj.specs.declared.operating.phasing.Phasing.TheVariants as phasing
+use Rattle.domain_core.specs.declared.ticket.PhaseLook.{PhaseLook}
 use Rattle.domain_obj.proofs.Moving.{Adds, still_history, still_standing}
 use Rattle.domain_obj.proofs.Renewing.{if_can_then}
 use Rattle.domain_obj.proofs.Turned.{IsLeft, PassGoes, goes_by, pass_goes}
@@ -106,7 +104,7 @@ its_operation n who o p before mid due same is = some_operation p o (sym is ∙ 
 
 -- the phase asks
 
-away_phase : {M : Type 0} (n : ℕ) (who : Who) (o : OpenOperation) (before after : DomainPass) (a mid new : Celled) (t : Ticket M) (x : Ask) (left : List (Mark ℕ)) → IsDueFor who o before → cell_share mid n ≡ before.share → PhasesIn n who mid new (look.Away t x)
+away_phase : {G M E Z : Type 0} (n : ℕ) (who : Who) (o : OpenOperation) (before after : DomainPass) (a mid new : Celled) (t : Ticket G M E Z) (x : Ask) (left : List (Mark ℕ)) → IsDueFor who o before → cell_share mid n ≡ before.share → PhasesIn n who mid new (look.Away t x)
     → HasTurned mid.core.turning new.core.turning (step.Phase n who) left → PhaseLeaves n who (live_in (cell_in mid)) (share_of (cell_in mid) n) (share_of (cell_in new) n) (core_look.Away x) left → PassGoes n before after a new (own whose n left)
     → IsPhaseAway who o before after x (is_some t.monitor)
 away_phase n who o before after a mid new t x left due same h turned (p, was, stays, its) goes =
@@ -141,16 +139,16 @@ away_phase n who o before after a mid new t x left due same h turned (p, was, st
 
 -- the phase is done
 
-done_phase : {M : Type 0} (n : ℕ) (who : Who) (o : OpenOperation) (before after : DomainPass) (a mid new : Celled) (st : Step) (said : Next) (place : Front) (left : List (Mark ℕ)) → IsDueFor who o before → cell_share mid n ≡ before.share
-    → PhasesIn {M = M} n who mid new (look.Phased st) → Leads (standing_in new).operation st said → HasTurned mid.core.turning new.core.turning (step.Phase n who) left
-    → PhaseLeaves n who (live_in (cell_in mid)) (share_of (cell_in mid) n) (share_of (cell_in new) n) (core_look.Phased st) left → PassGoes n before after a new (own whose n left) → Adds n mid new left → IsLastPlace place new
+done_phase : {G M E Z : Type 0} (n : ℕ) (who : Who) (o : OpenOperation) (before after : DomainPass) (a mid new : Celled) (said : Next) (place : Front) (left : List (Mark ℕ)) → IsDueFor who o before → cell_share mid n ≡ before.share
+    → PhasesIn {G = G} {M = M} {E = E} {Z = Z} n who mid new (look.Phased said) → HasTurned mid.core.turning new.core.turning (step.Phase n who) left
+    → PhaseLeaves n who (live_in (cell_in mid)) (share_of (cell_in mid) n) (share_of (cell_in new) n) (core_look.Phased (step_of said)) left → PassGoes n before after a new (own whose n left) → Adds n mid new left → IsLastPlace place new
     → (p : PhaseDone) × IsPhaseDone who o 1 p before after said place × (told p.asks p.answers ≡ [])
-done_phase n who o before after a mid new st said place left due same h leads turned (q, was, phased) goes adds at =
-    let keeps = phases_keep mid.core.turning new.core.turning n who (core_look.Phased st) h.phases in
+done_phase n who o before after a mid new said place left due same h turned (q, was, phased) goes adds at =
+    let keeps = phases_keep mid.core.turning new.core.turning n who (core_look.Phased (step_of said)) h.phases in
     let it : q ≡ o = its_operation n who o q before mid due same was in
     let boot = live_in (cell_in mid) in
     let now = (share_of (cell_in new) n).operation in
-    let its : IsPhasedAtOnce n who boot o now st left = subst (λ (x : OpenOperation). IsPhasedAtOnce n who boot x now st left) it phased in
+    let its : IsPhasedAtOnce n who boot o now (step_of said) left = subst (λ (x : OpenOperation). IsPhasedAtOnce n who boot x now (step_of said) left) it phased in
     let chapter = new.core.turning.chapter in
     let p : PhaseDone = record { chapter = chapter; boot = boot; phase = its.phase; asks = its.asks; answers = its.answers; next = its.next; events = its.events } in
     let none = no_call n who o before mid due same in (
@@ -161,10 +159,10 @@ done_phase n who o before after a mid new st said place left due same h leads tu
             subst (λ (k : ℕ). Goes 1 (marks_of k who o.call p) before after) goes.number
             (goes_by chapter before after (own whose n left) (mark.Admit n who job.Nested o.call boot ∷ phase_mark n who p ∷ []) goes.goes its.own_are);
         leads =
-            led_told its.next (standing_in new).operation st said
+            led_told its.next (standing_in new).operation (step_of said) said
             (led_stands (cell_in mid) (cell_in new) (step.Phase n who) n its.next left turned.turn.left
             (own_led n its.next left adds.of_pass (subst (λ (ms : List (Mark ℕ)). HasLedTo n its.next ms) (sym its.own_are) (refl, refl))) turned.leads.base turned.leads.marks)
-            its.leads leads;
+            its.leads h.leads;
         share =
             goes.share_is ∙ operation_with mid new n (led_to its.next (Some o)) keeps.aside none keeps.call its.operation_is ∙ ap (λ (s : CellShare). led its.next o s) same;
         placed =
@@ -201,18 +199,18 @@ goes_of who before after turn now mid left l renewed adds =
     let n = turn.pass.number in
     pass_goes before after turn now (own whose n left) l (if_can_then n who (own whose n left) turn.value mid now.value renewed adds.change adds.chapter)
 
-pub stepped : {M : Type 0} (who : Who) (o : OpenOperation) (before after : DomainPass) (turn now : DomainTurn) (mid : Celled) (place : Front) (r : Phasing M) → IsLeft before after turn now → IsDueFor who o before → IsRenewedIfCan turn.pass.number who turn.value mid
-    → cell_share mid turn.pass.number ≡ before.share → GoesOnIn turn.pass.number who mid now.value r → IsLastPlace place now.value → HasStepped who o before after place r
-stepped who o before after turn now mid place (phasing.Away t x) l due renewed same h at =
+pub stepped : {G M E Z : Type 0} (who : Who) (o : OpenOperation) (before after : DomainPass) (turn now : DomainTurn) (mid : Celled) (place : Front) (r : PhaseLook G M E Z) → IsLeft before after turn now → IsDueFor who o before → IsRenewedIfCan turn.pass.number who turn.value mid
+    → cell_share mid turn.pass.number ≡ before.share → PhasesIn turn.pass.number who mid now.value r → IsLastPlace place now.value → HasStepped who o before after place r
+stepped who o before after turn now mid place (look.Away t x) l due renewed same h at =
     let n = turn.pass.number in
     let (left, turned, leaves) = phases_leave mid.core.turning now.value.core.turning n who (core_look.Away x) h.phases in
     away_phase n who o before after turn.value mid now.value t x left due same h turned leaves (goes_of who before after turn now mid left l renewed (phase_adds n who mid now.value left turned h.others))
-stepped who o before after turn now mid place (phasing.Phased said) l due renewed same (st, h, leads) at =
+stepped who o before after turn now mid place (look.Phased said) l due renewed same h at =
     let n = turn.pass.number in
-    let (left, turned, leaves) = phases_leave mid.core.turning now.value.core.turning n who (core_look.Phased st) h.phases in
+    let (left, turned, leaves) = phases_leave mid.core.turning now.value.core.turning n who (core_look.Phased (step_of said)) h.phases in
     let adds = phase_adds n who mid now.value left turned h.others in
-    done_phase n who o before after turn.value mid now.value st said place left due same h leads turned leaves (goes_of who before after turn now mid left l renewed adds) adds at
-stepped who o before after turn now mid place phasing.Excluded l due renewed same h at =
+    done_phase n who o before after turn.value mid now.value said place left due same h turned leaves (goes_of who before after turn now mid left l renewed adds) adds at
+stepped who o before after turn now mid place look.Excluded l due renewed same h at =
     let n = turn.pass.number in
     let (left, turned, leaves) = phases_leave mid.core.turning now.value.core.turning n who core_look.Excluded h.phases in
     let goes = goes_of who before after turn now mid left l renewed (phase_adds n who mid now.value left turned h.others) in
@@ -220,7 +218,7 @@ stepped who o before after turn now mid place phasing.Excluded l due renewed sam
       unchanged = unchanged n who o before after turn.value mid now.value left due same (phases_keep mid.core.turning now.value.core.turning n who core_look.Excluded h.phases) leaves goes;
       held = held_now n who after mid now.value h.phases h.others goes.saw;
     }
-stepped who o before after turn now mid place phasing.NoMemory l due renewed same h at =
+stepped who o before after turn now mid place look.NoMemory l due renewed same h at =
     let n = turn.pass.number in
     let (left, turned, leaves) = phases_leave mid.core.turning now.value.core.turning n who core_look.NoMemory h.phases in
     unchanged n who o before after turn.value mid now.value left due same (phases_keep mid.core.turning now.value.core.turning n who core_look.NoMemory h.phases) leaves

@@ -25,9 +25,11 @@ pub one_turn : (more : List (Mark ℕ)) (before after : DomainPass) (turn now : 
 one_turn more before after turn now enters same change legal left =
     let tells = turn_tells meaning no_mark_lowers new_base_keeps more before after turn now enters same change left in
     let turned = tells.0 in
+    let seen_legal : IsLegalHistory after.seen = subst (λ (h : DomainHistory). IsLegalHistory h) (sym turned.seen) legal in
     record {
       went = tells.1;
-      legal_seen = λ l. subst (λ (h : DomainHistory). IsLegalHistory h) (sym turned.seen) legal;
+      legal = λ some. seen_legal;
+      legal_seen = λ l. seen_legal;
       legal_held = λ l. subst (λ (h : DomainHistory). IsLegalHistory h) (sym turned.held) (legal_if (own whose before.number (added (history_of turn.entry) (history_of now.value))) (history_of now.value) before.held legal l);
     }
 

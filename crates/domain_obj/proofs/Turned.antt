@@ -162,7 +162,7 @@ placed_with n before after a old new left xs its place goes adds own_are at =
 
 -- it is done at once
 
-done_now : {M : Type 0} (n : ℕ) (who : Who) (d : Call) (f : First) (before after : DomainPass) (a old new : Celled) (r : Reply) (place : Front) (h : LooksIn {M = M} n who d f old new (look.Done r))
+done_now : {G M E Z : Type 0} (n : ℕ) (who : Who) (d : Call) (f : First) (before after : DomainPass) (a old new : Celled) (r : Reply) (place : Front) (h : LooksIn {G = G} {M = M} {E = E} {Z = Z} n who d f old new (look.Done r))
     → PassGoes n before after a new (own whose n h.looks.0) → IsRenewed n who a old → before.share.kept.call ≡ None → IsLastPlace place new → IsDoneAtOnce who d f before after r place
 done_now n who d f before after a old new r place h goes renewed none at =
     let left = h.looks.0 in
@@ -191,7 +191,7 @@ done_now n who d f before after a old new r place h goes renewed none at =
 
 -- it asks
 
-away_now : {M : Type 0} (n : ℕ) (who : Who) (d : Call) (f : First) (before after : DomainPass) (a old new : Celled) (t : Ticket M) (x : Ask) (h : LooksIn n who d f old new (look.Away t x))
+away_now : {G M E Z : Type 0} (n : ℕ) (who : Who) (d : Call) (f : First) (before after : DomainPass) (a old new : Celled) (t : Ticket G M E Z) (x : Ask) (h : LooksIn n who d f old new (look.Away t x))
     → PassGoes n before after a new (own whose n h.looks.0) → IsRenewed n who a old → before.share.kept.call ≡ None → IsAwayNow who d f before after x (is_some t.monitor)
 away_now n who d f before after a old new t x h goes renewed none =
     let left = h.looks.0 in
@@ -239,19 +239,19 @@ seen_counted after new boot saw live counted =
     subst (λ (h : DomainHistory). IsKnownBoot (boots_of (standing_after h).state) boot) (sym saw)
     (subst (λ (b : Option ℕ). IsKnownBoot (boots_of (standing_in new).state) b) live (counted_at (at_base (cell_in new).base) (cell_in new).marks counted))
 
-excluded_share : {M : Type 0} (n : ℕ) (who : Who) (d : Call) (f : First) (old new : Celled) (held : JobRecord) (boot : Option ℕ) (looks : ℕ) → LooksIn {M = M} n who d f old new (look.Excluded held boot looks) → (share_of (cell_in old) n).call ≡ None
+excluded_share : {G M E Z : Type 0} (n : ℕ) (who : Who) (d : Call) (f : First) (old new : Celled) (held : JobRecord) (boot : Option ℕ) (looks : ℕ) → LooksIn {G = G} {M = M} {E = E} {Z = Z} n who d f old new (look.Excluded held boot looks) → (share_of (cell_in old) n).call ≡ None
     → share_of (cell_in new) n ≡ record (share_of (cell_in old) n) { waits = Some who }
 excluded_share n who d f old new held boot looks h none =
     let keeps = looks_keep old.core.turning new.core.turning n who d f (looked.Excluded held boot looks) h.looks in
     same_but_waits (share_of (cell_in old) n) (share_of (cell_in new) n) (Some who) keeps.rest none keeps.call (queues_tell (cell_in old) (cell_in new) n who (looked.Excluded held boot looks) h.queue)
 
-excluded_still : {M : Type 0} (n : ℕ) (who : Who) (d : Call) (f : First) (old new : Celled) (held : JobRecord) (boot : Option ℕ) (looks : ℕ) → LooksIn {M = M} n who d f old new (look.Excluded held boot looks) → history_of new ≡ history_of old
+excluded_still : {G M E Z : Type 0} (n : ℕ) (who : Who) (d : Call) (f : First) (old new : Celled) (held : JobRecord) (boot : Option ℕ) (looks : ℕ) → LooksIn {G = G} {M = M} {E = E} {Z = Z} n who d f old new (look.Excluded held boot looks) → history_of new ≡ history_of old
 excluded_still n who d f old new held boot looks h = still_history n old new h.looks.0 (look_adds n who d f old new h.looks.0 h.looks.1 h.others) h.looks.2.0
 
 pub none_own : (n : ℕ) (left : List (Mark ℕ)) → left ≡ [] → own whose n left ≡ []
 none_own n left none = ap (λ (ms : List (Mark ℕ)). own whose n ms) none
 
-waits_now : {M : Type 0} (n : ℕ) (who : Who) (d : Call) (f : First) (before after : DomainPass) (a old new : Celled) (held : JobRecord) (boot : Option ℕ) (looks : ℕ) (h : LooksIn {M = M} n who d f old new (look.Excluded held boot looks))
+waits_now : {G M E Z : Type 0} (n : ℕ) (who : Who) (d : Call) (f : First) (before after : DomainPass) (a old new : Celled) (held : JobRecord) (boot : Option ℕ) (looks : ℕ) (h : LooksIn {G = G} {M = M} {E = E} {Z = Z} n who d f old new (look.Excluded held boot looks))
     → PassGoes n before after a new (own whose n h.looks.0) → IsRenewed n who a old → before.share.kept.call ≡ None → WaitsNow who before after boot
 waits_now n who d f before after a old new held boot looks h goes renewed none =
     let left = h.looks.0 in
@@ -289,10 +289,10 @@ goes_of who before after turn now old left l renewed adds =
 pub look_change : (n : ℕ) (who : Who) (a old new : Celled) (left : List (Mark ℕ)) → IsRenewed n who a old → Adds n old new left → (more : List (Mark ℕ)) × Changes meaning n more a new
 look_change n who a old new left renewed adds = (own whose n left, renewed_then n who (own whose n left) a old new renewed adds.change adds.chapter)
 
-none_adds : {M : Type 0} (n : ℕ) (who : Who) (d : Call) (f : First) (old new : Celled) (h : LooksIn {M = M} n who d f old new look.NoMemory) → Adds n old new h.looks.0
+none_adds : {G M E Z : Type 0} (n : ℕ) (who : Who) (d : Call) (f : First) (old new : Celled) (h : LooksIn {G = G} {M = M} {E = E} {Z = Z} n who d f old new look.NoMemory) → Adds n old new h.looks.0
 none_adds n who d f old new h = look_adds n who d f old new h.looks.0 h.looks.1 h.others
 
-full_leaves : {M : Type 0} (n : ℕ) (who : Who) (d : Call) (f : First) (old new : Celled) (waiting : ℕ) → LooksIn {M = M} n who d f old new (look.WaitersFull waiting)
+full_leaves : {G M E Z : Type 0} (n : ℕ) (who : Who) (d : Call) (f : First) (old new : Celled) (waiting : ℕ) → LooksIn {G = G} {M = M} {E = E} {Z = Z} n who d f old new (look.WaitersFull waiting)
     → (left : List (Mark ℕ)) × Adds n old new left × (own whose n left ≡ mark.Refused n who d code.TooManyWaiting (jobs_in (cell_in old)) ∷ [])
 full_leaves n who d f old new waiting h =
     let leaves = looks_leave old.core.turning new.core.turning n who d f (looked.WaitersFull waiting) h.looks in
@@ -307,11 +307,11 @@ given_up_after n who d old mid new same keeps g =
       refusals_are_own (cell_in mid) (step.GiveUp n who d) n who d code.OperationTimeout left g.given_up.1.turn g.given_up.2,
     )
 
-given_up_leaves : {M : Type 0} (n : ℕ) (who : Who) (d : Call) (f : First) (old mid new : Celled) (held : JobRecord) (boot : Option ℕ) (looks : ℕ) → LooksIn {M = M} n who d f old mid (look.Excluded held boot looks) → GivesUp n who d mid new
+given_up_leaves : {G M E Z : Type 0} (n : ℕ) (who : Who) (d : Call) (f : First) (old mid new : Celled) (held : JobRecord) (boot : Option ℕ) (looks : ℕ) → LooksIn {G = G} {M = M} {E = E} {Z = Z} n who d f old mid (look.Excluded held boot looks) → GivesUp n who d mid new
     → (left : List (Mark ℕ)) × Adds n old new left × (own whose n left ≡ mark.Refused n who d code.OperationTimeout (jobs_in (cell_in mid)) ∷ [])
 given_up_leaves n who d f old mid new held boot looks h g = given_up_after n who d old mid new (excluded_still n who d f old mid held boot looks h) h.others g
 
-attempts_change : {M : Type 0} (n : ℕ) (who : Who) (d : Call) (f : First) (turns : ℕ) (a old new : Celled) (r : Attempt M) → IsRenewed n who a old → Attempts n who d f turns old new r → (more : List (Mark ℕ)) × Changes meaning n more a new
+attempts_change : {G M E Z : Type 0} (n : ℕ) (who : Who) (d : Call) (f : First) (turns : ℕ) (a old new : Celled) (r : Attempt G M E Z) → IsRenewed n who a old → Attempts n who d f turns old new r → (more : List (Mark ℕ)) × Changes meaning n more a new
 attempts_change n who d f turns a old new (attempt.Done r) renewed h = look_change n who a old new h.looks.0 renewed (look_adds n who d f old new h.looks.0 h.looks.1 h.others)
 attempts_change n who d f turns a old new (attempt.Away t x) renewed h = look_change n who a old new h.looks.0 renewed (look_adds n who d f old new h.looks.0 h.looks.1 h.others)
 attempts_change n who d f turns a old new (attempt.Waits boot) renewed (held, looks, h) = look_change n who a old new h.looks.0 renewed (look_adds n who d f old new h.looks.0 h.looks.1 h.others)
@@ -321,7 +321,7 @@ attempts_change n who d f turns a old new attempt.WaitersFull renewed (waiting, 
     let leaves = full_leaves n who d f old new waiting h in look_change n who a old new leaves.0 renewed leaves.1
 attempts_change n who d f turns a old new attempt.NoMemory renewed h = look_change n who a old new h.looks.0 renewed (none_adds n who d f old new h)
 
-pub tries_change : {M : Type 0} (n : ℕ) (who : Who) (d : Call) (f : First) (turns : ℕ) (a new : Celled) (r : Attempt M) → Tries n who d f turns a new r → (more : List (Mark ℕ)) × Changes meaning n more a new
+pub tries_change : {G M E Z : Type 0} (n : ℕ) (who : Who) (d : Call) (f : First) (turns : ℕ) (a new : Celled) (r : Attempt G M E Z) → Tries n who d f turns a new r → (more : List (Mark ℕ)) × Changes meaning n more a new
 tries_change n who d f turns a new (attempt.Done r) (old, renewed, h) = attempts_change n who d f turns a old new (attempt.Done r) renewed h
 tries_change n who d f turns a new (attempt.Away t x) (old, renewed, h) = attempts_change n who d f turns a old new (attempt.Away t x) renewed h
 tries_change n who d f turns a new (attempt.Waits boot) (old, renewed, h) = attempts_change n who d f turns a old new (attempt.Waits boot) renewed h
@@ -332,7 +332,7 @@ tries_change n who d f turns a new attempt.NoMemory (inr (old, renewed, h)) = at
 
 -- what became of the call
 
-none_now : {M : Type 0} (n : ℕ) (who : Who) (d : Call) (f : First) (before after : DomainPass) (a old new : Celled) (h : LooksIn {M = M} n who d f old new look.NoMemory)
+none_now : {G M E Z : Type 0} (n : ℕ) (who : Who) (d : Call) (f : First) (before after : DomainPass) (a old new : Celled) (h : LooksIn {G = G} {M = M} {E = E} {Z = Z} n who d f old new look.NoMemory)
     → PassGoes n before after a new (own whose n h.looks.0) → IsRenewed n who a old → before.share.kept.call ≡ None → IsLeftNow before after
 none_now n who d f before after a old new h goes renewed none =
     let keeps = looks_keep old.core.turning new.core.turning n who d f looked.NoMemory h.looks in
@@ -355,7 +355,7 @@ not_renewed_now who before after turn now l h =
       share = goes.share_is ∙ not_renewed_share n who turn.value now.value h ∙ ap (λ (s : CellShare). waiting_as None s) (sym goes.share_was);
     }
 
-full_share : {M : Type 0} (n : ℕ) (who : Who) (d : Call) (f : First) (old new : Celled) (waiting : ℕ) → LooksIn {M = M} n who d f old new (look.WaitersFull waiting) → (share_of (cell_in old) n).call ≡ None
+full_share : {G M E Z : Type 0} (n : ℕ) (who : Who) (d : Call) (f : First) (old new : Celled) (waiting : ℕ) → LooksIn {G = G} {M = M} {E = E} {Z = Z} n who d f old new (look.WaitersFull waiting) → (share_of (cell_in old) n).call ≡ None
     → share_of (cell_in new) n ≡ record (share_of (cell_in old) n) { waits = None }
 full_share n who d f old new waiting h none =
     let keeps = looks_keep old.core.turning new.core.turning n who d f (looked.WaitersFull waiting) h.looks in
@@ -366,11 +366,11 @@ pub given_up_waits : (n : ℕ) (who : Who) (d : Call) (old mid new : Celled) →
 given_up_waits n who d old mid new waited g =
     refusals_keep mid.core.turning new.core.turning n who d code.OperationTimeout g.given_up ∙ ap (λ (s : Share). record s { waits = None }) waited
 
-given_up_share : {M : Type 0} (n : ℕ) (who : Who) (d : Call) (f : First) (old mid new : Celled) (held : JobRecord) (boot : Option ℕ) (looks : ℕ) → LooksIn {M = M} n who d f old mid (look.Excluded held boot looks) → GivesUp n who d mid new
+given_up_share : {G M E Z : Type 0} (n : ℕ) (who : Who) (d : Call) (f : First) (old mid new : Celled) (held : JobRecord) (boot : Option ℕ) (looks : ℕ) → LooksIn {G = G} {M = M} {E = E} {Z = Z} n who d f old mid (look.Excluded held boot looks) → GivesUp n who d mid new
     → (share_of (cell_in old) n).call ≡ None → share_of (cell_in new) n ≡ record (share_of (cell_in old) n) { waits = None }
 given_up_share n who d f old mid new held boot looks h g none = given_up_waits n who d old mid new (excluded_share n who d f old mid held boot looks h none) g
 
-attempted : {M : Type 0} (who : Who) (d : Call) (f : First) (turns : ℕ) (before after : DomainPass) (turn now : DomainTurn) (place : Front) (old : Celled) (r : Attempt M) → IsLeft before after turn now → IsRenewed turn.pass.number who turn.value old
+attempted : {G M E Z : Type 0} (who : Who) (d : Call) (f : First) (turns : ℕ) (before after : DomainPass) (turn now : DomainTurn) (place : Front) (old : Celled) (r : Attempt G M E Z) → IsLeft before after turn now → IsRenewed turn.pass.number who turn.value old
     → Attempts turn.pass.number who d f turns old now.value r → before.share.kept.call ≡ None → IsLastPlace place now.value → HasTried who d f turns before after place r
 attempted who d f turns before after turn now place old (attempt.Done r) l renewed h none at =
     let n = turn.pass.number in
@@ -405,7 +405,7 @@ attempted who d f turns before after turn now place old attempt.NoMemory l renew
     let n = turn.pass.number in
     none_now n who d f before after turn.value old now.value h (goes_of who before after turn now old h.looks.0 l renewed (none_adds n who d f old now.value h)) renewed none
 
-pub tried : {M : Type 0} (who : Who) (d : Call) (f : First) (turns : ℕ) (before after : DomainPass) (turn now : DomainTurn) (place : Front) (r : Attempt M) → IsLeft before after turn now → Tries turn.pass.number who d f turns turn.value now.value r
+pub tried : {G M E Z : Type 0} (who : Who) (d : Call) (f : First) (turns : ℕ) (before after : DomainPass) (turn now : DomainTurn) (place : Front) (r : Attempt G M E Z) → IsLeft before after turn now → Tries turn.pass.number who d f turns turn.value now.value r
     → before.share.kept.call ≡ None → IsLastPlace place now.value → HasTried who d f turns before after place r
 tried who d f turns before after turn now place (attempt.Done r) l (old, renewed, h) none at = attempted who d f turns before after turn now place old (attempt.Done r) l renewed h none at
 tried who d f turns before after turn now place (attempt.Away t x) l (old, renewed, h) none at = attempted who d f turns before after turn now place old (attempt.Away t x) l renewed h none at
@@ -454,12 +454,12 @@ is_left before after turn mid now enters same told legal counted left =
       left = left;
     }
 
-pub tried_leaves : {M : Type 0} (who : Who) (d : Call) (f : First) (turns : ℕ) (before : DomainPass) (turn mid now : DomainTurn) (r : Attempt M) → Enters meaning before turn → Tries turn.pass.number who d f turns turn.value mid.value r
+pub tried_leaves : {G M E Z : Type 0} (who : Who) (d : Call) (f : First) (turns : ℕ) (before : DomainPass) (turn mid now : DomainTurn) (r : Attempt G M E Z) → Enters meaning before turn → Tries turn.pass.number who d f turns turn.value mid.value r
     → mid ≡ record turn { value = mid.value } → now ≡ mid → (more : List (Mark ℕ)) × Changes meaning now.pass.number more now.entry now.value
 tried_leaves who d f turns before turn mid now r enters tries same told =
     let change = tries_change turn.pass.number who d f turns turn.value mid.value r tries in (change.0, change_leaves before turn mid now change.0 enters change.1 same told)
 
-pub tried_once : {M : Type 0} (who : Who) (d : Call) (f : First) (turns : ℕ) (before after : DomainPass) (turn mid now : DomainTurn) (place : Front) (r : Attempt M) → Enters meaning before turn → IsReadyToLook who d f before
+pub tried_once : {G M E Z : Type 0} (who : Who) (d : Call) (f : First) (turns : ℕ) (before after : DomainPass) (turn mid now : DomainTurn) (place : Front) (r : Attempt G M E Z) → Enters meaning before turn → IsReadyToLook who d f before
     → Tries turn.pass.number who d f turns turn.value mid.value r → mid ≡ record turn { value = mid.value } → now ≡ mid → IsLastPlace place mid.value → IsLegalHistory (history_of mid.value) → IsCounted (at_base (cell_in mid.value).base)
     → after ≡ left_by meaning now → HasTried who d f turns before after place r
 tried_once who d f turns before after turn mid now place r enters ready tries same told at legal counted left =

@@ -1,31 +1,20 @@
 -- What a call does in one turn that begins an operation or takes one up, until it is let in.
-use Rattle.std.specs.Prelude.{◌≡◌, ◌⊎◌, ◌≤◌, ℕ, is_some, true, Option}
+use Rattle.std.specs.Prelude.{◌≡◌, ◌⊎◌, ◌≤◌, ℕ, Option}
 use Rattle.domain_spec.specs.Types.{Call, Who}
-use Rattle.domain_spec.specs.Call.{begins, takes_up}
 use Rattle.domain_spec.specs.Cell.{share_of}
 use Rattle.domain_obj.specs.InTurn.{GivesUp, IsNotRenewed, IsRenewed}
 use Rattle.domain_core.specs.Celled.{Celled, KeepsOtherShares, cell_in}
 use Rattle.domain_core.specs.Core.{excluded_so}
 use Rattle.domain_core.specs.Shares.{IsFree}
+pub use Rattle.domain_core.specs.Entering.{LooksFor, Operates}
 use Rattle.domain_obj.specs.declared.operating.entering.Entry.{Entry}
 use Rattle.domain_obj.specs.declared.operating.entering.Entry.TheVariants as entry
-use Rattle.domain_core.specs.OfTurns.{Turning}
 use Rattle.job_rules.specs.declared.record.JobRecord.{JobRecord}
-use Rattle.domain_core.specs.OfTurns.{LooksToBegin, LooksToTakeUp}
 use Rattle.domain_core.specs.OfTurns.{OperationLook}
 use Rattle.domain_core.specs.OfTurns.operation_look_variants as look
 use Rattle.domain_core.specs.OfShares.{queue_by}
 
--- it begins an operation, or takes one up
-abbrev pub Operates : Call → Type 0
-Operates d = (is_some (begins d) ≡ true) ⊎ (is_some (takes_up d) ≡ true)
-
--- its look, in the turn of a domain
-abbrev pub LooksFor : ℕ → Who → Call → Turning → Turning → OperationLook → Type 0
-LooksFor n who d old new result =
-    ((is_some (begins d) ≡ true) × LooksToBegin n who d old new result) ⊎ ((is_some (takes_up d) ≡ true) × LooksToTakeUp n who d old new result)
-
--- and in the turn of its cell
+-- its look, in the turn of its cell
 pub record LooksForIn (n : ℕ) (who : Who) (d : Call) (old new : Celled) (result : OperationLook) : Type 0 where
   pub looks : LooksFor n who d old.core.turning new.core.turning result
   pub queue : (cell_in new).queue ≡ queue_by result (cell_in old).queue n who

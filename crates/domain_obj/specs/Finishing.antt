@@ -13,12 +13,12 @@ use Rattle.domain_spec.specs.Cell.{OpenCall}
 use Rattle.domain_core.specs.OfTurns.{led_to}
 use Rattle.domain_obj.specs.Asking.{AwaitsAnswer, IsAsked}
 use Rattle.domain_obj.specs.InTurn.{DomainPass}
-use Rattle.domain_obj.specs.Leading.{IsTold}
+use Rattle.domain_core.specs.Leading.{IsTold}
 use Rattle.domain_obj.specs.Placing.{IsPlaced}
 use Rattle.domain_obj.specs.Running.{Goes, IsSpent}
 use Rattle.domain_obj.specs.declared.finishing.Finished.{Finished}
 use Rattle.domain_obj.specs.declared.finishing.Finished.TheVariants as finished
-use Rattle.domain_obj.specs.declared.next.Next.{Next}
+use Rattle.domain_core.specs.declared.next.Next.{Next}
 use Rattle.domain_core.specs.OfShares.{AsideStays}
 use Rattle.domain_core.specs.OfShares.{told}
 

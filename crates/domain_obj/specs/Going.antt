@@ -3,15 +3,10 @@ use Rattle.std.specs.Prelude.{◌≡◌, ◌⊎◌, ℕ, is_some, None}
 use Rattle.domain_spec.specs.Types.{Reply, Who}
 use Rattle.domain_spec.specs.Cell.{share_of}
 use Rattle.domain_obj.specs.InTurn.{IsNotRenewed, IsRenewed}
-use Rattle.domain_obj.specs.Leading.{Leads}
 use Rattle.domain_core.specs.Celled.{Celled, KeepsOtherShares, cell_in, standing_in}
-use Rattle.domain_core.specs.OfTurns.{Step}
-use Rattle.domain_obj.specs.declared.operating.phasing.Phasing.{Phasing}
-use Rattle.domain_obj.specs.declared.operating.phasing.Phasing.TheVariants as phasing
 use Rattle.domain_core.specs.Held.{out_by}
-use Rattle.domain_core.specs.Tickets.{HasMonitor, phase_ticket, phased_of}
+use Rattle.domain_core.specs.Tickets.{HasMonitor, LeadsOn, phase_ticket, phased_of}
 use Rattle.domain_core.specs.declared.ticket.PhaseLook.{PhaseLook}
-use Rattle.domain_core.specs.declared.ticket.PhaseLook.TheVariants as look
 use Rattle.domain_core.specs.OfShares.{made_boot}
 use Rattle.domain_core.specs.OfTurns.{CanEnd, Ends}
 use Rattle.domain_core.specs.OfTurns.{IsDue, Phases}
@@ -35,21 +30,15 @@ pub record EndsIn (n : ℕ) (who : Who) (old new : Celled) (said : Reply) : Type
   pub out : new.out ≡ old.out
   pub others : KeepsOtherShares n old new
 
-module _ {M : Type 0} where
+module _ {G M E Z : Type 0} where
   -- the due phase was let in where no normal job is open, and else excluded
-  pub record PhasesIn (n : ℕ) (who : Who) (old new : Celled) (result : PhaseLook M) : Type 0 where
+  pub record PhasesIn (n : ℕ) (who : Who) (old new : Celled) (result : PhaseLook G M E Z) : Type 0 where
     pub phases : Phases n who old.core.turning new.core.turning (phased_of result)
+    pub leads : LeadsOn (standing_in new).operation result
     pub out : new.out ≡ out_by (is_some (phase_ticket result)) (made_boot (standing_in new)) old.out
     pub ticket : HasMonitor (is_some new.out) (phase_ticket result)
     pub others : KeepsOtherShares n old new
 
-  -- the same with what it led to, where it was done
-  abbrev pub GoesOnIn : ℕ → Who → Celled → Celled → Phasing M → Type 0
-  GoesOnIn n who old new (phasing.Away t x) = PhasesIn n who old new (look.Away t x)
-  GoesOnIn n who old new (phasing.Phased said) = (st : Step) × PhasesIn n who old new (look.Phased st) × Leads (standing_in new).operation st said
-  GoesOnIn n who old new phasing.Excluded = PhasesIn n who old new look.Excluded
-  GoesOnIn n who old new phasing.NoMemory = PhasesIn n who old new look.NoMemory
-
   -- a long chapter ended, if it could, and then the operation went on so
-  abbrev pub RenewsAndGoesOn : ℕ → Who → Celled → Celled → Phasing M → Type 0
-  RenewsAndGoesOn n who old new result = (mid : Celled) × IsRenewedIfCan n who old mid × GoesOnIn n who mid new result
+  abbrev pub RenewsAndGoesOn : ℕ → Who → Celled → Celled → PhaseLook G M E Z → Type 0
+  RenewsAndGoesOn n who old new result = (mid : Celled) × IsRenewedIfCan n who old mid × PhasesIn n who mid new result

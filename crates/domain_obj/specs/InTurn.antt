@@ -15,7 +15,7 @@ use Rattle.domain_core.specs.OfTurns.{Looks}
 use Rattle.domain_core.specs.OfTurns.{HasRefused}
 use Rattle.domain_core.specs.OfTurns.{Takes}
 use Rattle.domain_core.specs.Held.{out_by}
-use Rattle.domain_core.specs.Tickets.{HasMonitor, back_of, back_ticket, look_ticket, looked_of}
+use Rattle.domain_core.specs.Tickets.{HasMonitor, LeadsBack, back_of, back_ticket, look_ticket, looked_of}
 use Rattle.domain_core.specs.declared.ticket.Back.{Back}
 use Rattle.domain_core.specs.declared.ticket.Look.{Look}
 use Rattle.domain_core.specs.OfShares.{made_boot}
@@ -62,9 +62,9 @@ pub record GivesUp (n : ℕ) (who : Who) (d : Call) (old new : Celled) : Type 0 
   pub out : new.out ≡ old.out
   pub others : KeepsOtherShares n old new
 
-module _ {M : Type 0} where
+module _ {G M E Z : Type 0} where
   -- a call looked
-  pub record LooksIn (n : ℕ) (who : Who) (d : Call) (first : First) (old new : Celled) (result : Look M) : Type 0 where
+  pub record LooksIn (n : ℕ) (who : Who) (d : Call) (first : First) (old new : Celled) (result : Look G M E Z) : Type 0 where
     pub looks : Looks n who d first old.core.turning new.core.turning (looked_of result)
     pub queue : (cell_in new).queue ≡ queue_of (looked_of result) (cell_in old).queue n who
     pub excluded : new.core.excluded ≡ excluded_by who d (looked_of result)
@@ -73,8 +73,9 @@ module _ {M : Type 0} where
     pub others : KeepsOtherShares n old new
 
   -- an ask was answered
-  pub record GoesBackIn (n : ℕ) (x : Answer) (old new : Celled) (result : Back M) : Type 0 where
+  pub record GoesBackIn (n : ℕ) (x : Answer) (old new : Celled) (result : Back G M E Z) : Type 0 where
     pub back : GoesBack n x old.core.turning new.core.turning (back_of result)
+    pub leads : LeadsBack (standing_in new).operation result
     pub out : new.out ≡ out_by (is_some (back_ticket result)) (made_boot (standing_in new)) None
     pub ticket : HasMonitor (is_some new.out) (back_ticket result)
     pub others : KeepsOtherShares n old new

@@ -1,6 +1,7 @@
 pub mod Asking
 pub mod Attempting
 pub mod Called
+pub mod Clients
 pub mod Ending
 pub mod Entered
 pub mod Entering
@@ -8,7 +9,6 @@ pub mod Finishing
 pub mod Going
 pub mod Hearing
 pub mod InTurn
-pub mod Leading
 pub mod Lending
 pub mod Looking
 pub mod OfCells

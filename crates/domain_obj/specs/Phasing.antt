@@ -13,14 +13,14 @@ use Rattle.domain_spec.specs.declared.step.Outcome.TheVariants as outcome
 use Rattle.domain_spec.specs.Cell.{OpenCall}
 use Rattle.domain_obj.specs.Finishing.{IsAway, IsClosed}
 use Rattle.domain_obj.specs.InTurn.{DomainPass}
-use Rattle.domain_obj.specs.Leading.{IsTold}
-use Rattle.domain_obj.specs.declared.next.Next.{Next}
+use Rattle.domain_core.specs.Leading.{IsTold}
+use Rattle.domain_core.specs.declared.next.Next.{Next}
 use Rattle.domain_obj.specs.Placing.{IsPlaced}
 use Rattle.domain_obj.specs.Running.{Goes, standing_after}
 use Rattle.domain_core.specs.Celled.{CellShare}
 use Rattle.domain_core.specs.OfTurns.{IsToldAtEnd}
-use Rattle.domain_obj.specs.declared.operating.phasing.Phasing.{Phasing}
-use Rattle.domain_obj.specs.declared.operating.phasing.Phasing.TheVariants as phasing
+use Rattle.domain_core.specs.declared.ticket.PhaseLook.{PhaseLook}
+use Rattle.domain_core.specs.declared.ticket.PhaseLook.TheVariants as phasing
 use Rattle.domain_core.specs.OfTurns.{led_to}
 use Rattle.domain_core.specs.OfTurns.{CanEnd}
 use Rattle.domain_core.specs.OfTurns.{IsDue, IsHeld}
@@ -99,8 +99,8 @@ pub record IsExcludedNow (before after : DomainPass) : Type 0 where
   pub held : IsHeld (standing_after after.seen).job
 
 -- what the turn of a due phase leaves of the pass
-module _ {M : Type 0} where
-  abbrev pub HasStepped : Who → OpenOperation → DomainPass → DomainPass → Front → Phasing M → Type 0
+module _ {G M E Z : Type 0} where
+  abbrev pub HasStepped : Who → OpenOperation → DomainPass → DomainPass → Front → PhaseLook G M E Z → Type 0
   HasStepped who o before after place (phasing.Away t x) = IsPhaseAway who o before after x (is_some t.monitor)
   HasStepped who o before after place (phasing.Phased said) = (p : PhaseDone) × IsPhaseDone who o 1 p before after said place × (told p.asks p.answers ≡ [])
   HasStepped who o before after place phasing.Excluded = IsExcludedNow before after

@@ -1,5 +1,5 @@
 -- What calls over a domain leave of the pass that runs them.
-use Rattle.std.specs.Prelude.{◌≡◌, ◌⊎◌, ℕ, List, [], length, true, None}
+use Rattle.std.specs.Prelude.{◌≡◌, ◌≤◌, ◌⊎◌, ℕ, ◌+◌, List, [], length, true, None}
 use Rattle.history_spec.specs.declared.history.History.{History}
 use Rattle.virt_types.specs.declared.call.Query.{Query}
 use Rattle.domain_spec.specs.declared.mark.Mark.{Mark}
@@ -28,9 +28,10 @@ standing_after h = standing (at_base h.base) h.marks
 abbrev pub IsLegalHistory : DomainHistory → Type 0
 IsLegalHistory h = IsLegal (at_base h.base) h.marks
 
--- so many turns, with these marks of the pass's own and no others, between legal histories
+-- so many turns, with these marks of the pass's own and no others. What it has seen after a turn, or after a mark, is legal
 pub record Goes (turns : ℕ) (more : List (ℕ × Mark ℕ)) (before after : DomainPass) : Type 0 where
   pub went : Went meaning turns more before after
+  pub legal : 1 ≤ turns + length more → IsLegalHistory after.seen
   pub legal_seen : IsLegalHistory before.seen → IsLegalHistory after.seen
   pub legal_held : IsLegalHistory before.held → IsLegalHistory after.held
 

@@ -106,8 +106,8 @@ pub record IsLeftNow (before after : DomainPass) : Type 0 where
   pub share : after.share ≡ waiting_as None before.share
 
 -- what a turn leaves of the pass of a call that was not let in before it
-module _ {M : Type 0} where
-  abbrev pub HasTried : Who → Call → First → ℕ → DomainPass → DomainPass → Front → Attempt M → Type 0
+module _ {G M E Z : Type 0} where
+  abbrev pub HasTried : Who → Call → First → ℕ → DomainPass → DomainPass → Front → Attempt G M E Z → Type 0
   HasTried who d f turns before after place (attempt.Done r) = IsDoneAtOnce who d f before after r place
   HasTried who d f turns before after place (attempt.Away t x) = IsAwayNow who d f before after x (is_some t.monitor)
   HasTried who d f turns before after place (attempt.Waits boot) = WaitsNow who before after boot

@@ -6,7 +6,6 @@ use Rattle.virt_types.specs.Below.types_base.declared.caller.Front.{Front}
 use Rattle.domain_spec.specs.Types.{Answer, Ask}
 use Rattle.domain_spec.specs.Types.job
 use Rattle.domain_spec.specs.declared.mark.Mark.{Mark}
-use Rattle.domain_spec.specs.declared.open.OpenOperation.{OpenOperation}
 use Rattle.domain_spec.specs.declared.step.Outcome.{Outcome}
 use Rattle.domain_spec.specs.Cell.{OpenCall}
 use Rattle.domain_core.specs.Celled.{Celled, cell_in, cell_share}
@@ -15,16 +14,13 @@ use Rattle.domain_core.specs.OfTurns.{Back as CoreBack}
 use Rattle.domain_core.specs.OfTurns.back_variants as core_back
 use Rattle.domain_obj.specs.Asking.{AwaitsAnswer}
 use Rattle.domain_obj.specs.InTurn.{DomainPass}
-use Rattle.domain_obj.specs.Leading.{IsTold, Leads, step_of}
+use Rattle.domain_core.specs.Leading.{IsTold}
 use Rattle.domain_obj.specs.Placing.{IsLastPlace}
 use Rattle.domain_obj.specs.Running.{Goes}
-use Rattle.domain_obj.specs.declared.calls.Answered.{Answered}
-use Rattle.domain_obj.specs.declared.calls.Answered.TheVariants as answered
 use Rattle.domain_core.specs.OfTurns.{HasLedTo}
-use Rattle.domain_core.specs.Tickets.{HasMonitor}
+use Rattle.domain_core.specs.Tickets.{HasMonitor, back_of, back_ticket}
 use Rattle.domain_core.specs.declared.ticket.Back.{Back}
 use Rattle.domain_core.specs.declared.ticket.Back.TheVariants as back
-use Rattle.domain_core.specs.declared.ticket.Ticket.{Ticket}
 use Rattle.domain_core.specs.OfShares.{IsAnsweredTo}
 use Rattle.domain_core.specs.OfShares.{BackLeaves}
 use Rattle.domain_core.specs.OfShares.{whose}
@@ -34,47 +30,29 @@ abbrev pub BackWaits : CoreBack → Option OpenCall → Type 0
 BackWaits (core_back.Away x) call = AwaitsAnswer call
 BackWaits other call = Unit {0}
 
-module _ {M : Type 0} where
-  -- the same without tickets, and without what the caller of an operation is told that rests
-  abbrev pub answered_of : Answered M → CoreBack
-  answered_of (answered.Done r) = core_back.Done r
-  answered_of (answered.Away t x) = core_back.Away x
-  answered_of (answered.Phased said) = core_back.Phased (step_of said)
-
-  -- the ticket that goes out
-  abbrev pub answered_ticket : Answered M → Option (Ticket M)
-  answered_ticket (answered.Away t x) = Some t
-  answered_ticket other = None
-
-  -- what became of a call, or a phase, is told so, over the operation as it is
-  abbrev pub TellsBack : Option OpenOperation → Back M → Answered M → Type 0
-  TellsBack o (back.Done r) (answered.Done said) = said ≡ r
-  TellsBack o (back.Away t x) (answered.Away ticket asked) = (ticket ≡ t) × (asked ≡ x)
-  TellsBack o (back.Phased st) (answered.Phased said) = Leads o st said
-  TellsBack o other said = ⊥
-
+module _ {G M E Z : Type 0} where
   -- a call that is done was no phase; and of a phase that is done is told what the Phase among these marks led to
-  abbrev pub IsClosedSo : ℕ → OpenCall → List (Mark ℕ) → Answered M → Type 0
-  IsClosedSo n call left (answered.Done r) = call.job.job ≡ job.Nested → ⊥
-  IsClosedSo n call left (answered.Away t x) = Unit {0}
-  IsClosedSo n call left (answered.Phased said) = (next : Outcome) × HasLedTo n next left × IsTold next said
+  abbrev pub IsClosedSo : ℕ → OpenCall → List (Mark ℕ) → Back G M E Z → Type 0
+  IsClosedSo n call left (back.Done r) = call.job.job ≡ job.Nested → ⊥
+  IsClosedSo n call left (back.Away t x) = Unit {0}
+  IsClosedSo n call left (back.Phased said) = (next : Outcome) × HasLedTo n next left × IsTold next said
 
   -- a pass took one turn, in which its open call, which had asked this last, was answered so
-  pub record HasAnswered (asked : Ask) (x : Answer) (before after : DomainPass) (result : Answered M) (place : Front) : Type 0 where
+  pub record HasAnswered (asked : Ask) (x : Answer) (before after : DomainPass) (result : Back G M E Z) (place : Front) : Type 0 where
     pub old : Celled
     pub new : Celled
     pub left : List (Mark ℕ)
     pub call : OpenCall
     pub was_open : before.share.kept.call ≡ Some call
     pub goes : Goes 1 (tagged new.core.turning.chapter (own whose before.number left)) before after
-    pub leaves : BackLeaves before.number call asked x before.share.kept after.share.kept (answered_of result) left
+    pub leaves : BackLeaves before.number call asked x before.share.kept after.share.kept (back_of result) left
     pub closed : IsClosedSo before.number call left result
     pub share_was : cell_share old before.number ≡ before.share
     pub share_is : after.share ≡ cell_share new before.number
     pub same_chapter : new.core.turning.chapter ≡ old.core.turning.chapter
-    pub ticket : HasMonitor (is_some new.out) (answered_ticket result)
-    pub waits : BackWaits (answered_of result) after.share.kept.call
-    pub keeps : IsAnsweredTo before.share.kept after.share.kept (answered_of result)
+    pub ticket : HasMonitor (is_some new.out) (back_ticket result)
+    pub waits : BackWaits (back_of result) after.share.kept.call
+    pub keeps : IsAnsweredTo before.share.kept after.share.kept (back_of result)
     pub saw : after.seen ≡ history_of new
     pub marks_are : (cell_in new).marks ≡ (cell_in old).marks ++ left
     pub of_pass : AreOf whose before.number left

@@ -7,12 +7,12 @@ ghost use Rattle.domain_core.specs.OfShares.{told};
 
 use crate::turns::DomainPass;
 use domain_core::Ticket;
-use monitor_link::{Ears, Killer, Link, Monitor};
+use monitor_link::{Guests, Link};
 use virt_types::{Answer, Ask};
 
 /// Who answers what the calls of a pass ask: commands by the monitor of their ticket, and the rest by itself. It is asked
 /// while the pass has no turn.
-pub trait Desk<M: Monitor + Drop, E: Ears + Drop, Z: Killer + Drop> {
+pub trait Desk<G: Guests> {
     // What it was asked, each ask with its answer, but for those for which there was no memory.
     ghost report: { Self → List (TheAsk × TheAnswer) };
 
@@ -21,18 +21,18 @@ pub trait Desk<M: Monitor + Drop, E: Ears + Drop, Z: Killer + Drop> {
     /// guest was made comes its link, and with no other. It may wait.
     fn ask(
         &mut self,
-        pass: &DomainPass<M, E, Z>,
-        ticket: &mut Ticket<M>,
+        pass: &DomainPass<G>,
+        ticket: &mut Ticket<G>,
         asked: &Ask,
-    ) -> (Answer, Option<Link<M, E, Z>>)
+    ) -> (Answer, Option<Link<G>>)
         requires { IsAsked pass.now asked.now }
         ensures monitor { is_some ticket.new.monitor ≡ is_some ticket.old.monitor }
         ensures fits { FitsAsk asked.now (is_some ticket.old.monitor) result.0 (is_some result.1) }
-        ensures counted { IsCounted M.ends M.faults ticket.new.monitor result.0 }
+        ensures counted { IsCounted G.M.ends G.M.faults ticket.new.monitor result.0 }
         ensures report { report self.new ≡ report self.old ++ told (asked.now ∷ []) (result.0 ∷ []) };
 
     /// Is called before each phase of an operation, and asks nobody. It may wait.
-    fn between(&mut self, pass: &DomainPass<M, E, Z>)
+    fn between(&mut self, pass: &DomainPass<G>)
         requires { IsBetween pass.now }
         ensures { report self.new ≡ report self.old };
 }

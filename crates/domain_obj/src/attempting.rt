@@ -8,7 +8,7 @@ use crate::{DomainTurn, end_long_chapter, give_up_in, look_in};
 use domain_core::{Look, Ticket};
 use domain_spec::First;
 use job_rules::JobRecord;
-use monitor_link::{Ears, Killer, Monitor};
+use monitor_link::Guests;
 use std::alloc::Global;
 use virt_types::{Ask, Call, Reply, Who};
 
@@ -17,11 +17,11 @@ pub const ENOUGH: u32 = 30;
 
 /// What became of a call in a turn in which it looked.
 #[derive(Drop)]
-pub enum Attempt<M> {
+pub enum Attempt<G: Guests> {
     /// It was let in, and is done; its caller is told this.
     Done(Reply),
     /// It was let in, and asks this.
-    Away(Ticket<M>, Ask),
+    Away(Ticket<G>, Ask),
     /// Its job is excluded, and it waits; this boot is live.
     Waits(Option<u64>),
     /// Its job is excluded by this, and it looked often enough: it is refused.
@@ -46,11 +46,7 @@ pub fn kept_first(call: &Call, first: First, boot: Option<u64>) -> First
 }
 
 // A Destroy that is excluded at its first look ends the guest that is there, without asking it. It may wait for the guest.
-fn kill_first<M: Monitor + Drop, E: Ears + Drop, Z: Killer + Drop>(
-    turn: &mut DomainTurn<M, E, Z>,
-    call: &Call,
-    first: First,
-)
+fn kill_first<G: Guests>(turn: &mut DomainTurn<G>, call: &Call, first: First)
     ensures same { turn.new ≡ turn.old }
 {
     match (call, first) {
@@ -60,14 +56,14 @@ fn kill_first<M: Monitor + Drop, E: Ears + Drop, Z: Killer + Drop>(
 }
 
 // It looks, and where it is excluded, and both its turns, with this one, and its looks are enough, gives up.
-fn look_or_give_up<M: Monitor + Drop, E: Ears + Drop, Z: Killer + Drop>(
-    turn: &mut DomainTurn<M, E, Z>,
+fn look_or_give_up<G: Guests>(
+    turn: &mut DomainTurn<G>,
     alloc: Global,
     who: Who,
     call: &Call,
     first: First,
     turns: u32,
-) -> Attempt<M>
+) -> Attempt<G>
     requires may { MayLook turn.old.pass.number who call.now first turn.old.value }
     requires begins { begins call.now ≡ None }
     requires takes { takes_up call.now ≡ None }
@@ -92,14 +88,14 @@ fn look_or_give_up<M: Monitor + Drop, E: Ears + Drop, Z: Killer + Drop>(
 
 /// A long chapter ends, and then the call looks; where it is excluded it gives up, if both its turns, with this one, and its
 /// looks are enough.
-pub fn attempt_in<M: Monitor + Drop, E: Ears + Drop, Z: Killer + Drop>(
-    turn: &mut DomainTurn<M, E, Z>,
+pub fn attempt_in<G: Guests>(
+    turn: &mut DomainTurn<G>,
     alloc: Global,
     who: Who,
     call: &Call,
     first: First,
     turns: u32,
-) -> Attempt<M>
+) -> Attempt<G>
     requires may { MayLook turn.old.pass.number who call.now first turn.old.value }
     requires begins { begins call.now ≡ None }
     requires takes { takes_up call.now ≡ None }

@@ -8,7 +8,7 @@ use crate::attempting::{Attempt, attempt_in};
 use crate::{DomainPass, last_in, told_legal};
 use domain_core::DomainCell;
 use domain_spec::First;
-use monitor_link::{Ears, Killer, Monitor};
+use monitor_link::Guests;
 use std::alloc::Global;
 use std::sync::Wait;
 use turn_cell::TurnCell;
@@ -17,16 +17,16 @@ use virt_types::{Call, Front, Who};
 /// Takes one more of so many turns, in which a long chapter ends and then the call looks; where it is excluded it gives up,
 /// if both its turns and its looks are enough. With the place of the chapter's last mark of some pass. A pass for which no
 /// ticket is left comes back as the error.
-pub fn attempt_once<M: Monitor + Drop, E: Ears + Drop, Z: Killer + Drop, R: Wait>(
+pub fn attempt_once<G: Guests, R: Wait>(
     rt: &R,
-    cell: &TurnCell<DomainCell<M, E, Z>>,
+    cell: &TurnCell<DomainCell<G>>,
     alloc: Global,
-    pass: DomainPass<M, E, Z>,
+    pass: DomainPass<G>,
     who: Who,
     call: &Call,
     first: First,
     turns: u32,
-) -> Result<(DomainPass<M, E, Z>, Attempt<M>, Front), DomainPass<M, E, Z>>
+) -> Result<(DomainPass<G>, Attempt<G>, Front), DomainPass<G>>
     requires own { pass.cell ≡ cell.now }
     requires ready { IsReadyToLook who call.now first pass }
     requires begins { begins call.now ≡ None }

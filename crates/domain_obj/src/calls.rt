@@ -2,62 +2,32 @@
 ghost use Rattle.std.specs.Prelude.{◌≡◌, IfErr, IfOk, is_some};
 ghost use Rattle.domain_obj.specs.Asking.{MayBeAnswered};
 ghost use Rattle.domain_obj.specs.Running.{IsSpent};
-ghost use Rattle.domain_obj.specs.Turns.{HasAnswered, TellsBack};
-ghost use Rattle.domain_core.specs.Celled.{standing_in};
+ghost use Rattle.domain_obj.specs.Turns.{HasAnswered};
 ghost use Rattle.domain_core.specs.Tickets.{IsCounted};
 
-use crate::next::{Next, next_in};
-use crate::turns::{DomainPass, DomainTurn, back_in, last_in, told_legal};
+use crate::turns::{DomainPass, back_in, last_in, told_legal};
 use domain_core::{Back, DomainCell, Ticket};
-use monitor_link::{Ears, Killer, Link, Monitor};
+use monitor_link::{Guests, Link};
 use std::alloc::Global;
 use std::sync::Wait;
 use turn_cell::TurnCell;
-use virt_types::{Answer, Ask, Front, Reply};
-
-/// What became of a call, or a phase, whose ask was answered.
-#[derive(Drop)]
-pub enum Answered<M> {
-    /// The call is done; its caller is told this.
-    Done(Reply),
-    /// It asks this next.
-    Away(Ticket<M>, Ask),
-    /// The phase is done, and leads on so.
-    Phased(Next),
-}
-
-// What became of it is told in the turn in which it was answered: where its operation rests now, that may be taken up in the
-// next one.
-fn told_in<M: Monitor + Drop, E: Ears + Drop, Z: Killer + Drop>(
-    turn: &mut DomainTurn<M, E, Z>,
-    alloc: Global,
-    left: Back<M>,
-) -> Answered<M>
-    ensures tells { TellsBack (standing_in turn.old.value).operation left result }
-    ensures same { turn.new ≡ turn.old }
-{
-    match left {
-        Back::Done(reply) => Answered::Done(reply),
-        Back::Away(ticket, asked) => Answered::Away(ticket, asked),
-        Back::Phased(step) => Answered::Phased(next_in(turn, alloc, step)),
-    }
-}
+use virt_types::{Answer, Ask, Front};
 
 /// Takes a turn, in which the open call of the pass is answered, which had asked this last; with the place of the chapter's
 /// last mark of some pass. A pass for which no ticket is left comes back as the error.
-pub fn answer_once<M: Monitor + Drop, E: Ears + Drop, Z: Killer + Drop, R: Wait>(
+pub fn answer_once<G: Guests, R: Wait>(
     rt: &R,
-    cell: &TurnCell<DomainCell<M, E, Z>>,
+    cell: &TurnCell<DomainCell<G>>,
     alloc: Global,
-    pass: DomainPass<M, E, Z>,
-    ticket: Ticket<M>,
+    pass: DomainPass<G>,
+    ticket: Ticket<G>,
     asked: &Ask,
     answer: Answer,
-    made: Option<Link<M, E, Z>>,
-) -> Result<(DomainPass<M, E, Z>, Answered<M>, Front), DomainPass<M, E, Z>>
+    made: Option<Link<G>>,
+) -> Result<(DomainPass<G>, Back<G>, Front), DomainPass<G>>
     requires own { pass.cell ≡ cell.now }
     requires may { MayBeAnswered pass asked.now (is_some ticket.monitor) answer (is_some made) }
-    requires counted { IsCounted M.ends M.faults ticket.monitor answer }
+    requires counted { IsCounted G.M.ends G.M.faults ticket.monitor answer }
     ensures ok { IfOk result (λ r. HasAnswered asked.now answer pass r.0 r.1 r.2) }
     ensures spent { IfErr result (λ after. IsSpent pass after) }
 {
@@ -66,9 +36,8 @@ pub fn answer_once<M: Monitor + Drop, E: Ears + Drop, Z: Killer + Drop, R: Wait>
         Err((pass, _)) => return Err(pass),
     };
     told_legal(&mut turn);
-    let left = back_in(&mut turn, ticket, answer, made);
-    let answered = told_in(&mut turn, alloc, left);
+    let left = back_in(&mut turn, alloc, ticket, answer, made);
     let place = last_in(&mut turn);
     told_legal(&mut turn);
-    Ok((cell.leave(turn), answered, place))
+    Ok((cell.leave(turn), left, place))
 }

@@ -5,7 +5,7 @@ ghost use Rattle.domain_obj.specs.Ending.{HasEnded};
 
 use crate::{Desk, DomainPass, Finished, finish};
 use domain_core::{DomainCell, Ticket};
-use monitor_link::{Ears, Killer, Monitor};
+use monitor_link::Guests;
 use std::alloc::Global;
 use std::sync::Wait;
 use turn_cell::TurnCell;
@@ -29,15 +29,15 @@ pub enum Called {
 }
 
 /// The call that the pass has open asks until it is done.
-pub fn end_call<M: Monitor + Drop, E: Ears + Drop, Z: Killer + Drop, D: Desk<M, E, Z>, R: Wait>(
+pub fn end_call<G: Guests, D: Desk<G>, R: Wait>(
     rt: &R,
-    cell: &TurnCell<DomainCell<M, E, Z>>,
+    cell: &TurnCell<DomainCell<G>>,
     alloc: Global,
-    pass: DomainPass<M, E, Z>,
-    ticket: Ticket<M>,
+    pass: DomainPass<G>,
+    ticket: Ticket<G>,
     asked: Ask,
     desk: &mut D,
-) -> (DomainPass<M, E, Z>, Called)
+) -> (DomainPass<G>, Called)
     requires own { pass.cell ≡ cell.now }
     requires away { IsAway pass asked (is_some ticket.monitor) }
     requires no_operation { pass.share.kept.operation ≡ None }

@@ -3,11 +3,10 @@ ghost use Rattle.std.specs.Prelude.{◌≡◌, is_some};
 ghost use Rattle.domain_obj.specs.Finishing.{HasFinished, IsAway};
 
 use crate::asking::Desk;
-use crate::calls::{Answered, answer_once};
-use crate::next::Next;
+use crate::calls::answer_once;
 use crate::turns::DomainPass;
-use domain_core::{DomainCell, Ticket};
-use monitor_link::{Ears, Killer, Monitor};
+use domain_core::{Back, DomainCell, Next, Ticket};
+use monitor_link::Guests;
 use std::alloc::Global;
 use std::sync::Wait;
 use turn_cell::TurnCell;
@@ -26,15 +25,15 @@ pub enum Finished {
 
 /// Asks until the call, or the phase, is done that the pass has open: each ask goes to the desk while the pass has no turn,
 /// and each answer comes in a turn of its own.
-pub fn finish<M: Monitor + Drop, E: Ears + Drop, Z: Killer + Drop, D: Desk<M, E, Z>, R: Wait>(
+pub fn finish<G: Guests, D: Desk<G>, R: Wait>(
     rt: &R,
-    cell: &TurnCell<DomainCell<M, E, Z>>,
+    cell: &TurnCell<DomainCell<G>>,
     alloc: Global,
-    pass: DomainPass<M, E, Z>,
-    ticket: Ticket<M>,
+    pass: DomainPass<G>,
+    ticket: Ticket<G>,
     asked: Ask,
     desk: &mut D,
-) -> (DomainPass<M, E, Z>, Finished)
+) -> (DomainPass<G>, Finished)
     requires own { pass.cell ≡ cell.now }
     requires away { IsAway pass asked (is_some ticket.monitor) }
     ensures { HasFinished pass result.0 (D.report desk.old) (D.report desk.new) result.1 }
@@ -45,14 +44,14 @@ pub fn finish<M: Monitor + Drop, E: Ears + Drop, Z: Killer + Drop, D: Desk<M, E,
     for _ in rt.forever() {
         let (answer, made) = desk.ask(&pass, &mut ticket, &asked);
         match answer_once(rt, cell, alloc, pass, ticket, &asked, answer, made) {
-            Ok((after, answered, place)) => match answered {
-                Answered::Away(next, ask) => {
+            Ok((after, left, place)) => match left {
+                Back::Away(next, ask) => {
                     pass = after;
                     ticket = next;
                     asked = ask;
                 }
-                Answered::Done(reply) => return (after, Finished::Done(reply, place)),
-                Answered::Phased(next) => return (after, Finished::Phased(next, place)),
+                Back::Done(reply) => return (after, Finished::Done(reply, place)),
+                Back::Phased(next) => return (after, Finished::Phased(next, place)),
             },
             Err(after) => return (after, Finished::Spent),
         }

@@ -7,7 +7,7 @@ use crate::DomainPass;
 use crate::ends::Hushed;
 use crate::once::{Once, hear_once};
 use domain_core::DomainCell;
-use monitor_link::{Ears, Killer, Monitor};
+use monitor_link::Guests;
 use std::alloc::Global;
 use std::sync::Wait;
 use turn_cell::TurnCell;
@@ -18,15 +18,15 @@ const MOST: u64 = 64;
 /// The pass hears the guest until its ears have nothing more to report, or none are to be had, or 64 things were heard: it
 /// takes the ears in one turn, hears while it has none, and in another turn what was heard applies, and the ears are given
 /// back. It may wait for the guest.
-pub fn hear<M: Monitor + Drop, E: Ears + Drop, Z: Killer + Drop, R: Wait>(
+pub fn hear<G: Guests, R: Wait>(
     rt: &R,
-    cell: &TurnCell<DomainCell<M, E, Z>>,
+    cell: &TurnCell<DomainCell<G>>,
     alloc: Global,
-    pass: DomainPass<M, E, Z>,
-) -> (DomainPass<M, E, Z>, Hushed)
+    pass: DomainPass<G>,
+) -> (DomainPass<G>, Hushed)
     requires own { pass.cell ≡ cell.now }
     requires ready { IsReady pass }
-    ensures heard { HasHushed E.ends E.faults E.unheard pass result.0 result.1 }
+    ensures heard { HasHushed G.E.ends G.E.faults G.E.unheard pass result.0 result.1 }
     ensures leaves { HasLeft pass result.0 result.1 }
 {
     let mut pass = pass;

@@ -6,7 +6,7 @@ ghost use Rattle.domain_obj.specs.Lending.{HasLent, LendsIn};
 use crate::{DomainPass, DomainTurn, Seen, seen_in, told_legal};
 use domain_core::DomainCell;
 use history_spec::Stamp;
-use monitor_link::{Ears, Killer, Monitor};
+use monitor_link::Guests;
 use std::alloc::Global;
 use std::sync::Wait;
 use turn_cell::TurnCell;
@@ -24,10 +24,7 @@ pub enum Lent<E> {
 }
 
 // The ears of the guest that is there are lent, under this number.
-fn lend_as<M: Monitor + Drop, E: Ears + Drop, Z: Killer + Drop>(
-    turn: &mut DomainTurn<M, E, Z>,
-    alloc: Global,
-) -> Lent<E>
+fn lend_as<G: Guests>(turn: &mut DomainTurn<G>, alloc: Global) -> Lent<G::E>
     ghost number: { ℕ }
     ensures lends { LendsIn number turn.old.value turn.new.value result }
     ensures same { turn.new ≡ record turn.old { value = turn.new.value } }
@@ -41,10 +38,7 @@ fn lend_as<M: Monitor + Drop, E: Ears + Drop, Z: Killer + Drop>(
 }
 
 // The ears of the guest that is there are lent, under the number of the pass that has the turn.
-fn lend_in<M: Monitor + Drop, E: Ears + Drop, Z: Killer + Drop>(
-    turn: &mut DomainTurn<M, E, Z>,
-    alloc: Global,
-) -> Lent<E>
+fn lend_in<G: Guests>(turn: &mut DomainTurn<G>, alloc: Global) -> Lent<G::E>
     ensures lends { LendsIn turn.old.pass.number turn.old.value turn.new.value result }
     ensures same { turn.new ≡ record turn.old { value = turn.new.value } }
 {
@@ -53,12 +47,12 @@ fn lend_in<M: Monitor + Drop, E: Ears + Drop, Z: Killer + Drop>(
 
 /// Takes a turn, in which the ears of the guest that is there are lent; with what the pass has seen then. A pass for which
 /// no ticket is left comes back as the error.
-pub fn lend_once<M: Monitor + Drop, E: Ears + Drop, Z: Killer + Drop, R: Wait>(
+pub fn lend_once<G: Guests, R: Wait>(
     rt: &R,
-    cell: &TurnCell<DomainCell<M, E, Z>>,
+    cell: &TurnCell<DomainCell<G>>,
     alloc: Global,
-    pass: DomainPass<M, E, Z>,
-) -> Result<(DomainPass<M, E, Z>, Lent<E>, Seen), DomainPass<M, E, Z>>
+    pass: DomainPass<G>,
+) -> Result<(DomainPass<G>, Lent<G::E>, Seen), DomainPass<G>>
     requires own { pass.cell ≡ cell.now }
     ensures ok { IfOk result (λ r. HasLent pass r.0 r.1) }
     ensures seen { IfOk result (λ r. IsSeen r.2 r.0) }

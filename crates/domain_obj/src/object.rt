@@ -16,7 +16,7 @@ use crate::places::{At, place_at, seen_by};
 use crate::replies::{told_of_call, told_of_operation};
 use crate::{Desk, DomainPass, DomainTurn, Hushed, Queried, hear, query, run_call, run_operation};
 use domain_core::DomainCell;
-use monitor_link::{Ears, Killer, Monitor};
+use monitor_link::Guests;
 use std::alloc::Global;
 use std::marker::Model;
 use std::sync::Wait;
@@ -25,24 +25,23 @@ use virt_types::{Call, DomainDef, NoMemory, Query, Reply, Who};
 
 /// A domain that passes take turns at. Contracts see which cell it is.
 #[derive(Drop)]
-pub struct DomainObj<M: Monitor + Drop, E: Ears + Drop, Z: Killer + Drop> {
-    cell: TurnCell<DomainCell<M, E, Z>>,
+pub struct DomainObj<G: Guests> {
+    cell: TurnCell<DomainCell<G>>,
 }
 
-impl<M: Monitor + Drop, E: Ears + Drop, Z: Killer + Drop> CellOf<DomainCell<M, E, Z>>
-    for DomainObj<M, E, Z> {
+impl<G: Guests> CellOf<DomainCell<G>> for DomainObj<G> {
     ghost use Rattle.std.specs.Prelude.{◌≡◌};
 
     ghost place = { λ domain. domain };
 
-    fn turn_cell(&self) -> &TurnCell<DomainCell<M, E, Z>>
+    fn turn_cell(&self) -> &TurnCell<DomainCell<G>>
         ensures { result.now ≡ self.now }
     {
         &self.cell
     }
 }
 
-impl<M: Monitor + Drop, E: Ears + Drop, Z: Killer + Drop> Model for DomainObj<M, E, Z> {
+impl<G: Guests> Model for DomainObj<G> {
     ghost use Rattle.atomic_table.specs.Seated.{TableId, table_id_coded};
 
     ghost Value = { TableId };
@@ -52,14 +51,14 @@ impl<M: Monitor + Drop, E: Ears + Drop, Z: Killer + Drop> Model for DomainObj<M,
     ghost view = { λ o. o.cell };
 }
 
-impl<M: Monitor + Drop, E: Ears + Drop, Z: Killer + Drop> DomainObj<M, E, Z> {
+impl<G: Guests> DomainObj<G> {
     /// A domain as the store was opened, whose first turn has this ticket, and its first pass.
     pub fn new_at(
         alloc: Global,
         stored: Option<DomainDef>,
         autostart: bool,
         first_ticket: u64,
-    ) -> Result<(DomainObj<M, E, Z>, DomainPass<M, E, Z>), NoMemory>
+    ) -> Result<(DomainObj<G>, DomainPass<G>), NoMemory>
         requires { first_ticket ≤ 2 ^ 62 }
         ensures cell { IfOk result (λ made. made.1.cell ≡ made.0) }
         ensures pass { IfOk result (λ made. IsFirst meaning (new_cell stored autostart) first_ticket made.1) }
@@ -81,20 +80,20 @@ impl<M: Monitor + Drop, E: Ears + Drop, Z: Killer + Drop> DomainObj<M, E, Z> {
     /// is refused after thirty looks (68), or at once where 32 others wait (203). Once it is let in the desk is asked,
     /// while the pass has no turn, until the call is done. Then the pass hears the guest. Without a ticket it is refused
     /// with 211, and the pass that comes back is spent; without memory with 2, and nothing is left of it.
-    pub fn run<D: Desk<M, E, Z>, R: Wait>(
+    pub fn run<D: Desk<G>, R: Wait>(
         &self,
         rt: &R,
         alloc: Global,
-        pass: DomainPass<M, E, Z>,
+        pass: DomainPass<G>,
         who: Who,
         call: &Call,
         desk: &mut D,
-    ) -> (DomainPass<M, E, Z>, Reply, At)
+    ) -> (DomainPass<G>, Reply, At)
         requires own { pass.cell ≡ self.now }
         requires ready { IsReady pass }
         requires begins { begins call.now ≡ None }
         requires takes { takes_up call.now ≡ None }
-        ensures { HasRun E.ends E.faults E.unheard who call.now pass result.0 (D.report desk.old) (D.report desk.new) result.1 result.2 }
+        ensures { HasRun G.E.ends G.E.faults G.E.unheard who call.now pass result.0 (D.report desk.old) (D.report desk.new) result.1 result.2 }
     {
         let (pass, called) = run_call(rt, &self.cell, alloc, pass, who, call, desk);
         let (pass, hushed) = hear(rt, &self.cell, alloc, pass);
@@ -108,19 +107,19 @@ impl<M: Monitor + Drop, E: Ears + Drop, Z: Killer + Drop> DomainObj<M, E, Z> {
     /// no turn. Then the pass hears the guest. Without a ticket the call is refused with 211, and the pass that comes back
     /// is spent: where the operation was let in it stays open. Without memory before that it is refused with 2, and nothing
     /// is left of it.
-    pub fn run_op<D: Desk<M, E, Z>, R: Wait>(
+    pub fn run_op<D: Desk<G>, R: Wait>(
         &self,
         rt: &R,
         alloc: Global,
-        pass: DomainPass<M, E, Z>,
+        pass: DomainPass<G>,
         who: Who,
         call: &Call,
         desk: &mut D,
-    ) -> (DomainPass<M, E, Z>, Reply, At)
+    ) -> (DomainPass<G>, Reply, At)
         requires own { pass.cell ≡ self.now }
         requires ready { IsReady pass }
         requires operates { Operates call.now }
-        ensures { HasRunOperation E.ends E.faults E.unheard who call.now pass result.0 (D.report desk.old) (D.report desk.new) result.1 result.2 }
+        ensures { HasRunOperation G.E.ends G.E.faults G.E.unheard who call.now pass result.0 (D.report desk.old) (D.report desk.new) result.1 result.2 }
     {
         let (pass, operated) = run_operation(rt, &self.cell, alloc, pass, who, call, desk);
         let (pass, hushed) = hear(rt, &self.cell, alloc, pass);
@@ -133,11 +132,11 @@ impl<M: Monitor + Drop, E: Ears + Drop, Z: Killer + Drop> DomainObj<M, E, Z> {
         &self,
         rt: &R,
         alloc: Global,
-        pass: DomainPass<M, E, Z>,
-    ) -> (DomainPass<M, E, Z>, Hushed)
+        pass: DomainPass<G>,
+    ) -> (DomainPass<G>, Hushed)
         requires own { pass.cell ≡ self.now }
         requires ready { IsReady pass }
-        ensures heard { HasHushed E.ends E.faults E.unheard pass result.0 result.1 }
+        ensures heard { HasHushed G.E.ends G.E.faults G.E.unheard pass result.0 result.1 }
         ensures leaves { HasLeft pass result.0 result.1 }
     {
         hear(rt, &self.cell, alloc, pass)
@@ -147,8 +146,8 @@ impl<M: Monitor + Drop, E: Ears + Drop, Z: Killer + Drop> DomainObj<M, E, Z> {
     pub fn enter<R: Wait>(
         &self,
         rt: &R,
-        pass: DomainPass<M, E, Z>,
-    ) -> Result<DomainTurn<M, E, Z>, (DomainPass<M, E, Z>, Spent)>
+        pass: DomainPass<G>,
+    ) -> Result<DomainTurn<G>, (DomainPass<G>, Spent)>
         requires own { pass.cell ≡ self.now }
         ensures turn { IfOk result (λ turn. Enters meaning pass turn) }
         ensures spent { IfErr result (λ e. e.0 ≡ record pass { spent = true }) }
@@ -160,7 +159,7 @@ impl<M: Monitor + Drop, E: Ears + Drop, Z: Killer + Drop> DomainObj<M, E, Z> {
 
     /// Ends the turn, and leaves the domain as it is now. Marks may have been added, or the next chapter begun, and nothing
     /// that another pass keeps there may have changed.
-    pub fn leave(&self, turn: DomainTurn<M, E, Z>) -> DomainPass<M, E, Z>
+    pub fn leave(&self, turn: DomainTurn<G>) -> DomainPass<G>
         requires own { turn.pass.cell ≡ self.now }
         requires goes_on { GoesOn (meaning.next_base turn.entry) (meaning.history turn.entry) (meaning.history turn.value) }
         requires marks { AreOf meaning.whose turn.pass.number (added (meaning.history turn.entry) (meaning.history turn.value)) }
@@ -175,9 +174,9 @@ impl<M: Monitor + Drop, E: Ears + Drop, Z: Killer + Drop> DomainObj<M, E, Z> {
         &self,
         rt: &R,
         alloc: Global,
-        pass: DomainPass<M, E, Z>,
+        pass: DomainPass<G>,
         asked: &Query,
-    ) -> (DomainPass<M, E, Z>, Queried)
+    ) -> (DomainPass<G>, Queried)
         requires own { pass.cell ≡ self.now }
         ensures { HasQueried asked.now pass result.0 result.1 }
     {
@@ -185,7 +184,7 @@ impl<M: Monitor + Drop, E: Ears + Drop, Z: Killer + Drop> DomainObj<M, E, Z> {
     }
 
     /// Cuts a part of the pass off, as a new pass that has seen as much and has another number.
-    pub fn split(&self, pass: DomainPass<M, E, Z>) -> (DomainPass<M, E, Z>, DomainPass<M, E, Z>)
+    pub fn split(&self, pass: DomainPass<G>) -> (DomainPass<G>, DomainPass<G>)
         requires own { pass.cell ≡ self.now }
         requires parts { 1 < pass.parts }
         ensures kept { result.0 ≡ record pass { parts = pass.parts - 1 } }
@@ -195,7 +194,7 @@ impl<M: Monitor + Drop, E: Ears + Drop, Z: Killer + Drop> DomainObj<M, E, Z> {
     }
 
     /// Puts two passes together, where the second has nothing open.
-    pub fn join(&self, one: DomainPass<M, E, Z>, other: DomainPass<M, E, Z>) -> DomainPass<M, E, Z>
+    pub fn join(&self, one: DomainPass<G>, other: DomainPass<G>) -> DomainPass<G>
         requires one { one.cell ≡ self.now }
         requires other { other.cell ≡ self.now }
         requires empty { other.share ≡ meaning.nothing }
@@ -205,7 +204,7 @@ impl<M: Monitor + Drop, E: Ears + Drop, Z: Killer + Drop> DomainObj<M, E, Z> {
     }
 
     /// Takes the domain back out, with the last pass.
-    pub fn close(self, pass: DomainPass<M, E, Z>) -> DomainCell<M, E, Z>
+    pub fn close(self, pass: DomainPass<G>) -> DomainCell<G>
         requires own { pass.cell ≡ self }
         requires last { pass.parts ≡ 2 ^ 62 }
         ensures { Closes meaning pass result }

@@ -9,7 +9,7 @@ use crate::said::told_of;
 use crate::telling::tell_once;
 use crate::{DomainPass, Seen};
 use domain_core::DomainCell;
-use monitor_link::{Ears, Heard, Killer, Monitor};
+use monitor_link::{Ears, Guests, Heard};
 use std::alloc::Global;
 use std::sync::Wait;
 use turn_cell::TurnCell;
@@ -37,15 +37,15 @@ fn after_hearing(heard: Heard, seen: Seen) -> Once
 }
 
 /// Takes the ears, hears once, and gives them back.
-pub fn hear_once<M: Monitor + Drop, E: Ears + Drop, Z: Killer + Drop, R: Wait>(
+pub fn hear_once<G: Guests, R: Wait>(
     rt: &R,
-    cell: &TurnCell<DomainCell<M, E, Z>>,
+    cell: &TurnCell<DomainCell<G>>,
     alloc: Global,
-    pass: DomainPass<M, E, Z>,
-) -> (DomainPass<M, E, Z>, Once)
+    pass: DomainPass<G>,
+) -> (DomainPass<G>, Once)
     requires own { pass.cell ≡ cell.now }
     requires ready { IsReady pass }
-    ensures { HasHeardOnce E.ends E.faults E.unheard pass result.0 result.1 }
+    ensures { HasHeardOnce G.E.ends G.E.faults G.E.unheard pass result.0 result.1 }
 {
     match lend_once(rt, cell, alloc, pass) {
         Ok((between, lent, seen)) => match lent {

@@ -5,7 +5,7 @@ ghost use Rattle.domain_obj.specs.Running.{HasQueried};
 use crate::place::Seen;
 use crate::turns::{DomainPass, read_in, seen_in, told_legal};
 use domain_core::DomainCell;
-use monitor_link::{Ears, Killer, Monitor};
+use monitor_link::Guests;
 use std::alloc::Global;
 use std::sync::Wait;
 use turn_cell::TurnCell;
@@ -23,13 +23,13 @@ pub enum Queried {
 }
 
 /// Takes a turn, and reads. The history stays as it is.
-pub fn query<M: Monitor + Drop, E: Ears + Drop, Z: Killer + Drop, R: Wait>(
+pub fn query<G: Guests, R: Wait>(
     rt: &R,
-    cell: &TurnCell<DomainCell<M, E, Z>>,
+    cell: &TurnCell<DomainCell<G>>,
     alloc: Global,
-    pass: DomainPass<M, E, Z>,
+    pass: DomainPass<G>,
     query: &Query,
-) -> (DomainPass<M, E, Z>, Queried)
+) -> (DomainPass<G>, Queried)
     requires own { pass.cell ≡ cell.now }
     ensures { HasQueried query.now pass result.0 result.1 }
 {

@@ -11,7 +11,7 @@ use crate::{Desk, DomainPass};
 use domain_core::DomainCell;
 use domain_spec::First;
 use job_rules::JobRecord;
-use monitor_link::{Ears, Killer, Monitor};
+use monitor_link::Guests;
 use refusals::ReplyRoom;
 use std::alloc::Global;
 use std::sync::Wait;
@@ -19,16 +19,16 @@ use turn_cell::TurnCell;
 use virt_types::{Call, RefusalCode, Who};
 
 // It takes turns until it is let in or refused, with this room for a refusal.
-fn run_in<M: Monitor + Drop, E: Ears + Drop, Z: Killer + Drop, D: Desk<M, E, Z>, R: Wait>(
+fn run_in<G: Guests, D: Desk<G>, R: Wait>(
     rt: &R,
-    cell: &TurnCell<DomainCell<M, E, Z>>,
+    cell: &TurnCell<DomainCell<G>>,
     alloc: Global,
-    pass: DomainPass<M, E, Z>,
+    pass: DomainPass<G>,
     who: Who,
     call: &Call,
     room: ReplyRoom,
     desk: &mut D,
-) -> (DomainPass<M, E, Z>, Called)
+) -> (DomainPass<G>, Called)
     requires own { pass.cell ≡ cell.now }
     requires ready { IsReady pass }
     requires begins { begins call.now ≡ None }
@@ -69,15 +69,15 @@ fn run_in<M: Monitor + Drop, E: Ears + Drop, Z: Killer + Drop, D: Desk<M, E, Z>,
 /// A call takes turns until it is let in: where its job is excluded it rests and looks again, and in the turn of its
 /// thirtieth look it gives up. Once it is let in the desk is asked, while the pass has no turn, until the call is done. It
 /// neither begins an operation nor takes one up. Before each look, in the same turn, a chapter ends that holds 4,096 marks.
-pub fn run_call<M: Monitor + Drop, E: Ears + Drop, Z: Killer + Drop, D: Desk<M, E, Z>, R: Wait>(
+pub fn run_call<G: Guests, D: Desk<G>, R: Wait>(
     rt: &R,
-    cell: &TurnCell<DomainCell<M, E, Z>>,
+    cell: &TurnCell<DomainCell<G>>,
     alloc: Global,
-    pass: DomainPass<M, E, Z>,
+    pass: DomainPass<G>,
     who: Who,
     call: &Call,
     desk: &mut D,
-) -> (DomainPass<M, E, Z>, Called)
+) -> (DomainPass<G>, Called)
     requires own { pass.cell ≡ cell.now }
     requires ready { IsReady pass }
     requires begins { begins call.now ≡ None }

@@ -9,20 +9,14 @@ use crate::said::Told;
 use crate::{DomainPass, DomainTurn, Seen, seen_in, told_legal};
 use domain_core::DomainCell;
 use history_spec::Stamp;
-use monitor_link::{Ears, Killer, Monitor};
+use monitor_link::Guests;
 use std::sync::Wait;
 use turn_cell::TurnCell;
 
 // What these ears heard that are out is told.
-fn tell<M: Monitor + Drop, E: Ears + Drop, Z: Killer + Drop>(
-    cell: &mut DomainCell<M, E, Z>,
-    by: Stamp,
-    boot: u64,
-    ears: &E,
-    told: Option<Told>,
-)
+fn tell<G: Guests>(cell: &mut DomainCell<G>, by: Stamp, boot: u64, ears: &G::E, told: Option<Told>)
     requires out { (cell_in cell.old).ears ≡ Some (out_for by.number boot) }
-    requires counted { IsToldCounted (E.ends ears.now) (E.faults ears.now) told }
+    requires counted { IsToldCounted (G.E.ends ears.now) (G.E.faults ears.now) told }
     ensures { TellsIn by.number boot told cell.old cell.new }
 {
     match told {
@@ -35,15 +29,15 @@ fn tell<M: Monitor + Drop, E: Ears + Drop, Z: Killer + Drop>(
 }
 
 // What these ears heard that are out is told, and they are given back.
-fn tell_and_return<M: Monitor + Drop, E: Ears + Drop, Z: Killer + Drop>(
-    cell: &mut DomainCell<M, E, Z>,
+fn tell_and_return<G: Guests>(
+    cell: &mut DomainCell<G>,
     by: Stamp,
     boot: u64,
-    ears: E,
+    ears: G::E,
     told: Option<Told>,
 )
     requires out { (cell_in cell.old).ears ≡ Some (out_for by.number boot) }
-    requires counted { IsToldCounted (E.ends ears) (E.faults ears) told }
+    requires counted { IsToldCounted (G.E.ends ears) (G.E.faults ears) told }
     ensures { IsToldIn by.number boot told cell.old cell.new }
 {
     tell(cell, by.again(), boot, &ears, told);
@@ -51,15 +45,10 @@ fn tell_and_return<M: Monitor + Drop, E: Ears + Drop, Z: Killer + Drop>(
 }
 
 // The same in a turn, under this number.
-fn tell_as<M: Monitor + Drop, E: Ears + Drop, Z: Killer + Drop>(
-    turn: &mut DomainTurn<M, E, Z>,
-    boot: u64,
-    ears: E,
-    told: Option<Told>,
-)
+fn tell_as<G: Guests>(turn: &mut DomainTurn<G>, boot: u64, ears: G::E, told: Option<Told>)
     ghost number: { ℕ }
     requires out { (cell_in turn.old.value).ears ≡ Some (out_for number boot) }
-    requires counted { IsToldCounted (E.ends ears) (E.faults ears) told }
+    requires counted { IsToldCounted (G.E.ends ears) (G.E.faults ears) told }
     ensures tells { IsToldIn number boot told turn.old.value turn.new.value }
     ensures same { turn.new ≡ record turn.old { value = turn.new.value } }
 {
@@ -68,14 +57,9 @@ fn tell_as<M: Monitor + Drop, E: Ears + Drop, Z: Killer + Drop>(
 }
 
 // The same under the number of the pass that has the turn.
-fn tell_in<M: Monitor + Drop, E: Ears + Drop, Z: Killer + Drop>(
-    turn: &mut DomainTurn<M, E, Z>,
-    boot: u64,
-    ears: E,
-    told: Option<Told>,
-)
+fn tell_in<G: Guests>(turn: &mut DomainTurn<G>, boot: u64, ears: G::E, told: Option<Told>)
     requires out { (cell_in turn.old.value).ears ≡ Some (out_for turn.old.pass.number boot) }
-    requires counted { IsToldCounted (E.ends ears) (E.faults ears) told }
+    requires counted { IsToldCounted (G.E.ends ears) (G.E.faults ears) told }
     ensures tells { IsToldIn turn.old.pass.number boot told turn.old.value turn.new.value }
     ensures same { turn.new ≡ record turn.old { value = turn.new.value } }
 {
@@ -84,17 +68,17 @@ fn tell_in<M: Monitor + Drop, E: Ears + Drop, Z: Killer + Drop>(
 
 /// Takes a turn, in which what these ears heard is told, and they are given back; with what the pass has seen then. A pass
 /// for which no ticket is left comes back as the error, and the ears are let go.
-pub fn tell_once<M: Monitor + Drop, E: Ears + Drop, Z: Killer + Drop, R: Wait>(
+pub fn tell_once<G: Guests, R: Wait>(
     rt: &R,
-    cell: &TurnCell<DomainCell<M, E, Z>>,
-    pass: DomainPass<M, E, Z>,
+    cell: &TurnCell<DomainCell<G>>,
+    pass: DomainPass<G>,
     boot: u64,
-    ears: E,
+    ears: G::E,
     told: Option<Told>,
-) -> Result<(DomainPass<M, E, Z>, Seen), DomainPass<M, E, Z>>
+) -> Result<(DomainPass<G>, Seen), DomainPass<G>>
     requires own { pass.cell ≡ cell.now }
     requires listening { IsListening boot pass }
-    requires counted { IsToldCounted (E.ends ears) (E.faults ears) told }
+    requires counted { IsToldCounted (G.E.ends ears) (G.E.faults ears) told }
     ensures ok { IfOk result (λ r. IsTold boot told pass r.0) }
     ensures seen { IfOk result (λ r. IsSeen r.1 r.0) }
     ensures spent { IfErr result (λ after. IsSpent pass after) }

@@ -19,23 +19,23 @@ use crate::place::Seen;
 use domain_core::{Back, DomainCell, Look, Ticket};
 use domain_spec::First;
 use history_spec::Stamp;
-use monitor_link::{Ears, Killer, Link, Monitor};
+use monitor_link::{Guests, Link};
 use std::alloc::Global;
 use turn_cell::{Pass, Turn};
 use virt_types::{Answer, Call, Front, NoMemory, Query, Reply, Who};
 
 /// A pass of a domain.
-pub type DomainPass<M, E, Z> = Pass<DomainCell<M, E, Z>>;
+pub type DomainPass<G> = Pass<DomainCell<G>>;
 
 /// A turn of a domain.
-pub type DomainTurn<M, E, Z> = Turn<DomainCell<M, E, Z>>;
+pub type DomainTurn<G> = Turn<DomainCell<G>>;
 
 /// How many marks a chapter holds before it ends.
 const LONG: usize = 4096;
 
 // The chapter ends, under this number.
-fn end_chapter_as<M: Monitor + Drop, E: Ears + Drop, Z: Killer + Drop>(
-    turn: &mut DomainTurn<M, E, Z>,
+fn end_chapter_as<G: Guests>(
+    turn: &mut DomainTurn<G>,
     alloc: Global,
     who: Who,
 ) -> Result<(), NoMemory>
@@ -52,8 +52,8 @@ fn end_chapter_as<M: Monitor + Drop, E: Ears + Drop, Z: Killer + Drop>(
 
 /// Ends the chapter where it holds 4,096 marks or more and no job is open, under the number of the pass that has the turn.
 /// Where there is no memory for the next one all stays, but the caller waits no more.
-pub fn end_long_chapter<M: Monitor + Drop, E: Ears + Drop, Z: Killer + Drop>(
-    turn: &mut DomainTurn<M, E, Z>,
+pub fn end_long_chapter<G: Guests>(
+    turn: &mut DomainTurn<G>,
     alloc: Global,
     who: Who,
 ) -> Result<(), NoMemory>
@@ -70,13 +70,13 @@ pub fn end_long_chapter<M: Monitor + Drop, E: Ears + Drop, Z: Killer + Drop>(
 }
 
 // A call looks, under this number.
-fn look_as<M: Monitor + Drop, E: Ears + Drop, Z: Killer + Drop>(
-    turn: &mut DomainTurn<M, E, Z>,
+fn look_as<G: Guests>(
+    turn: &mut DomainTurn<G>,
     alloc: Global,
     who: Who,
     call: &Call,
     first: First,
-) -> Look<M>
+) -> Look<G>
     ghost number: { ℕ }
     requires can { CanLook (cell_in turn.old.value) number who call.now first }
     requires known { IsKnownFirst first (cell_in turn.old.value) }
@@ -88,13 +88,13 @@ fn look_as<M: Monitor + Drop, E: Ears + Drop, Z: Killer + Drop>(
 }
 
 /// A call looks, under the number of the pass that has the turn.
-pub fn look_in<M: Monitor + Drop, E: Ears + Drop, Z: Killer + Drop>(
-    turn: &mut DomainTurn<M, E, Z>,
+pub fn look_in<G: Guests>(
+    turn: &mut DomainTurn<G>,
     alloc: Global,
     who: Who,
     call: &Call,
     first: First,
-) -> Look<M>
+) -> Look<G>
     requires can { CanLook (cell_in turn.old.value) turn.old.pass.number who call.now first }
     requires known { IsKnownFirst first (cell_in turn.old.value) }
     ensures looks { LooksIn turn.old.pass.number who call.now first turn.old.value turn.new.value result }
@@ -104,12 +104,7 @@ pub fn look_in<M: Monitor + Drop, E: Ears + Drop, Z: Killer + Drop>(
 }
 
 // The call that the turn found excluded is refused, under this number.
-fn give_up_as<M: Monitor + Drop, E: Ears + Drop, Z: Killer + Drop>(
-    turn: &mut DomainTurn<M, E, Z>,
-    alloc: Global,
-    who: Who,
-    call: &Call,
-)
+fn give_up_as<G: Guests>(turn: &mut DomainTurn<G>, alloc: Global, who: Who, call: &Call)
     ghost number: { ℕ }
     requires can { CanTake (cell_in turn.old.value) (step.GiveUp number who call.now) }
     requires excluded { turn.old.value.core.excluded ≡ Some (record { who = who; call = call.now }) }
@@ -121,12 +116,7 @@ fn give_up_as<M: Monitor + Drop, E: Ears + Drop, Z: Killer + Drop>(
 }
 
 /// The call that was found excluded in this turn is refused, under the number of the pass that has the turn.
-pub fn give_up_in<M: Monitor + Drop, E: Ears + Drop, Z: Killer + Drop>(
-    turn: &mut DomainTurn<M, E, Z>,
-    alloc: Global,
-    who: Who,
-    call: &Call,
-)
+pub fn give_up_in<G: Guests>(turn: &mut DomainTurn<G>, alloc: Global, who: Who, call: &Call)
     requires can { CanTake (cell_in turn.old.value) (step.GiveUp turn.old.pass.number who call.now) }
     requires excluded { turn.old.value.core.excluded ≡ Some (record { who = who; call = call.now }) }
     ensures gives_up { GivesUp turn.old.pass.number who call.now turn.old.value turn.new.value }
@@ -136,44 +126,46 @@ pub fn give_up_in<M: Monitor + Drop, E: Ears + Drop, Z: Killer + Drop>(
 }
 
 // The last ask of the open call of this number is answered.
-fn back_as<M: Monitor + Drop, E: Ears + Drop, Z: Killer + Drop>(
-    turn: &mut DomainTurn<M, E, Z>,
-    ticket: Ticket<M>,
+fn back_as<G: Guests>(
+    turn: &mut DomainTurn<G>,
+    alloc: Global,
+    ticket: Ticket<G>,
     answer: Answer,
-    made: Option<Link<M, E, Z>>,
-) -> Back<M>
+    made: Option<Link<G>>,
+) -> Back<G>
     ghost number: { ℕ }
     requires can { CanTake (cell_in turn.old.value) (step.Back number answer) }
     requires ticket { is_some ticket.monitor ≡ is_some turn.old.value.out }
     requires answered { IsAnswered (cell_in turn.old.value) (is_some ticket.monitor) answer (is_some made) }
-    requires counted { IsCounted M.ends M.faults ticket.monitor answer }
+    requires counted { IsCounted G.M.ends G.M.faults ticket.monitor answer }
     ensures back { GoesBackIn number answer turn.old.value turn.new.value result }
     ensures same { turn.new ≡ record turn.old { value = turn.new.value } }
 {
     let by = Stamp::named();
-    turn.value().back(by, ticket, answer, made)
+    turn.value().back(alloc, by, ticket, answer, made)
 }
 
 /// The last ask of the open call of the pass that has the turn is answered.
-pub fn back_in<M: Monitor + Drop, E: Ears + Drop, Z: Killer + Drop>(
-    turn: &mut DomainTurn<M, E, Z>,
-    ticket: Ticket<M>,
+pub fn back_in<G: Guests>(
+    turn: &mut DomainTurn<G>,
+    alloc: Global,
+    ticket: Ticket<G>,
     answer: Answer,
-    made: Option<Link<M, E, Z>>,
-) -> Back<M>
+    made: Option<Link<G>>,
+) -> Back<G>
     requires can { CanTake (cell_in turn.old.value) (step.Back turn.old.pass.number answer) }
     requires ticket { is_some ticket.monitor ≡ is_some turn.old.value.out }
     requires answered { IsAnswered (cell_in turn.old.value) (is_some ticket.monitor) answer (is_some made) }
-    requires counted { IsCounted M.ends M.faults ticket.monitor answer }
+    requires counted { IsCounted G.M.ends G.M.faults ticket.monitor answer }
     ensures back { GoesBackIn turn.old.pass.number answer turn.old.value turn.new.value result }
     ensures same { turn.new ≡ record turn.old { value = turn.new.value } }
 {
-    back_as(turn, ticket, answer, made)
+    back_as(turn, alloc, ticket, answer, made)
 }
 
 /// What a query reads of the domain.
-pub fn read_in<M: Monitor + Drop, E: Ears + Drop, Z: Killer + Drop>(
-    turn: &mut DomainTurn<M, E, Z>,
+pub fn read_in<G: Guests>(
+    turn: &mut DomainTurn<G>,
     alloc: Global,
     query: &Query,
 ) -> Result<Reply, NoMemory>
@@ -184,9 +176,7 @@ pub fn read_in<M: Monitor + Drop, E: Ears + Drop, Z: Killer + Drop>(
 }
 
 /// Whether there is a domain, or an operation rests.
-pub fn occupied_in<M: Monitor + Drop, E: Ears + Drop, Z: Killer + Drop>(
-    turn: &mut DomainTurn<M, E, Z>,
-) -> bool
+pub fn occupied_in<G: Guests>(turn: &mut DomainTurn<G>) -> bool
     ensures value { result ≡ is_occupied (standing_in turn.old.value) }
     ensures same { turn.new ≡ turn.old }
 {
@@ -194,9 +184,7 @@ pub fn occupied_in<M: Monitor + Drop, E: Ears + Drop, Z: Killer + Drop>(
 }
 
 /// The place after the chapter's last mark of some pass.
-pub fn last_in<M: Monitor + Drop, E: Ears + Drop, Z: Killer + Drop>(
-    turn: &mut DomainTurn<M, E, Z>,
-) -> Front
+pub fn last_in<G: Guests>(turn: &mut DomainTurn<G>) -> Front
     ensures place { IsLastPlace result turn.old.value }
     ensures same { turn.new ≡ turn.old }
 {
@@ -204,9 +192,7 @@ pub fn last_in<M: Monitor + Drop, E: Ears + Drop, Z: Killer + Drop>(
 }
 
 /// The place of the history in this turn, and whether the cell is occupied there.
-pub fn seen_in<M: Monitor + Drop, E: Ears + Drop, Z: Killer + Drop>(
-    turn: &mut DomainTurn<M, E, Z>,
-) -> Seen
+pub fn seen_in<G: Guests>(turn: &mut DomainTurn<G>) -> Seen
     ensures chapter { result.front.chapter ≡ turn.old.value.core.turning.chapter }
     ensures marks { result.front.marks ≡ length (cell_in turn.old.value).marks }
     ensures occupied { result.occupied ≡ is_occupied (standing_in turn.old.value) }
@@ -223,9 +209,7 @@ pub fn seen_in<M: Monitor + Drop, E: Ears + Drop, Z: Killer + Drop>(
 
 /// The history that a turn finds is legal and its boots are counted, what was asked stays what is asked, and a monitor is
 /// out only while a call is open.
-pub fn told_legal<M: Monitor + Drop, E: Ears + Drop, Z: Killer + Drop>(
-    turn: &mut DomainTurn<M, E, Z>,
-)
+pub fn told_legal<G: Guests>(turn: &mut DomainTurn<G>)
     ensures legal { IsLegal (at_base (cell_in turn.old.value).base) (cell_in turn.old.value).marks }
     ensures counted { AreBootsCounted (at_base (cell_in turn.old.value).base) }
     ensures steady { IsSteady (standing_in turn.old.value) }

@@ -1,14 +1,12 @@
--- The first pass of a domain has nothing open, and all parts.
-use Rattle.std.proofs.Common.{◌≡◌, ℕ, Bool, Option, inr, ap, ◌^◌}
+-- The first pass of a domain is where its story begins: it has nothing open, and no part was cut off it.
+use Rattle.std.proofs.Common.{◌≡◌, ◌+◌, ◌^◌, ℕ, Bool, Option, inr, ap}
+use Rattle.atomic_table.specs.Seated.{TableId}
 use Rattle.domain_spec.specs.Types.{DomainDef}
-use Rattle.domain_obj.specs.Below.domain_core.Celled.{new_cell}
-use Rattle.domain_obj.specs.Below.domain_core.Meaning.{meaning}
-use Rattle.domain_obj.specs.InTurn.{DomainPass}
+use Rattle.domain_threads.specs.Below.domain_core.Celled.{new_cell}
+use Rattle.domain_threads.specs.Below.domain_core.Meaning.{meaning}
+use Rattle.domain_threads.specs.Below.domain_obj.InTurn.{DomainPass}
 use Rattle.turn_cell.specs.Passes.{IsFirst}
-use Rattle.domain_stories.specs.Free.{IsFree}
+use Rattle.domain_stories.specs.Home.{IsHome}
 
-pub first_free : (stored : Option DomainDef) (autostart : Bool) (first : ℕ) (pass : DomainPass) → IsFirst meaning (new_cell stored autostart) first pass → IsFree pass
-first_free stored autostart first pass is = inr (ap (λ (p : DomainPass). p.share) is)
-
-pub first_parts : (stored : Option DomainDef) (autostart : Bool) (first : ℕ) (pass : DomainPass) → IsFirst meaning (new_cell stored autostart) first pass → pass.parts ≡ 2 ^ 62
-first_parts stored autostart first pass is = ap (λ (p : DomainPass). p.parts) is
+pub first_home : (cell : TableId) (stored : Option DomainDef) (autostart : Bool) (first : ℕ) (pass : DomainPass) → pass.cell ≡ cell → IsFirst meaning (new_cell stored autostart) first pass → IsHome cell pass 0
+first_home cell stored autostart first pass own is = record { own = own; parts = ap (λ (p : DomainPass). p.parts + 0) is; free = inr (ap (λ (p : DomainPass). p.share) is) }

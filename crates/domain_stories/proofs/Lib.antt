@@ -1,4 +1,3 @@
-pub mod Crossing
 pub mod First
 pub mod Pushed
 pub mod Staying

@@ -4,22 +4,22 @@ use Rattle.virt_types.specs.declared.ask.GuestEvent.{GuestEvent}
 use Rattle.virt_types.specs.declared.call.Query.{Query}
 use Rattle.domain_spec.specs.Types.{Answer, Ask, Call, Reply, Who}
 use Rattle.domain_spec.specs.declared.mark.Mark.{Mark}
-use Rattle.domain_obj.specs.OfCells.{CellShare}
-use Rattle.domain_obj.specs.InTurn.{DomainPass}
-use Rattle.domain_obj.specs.Running.{Goes, HasQueried, IsReady, IsSpent}
-use Rattle.domain_obj.specs.declared.queries.Queried.{Queried}
-use Rattle.domain_obj.specs.declared.queries.Queried.TheVariants as queried
-use Rattle.domain_obj.specs.Hearing.{HasLeft}
-use Rattle.domain_obj.specs.declared.ends.Hushed.{Hushed}
-use Rattle.domain_obj.specs.declared.ends.Hushed.TheVariants as hushed
-use Rattle.domain_obj.specs.Runs.{HasRun, HasRunOperation}
-use Rattle.domain_obj.specs.declared.places.At.{At}
-use Rattle.domain_obj.specs.Called.{HasCalled}
-use Rattle.domain_obj.specs.Operated.{HasOperated}
-use Rattle.domain_obj.specs.declared.ending.Called.{Called}
-use Rattle.domain_obj.specs.declared.ending.Called.TheVariants as called
-use Rattle.domain_obj.specs.declared.operating.operation.Operated.{Operated}
-use Rattle.domain_obj.specs.declared.operating.operation.Operated.TheVariants as operated
+use Rattle.domain_threads.specs.Below.domain_obj.OfCells.{CellShare}
+use Rattle.domain_threads.specs.Below.domain_obj.InTurn.{DomainPass}
+use Rattle.domain_threads.specs.Below.domain_obj.Running.{Goes, HasQueried, IsReady, IsSpent}
+use Rattle.domain_threads.specs.Below.domain_obj.declared.queries.Queried.{Queried}
+use Rattle.domain_threads.specs.Below.domain_obj.declared.queries.Queried.TheVariants as queried
+use Rattle.domain_threads.specs.Below.domain_obj.Hearing.{HasLeft}
+use Rattle.domain_threads.specs.Below.domain_obj.declared.ends.Hushed.{Hushed}
+use Rattle.domain_threads.specs.Below.domain_obj.declared.ends.Hushed.TheVariants as hushed
+use Rattle.domain_threads.specs.Below.domain_obj.Runs.{HasRun, HasRunOperation}
+use Rattle.domain_threads.specs.Below.domain_obj.declared.places.At.{At}
+use Rattle.domain_threads.specs.Below.domain_obj.Called.{HasCalled}
+use Rattle.domain_threads.specs.Below.domain_obj.Operated.{HasOperated}
+use Rattle.domain_threads.specs.Below.domain_obj.declared.ending.Called.{Called}
+use Rattle.domain_threads.specs.Below.domain_obj.declared.ending.Called.TheVariants as called
+use Rattle.domain_threads.specs.Below.domain_obj.declared.operating.operation.Operated.{Operated}
+use Rattle.domain_threads.specs.Below.domain_obj.declared.operating.operation.Operated.TheVariants as operated
 use Rattle.atomic_table.specs.Seated.{TableId}
 use Rattle.domain_stories.specs.Free.{IsFree, IsPartOf, Stays}
 

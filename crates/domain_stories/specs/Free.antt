@@ -1,8 +1,8 @@
 -- A pass that has nothing open, unless no ticket is left for it.
 use Rattle.std.specs.Prelude.{◌≡◌, ◌⊎◌, true}
 use Rattle.atomic_table.specs.Seated.{TableId}
-pub use Rattle.domain_obj.specs.InTurn.{DomainPass}
-use Rattle.domain_obj.specs.Below.domain_core.Meaning.{nothing_kept}
+pub use Rattle.domain_threads.specs.Below.domain_obj.InTurn.{DomainPass}
+use Rattle.domain_threads.specs.Below.domain_core.Meaning.{nothing_kept}
 
 -- nothing is kept for it, or it is spent
 abbrev pub IsFree : DomainPass → Type 0

@@ -1,31 +1,21 @@
 // What one thread of a story does with its pass, step by step.
-ghost use Rattle.domain_stories.specs.Free.{IsPartOf};
-
 use crate::asked::{Asked, call_of};
-use crate::calls::do_call;
 use crate::row::Row;
 use crate::scene::Scene;
+use crate::stage::Stage;
 use crate::stories::Step;
-use crate::words::{hushed_word, is_full, put_info, put_reply, state_of};
-use domain_obj::{Desk, DomainObj, DomainPass, Queried};
-use monitor_link::{Ears, Killer, Monitor};
+use crate::words::{hushed_word, is_full, put_info, put_reply};
 use std::sync::Wait;
 use story_guests::{MOST_RESTS, Signal};
-use virt_types::{Query, Reply, Who};
+use virt_types::{Reply, Who};
 
-/// One who acts, with what is to be done.
+/// One who acts, with what is to be done, and what was told meanwhile.
 #[derive(Drop)]
 pub(crate) struct Actor<P, D> {
     pub(crate) pass: P,
     pub(crate) desk: D,
     pub(crate) number: u64,
     pub(crate) steps: &'static [Step],
-}
-
-/// One who has acted, with what was told meanwhile.
-#[derive(Drop)]
-pub(crate) struct Acted<P> {
-    pub(crate) pass: P,
     pub(crate) row: Row,
 }
 
@@ -41,107 +31,103 @@ fn put_called<H>(scene: &Scene<H>, row: &mut Row, asked: Asked, reply: &Reply) {
 }
 
 // A call, which the desk may hold before a phase.
-fn call_once<M: Monitor + Drop, E: Ears + Drop, Z: Killer + Drop, D: Desk<M, E, Z>, H: Wait>(
+fn call_once<O: Stage<D>, D, H: Wait>(
     scene: &Scene<H>,
-    obj: &DomainObj<M, E, Z>,
-    pass: DomainPass<M, E, Z>,
+    stage: &O,
+    pass: O::Pass,
     desk: &mut D,
     who: Who,
     asked: Asked,
     row: &mut Row,
-) -> DomainPass<M, E, Z>
-    requires { IsPartOf obj.now pass }
-    ensures { IsPartOf obj.now result }
+) -> O::Pass
+    requires { O.is_part stage.now pass }
+    ensures { O.is_part stage.now result }
 {
     let Ok(call) = call_of(scene.alloc, asked) else {
         row.lose();
         return pass;
     };
-    let (pass, reply) = do_call(&scene.rt, scene.alloc, obj, pass, who, &call, desk);
+    let (after, reply) = stage.call(&scene.rt, scene.alloc, pass, who, &call, desk);
     put_called(scene, row, asked, &reply);
+    after
+}
+
+// Whether nothing more is to be watched; else it rests a little.
+fn is_over<H: Wait>(scene: &Scene<H>, until: Option<Signal>) -> bool {
+    let Some(until) = until else {
+        return true;
+    };
+    if scene.signals.count(until) > 0 {
+        return true;
+    }
+    scene.signals.rest(&scene.rt, until, 0);
+    false
+}
+
+// Reads the state once, or until a signal, and writes it each time that it is another one than before.
+fn watch<O: Stage<D>, D, H: Wait>(
+    scene: &Scene<H>,
+    stage: &O,
+    pass: O::Pass,
+    until: Option<Signal>,
+    row: &mut Row,
+) -> O::Pass
+    requires { O.is_part stage.now pass }
+    ensures { O.is_part stage.now result }
+{
+    let mut pass = pass;
+    let mut last = Row::new(scene.alloc);
+    for _ in 0..MOST_RESTS {
+        let (after, queried) = stage.look(&scene.rt, scene.alloc, pass);
+        pass = after;
+        let mut now = Row::new(scene.alloc);
+        put_info(&mut now, &queried);
+        if now.as_str() != last.as_str() {
+            row.put(now.as_str());
+        }
+        last = now;
+        if is_over(scene, until) {
+            break;
+        }
+    }
     pass
 }
 
-// Reads the state.
-fn look<M: Monitor + Drop, E: Ears + Drop, Z: Killer + Drop, H: Wait>(
-    scene: &Scene<H>,
-    obj: &DomainObj<M, E, Z>,
-    pass: DomainPass<M, E, Z>,
-) -> (DomainPass<M, E, Z>, Queried)
-    requires { IsPartOf obj.now pass }
-    ensures { IsPartOf obj.now result.0 }
-{
-    obj.query(&scene.rt, scene.alloc, pass, &Query::Info)
-}
-
 // Hears the guest.
-fn hear<M: Monitor + Drop, E: Ears + Drop, Z: Killer + Drop, H: Wait>(
+fn hear<O: Stage<D>, D, H: Wait>(
     scene: &Scene<H>,
-    obj: &DomainObj<M, E, Z>,
-    pass: DomainPass<M, E, Z>,
+    stage: &O,
+    pass: O::Pass,
     row: &mut Row,
-) -> DomainPass<M, E, Z>
-    requires { IsPartOf obj.now pass }
-    ensures { IsPartOf obj.now result }
+) -> O::Pass
+    requires { O.is_part stage.now pass }
+    ensures { O.is_part stage.now result }
 {
-    let (after, hushed) = obj.hear(&scene.rt, scene.alloc, pass);
+    let (after, hushed) = stage.listen(&scene.rt, scene.alloc, pass);
     row.put("hear ");
     row.put(hushed_word(hushed));
     row.put(", ");
     after
 }
 
-// Reads the state until a signal, and writes it each time that it is another one than before.
-fn watch<M: Monitor + Drop, E: Ears + Drop, Z: Killer + Drop, H: Wait>(
-    scene: &Scene<H>,
-    obj: &DomainObj<M, E, Z>,
-    pass: DomainPass<M, E, Z>,
-    until: Signal,
-    row: &mut Row,
-) -> DomainPass<M, E, Z>
-    requires { IsPartOf obj.now pass }
-    ensures { IsPartOf obj.now result }
-{
-    let mut pass = pass;
-    let mut last: Option<u32> = None;
-    for _ in 0..MOST_RESTS {
-        let (after, queried) = look(scene, obj, pass);
-        pass = after;
-        let now = state_of(&queried);
-        if now.is_none() || now != last {
-            put_info(row, &queried);
-        }
-        last = now;
-        if scene.signals.count(until) > 0 {
-            break;
-        }
-        scene.signals.rest(&scene.rt, until, 0);
-    }
-    pass
-}
-
 // One step.
-fn take_step<M: Monitor + Drop, E: Ears + Drop, Z: Killer + Drop, D: Desk<M, E, Z>, H: Wait>(
+fn take_step<O: Stage<D>, D, H: Wait>(
     scene: &Scene<H>,
-    obj: &DomainObj<M, E, Z>,
-    pass: DomainPass<M, E, Z>,
+    stage: &O,
+    pass: O::Pass,
     desk: &mut D,
     who: Who,
     step: Step,
     row: &mut Row,
-) -> DomainPass<M, E, Z>
-    requires { IsPartOf obj.now pass }
-    ensures { IsPartOf obj.now result }
+) -> O::Pass
+    requires { O.is_part stage.now pass }
+    ensures { O.is_part stage.now result }
 {
     match step {
-        Step::Call(asked) => call_once(scene, obj, pass, desk, who, asked, row),
-        Step::Info => {
-            let (pass, queried) = look(scene, obj, pass);
-            put_info(row, &queried);
-            pass
-        }
-        Step::Watch(until) => watch(scene, obj, pass, until, row),
-        Step::Hear => hear(scene, obj, pass, row),
+        Step::Call(asked) => call_once(scene, stage, pass, desk, who, asked, row),
+        Step::Info => watch::<O, D, H>(scene, stage, pass, None, row),
+        Step::Watch(until) => watch::<O, D, H>(scene, stage, pass, Some(until), row),
+        Step::Hear => hear::<O, D, H>(scene, stage, pass, row),
         Step::Wait(signal, times) => {
             scene.signals.wait_for(&scene.rt, signal, times);
             pass
@@ -154,29 +140,21 @@ fn take_step<M: Monitor + Drop, E: Ears + Drop, Z: Killer + Drop, D: Desk<M, E, 
 }
 
 /// All steps, one after the other.
-pub(crate) fn act<
-    M: Monitor + Drop,
-    E: Ears + Drop,
-    Z: Killer + Drop,
-    D: Desk<M, E, Z> + Drop,
-    H: Wait,
->(
+pub(crate) fn act<O: Stage<D>, D: Drop, H: Wait>(
     scene: &Scene<H>,
-    obj: &DomainObj<M, E, Z>,
-    actor: Actor<DomainPass<M, E, Z>, D>,
-) -> Acted<DomainPass<M, E, Z>>
-    requires { IsPartOf obj.now actor.pass }
-    ensures { IsPartOf obj.now result.pass }
+    stage: &O,
+    actor: Actor<O::Pass, D>,
+) -> Actor<O::Pass, D>
+    requires { O.is_part stage.now actor.pass }
+    ensures { O.is_part stage.now result.pass }
 {
     let Actor {
-        pass,
-        desk,
+        mut pass,
+        mut desk,
         number,
         steps,
+        mut row,
     } = actor;
-    let mut pass = pass;
-    let mut desk = desk;
-    let mut row = Row::new(scene.alloc);
     let mut count: u64 = 0;
     for step in steps {
         let who = Who {
@@ -184,8 +162,14 @@ pub(crate) fn act<
             lane: 0,
             count,
         };
-        pass = take_step(scene, obj, pass, &mut desk, who, *step, &mut row);
+        pass = take_step(scene, stage, pass, &mut desk, who, *step, &mut row);
         count = count.saturating_add(1);
     }
-    Acted { pass, row }
+    Actor {
+        pass,
+        desk,
+        number,
+        steps,
+        row,
+    }
 }

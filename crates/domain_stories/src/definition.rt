@@ -34,19 +34,13 @@ fn slow(alloc: Global) -> Result<Script, NoMemory> {
     Ok(Script { text, entries })
 }
 
-fn os(alloc: Global) -> Result<Os, NoMemory> {
-    let kind = Text::copy_of(alloc, "hvm")?;
-    Ok(Os {
-        kind,
-        arch: None,
-        machine: None,
-        boot: ListOf::new(alloc),
-    })
-}
-
 /// The definition of `a`, with 2048 KiB, two processors and no devices, of whose guest's state a copy takes five polls.
 pub(crate) fn definition(alloc: Global) -> Result<DomainDef, NoMemory> {
-    let (name, (guest, os)) = both(name(alloc, "a"), both(slow(alloc), os(alloc)))?;
+    let made = both(
+        name(alloc, "a"),
+        both(slow(alloc), Text::copy_of(alloc, "hvm")),
+    );
+    let (name, (guest, kind)) = made?;
     Ok(DomainDef {
         kind: DomainType::Qemu,
         name,
@@ -58,7 +52,12 @@ pub(crate) fn definition(alloc: Global) -> Result<DomainDef, NoMemory> {
         current_memory: 2048,
         vcpus: 2,
         current_vcpus: 2,
-        os,
+        os: Os {
+            kind,
+            arch: None,
+            machine: None,
+            boot: ListOf::new(alloc),
+        },
         on_poweroff: LifecycleAction::Destroy,
         on_reboot: LifecycleAction::Restart,
         on_crash: CrashAction::Destroy,

@@ -4,11 +4,12 @@
 
 mod acting;
 mod asked;
-mod calls;
 mod casting;
 mod counting;
 mod definition;
 mod desk;
+mod domain_stage;
+mod playing;
 mod report;
 mod row;
 mod scene;
@@ -17,30 +18,14 @@ mod stories;
 mod told;
 mod words;
 
-use row::Row;
-use scene::Scene;
-use stage::play;
-use std::alloc::Global;
+use playing::play;
 use std::io;
-use std::sync::Wait;
-use std::thread::Threads;
-use stories::{STORIES, Story};
+use stories::STORIES;
 use virt_types::NoMemory;
 
-// The row of a story, which is played on a domain of its own.
-fn row_of<H: Threads + Wait + Copy + Send + Sync>(
-    rt: H,
-    alloc: Global,
-    story: &Story,
-) -> Result<Row, NoMemory> {
-    let scene = Scene::new(rt, alloc, story.manner)?;
-    play(&scene, story)
-}
-
 fn main(rt: HostRuntime) -> io::Result<()> {
-    let alloc = rt.alloc();
     for story in STORIES {
-        match row_of(rt, alloc, story) {
+        match play(rt, rt.alloc(), story) {
             Ok(row) => println!(rt; "{}: {}", story.title, row.as_str())?,
             Err(NoMemory) => println!(rt; "{}: out of memory", story.title)?,
         }

@@ -2,7 +2,7 @@
 ghost use Rattle.std.specs.Borrow.{ftrue};
 ghost use Rattle.std.specs.Prelude.{◌≡◌, ◌∷◌, ◌++◌, [], List};
 ghost use Rattle.domain_spec.specs.Types.{Answer as TheAnswer, Ask as TheAsk};
-ghost use Rattle.domain_obj.specs.OfCells.{told};
+ghost use Rattle.domain_threads.specs.Below.domain_obj.OfCells.{told};
 
 use std::marker::{Model, PhantomData};
 use virt_types::{Answer, Ask};

@@ -1,13 +1,9 @@
 // What is the same for all threads of a story.
-use crate::desk::{MakerOf, StoryDesk};
 use guest_model::SimGuests;
 use std::alloc::Global;
 use std::sync::{Arc, Wait};
 use story_guests::{Manner, SharedSignals, Signals, StoryGuests};
 use virt_types::NoMemory;
-
-/// What makes the guests of a story.
-pub(crate) type Makers<H> = StoryGuests<H, SimGuests<H>>;
 
 /// What is the same for all threads of a story.
 #[derive(Drop)]
@@ -30,15 +26,10 @@ impl<H: Wait + Copy + Send + Sync> Scene<H> {
         })
     }
 
-    /// A desk that was asked nothing yet. It holds its pass before the phase of this number, or never.
-    pub(crate) fn desk(
-        &self,
-        held_before: Option<u64>,
-    ) -> Result<StoryDesk<H, MakerOf<Makers<H>>>, NoMemory> {
-        let for_desk = Arc::try_clone(&self.signals)?;
-        let for_guests = Arc::try_clone(&self.signals)?;
+    /// What makes its guests.
+    pub(crate) fn guests(&self) -> Result<StoryGuests<H, SimGuests<H>>, NoMemory> {
+        let signals = Arc::try_clone(&self.signals)?;
         let guests = SimGuests::new(self.rt, self.alloc);
-        let guests = StoryGuests::new(self.rt, guests, for_guests, self.manner);
-        Ok(StoryDesk::new(self.rt, for_desk, held_before, MakerOf { guests }))
+        Ok(StoryGuests::new(self.rt, guests, signals, self.manner))
     }
 }

@@ -35,9 +35,9 @@ pub(crate) struct Story {
     /// The ticket of the domain's first turn.
     pub(crate) first_ticket: u64,
     pub(crate) parts: &'static [Part],
-    /// Where many threads do the same: what a thread may be told, and how many marks its pass leaves then. How many were told
-    /// so is in the row, and not who.
-    pub(crate) told: &'static [(&'static str, u64)],
+    /// Where many threads do the same: what a thread may be told, with the number of marks that its pass leaves then. How many
+    /// were told so is in the row, and not who.
+    pub(crate) told: &'static [&'static str],
 }
 
 /// The last ticket.
@@ -187,9 +187,9 @@ pub(crate) const STORIES: &[Story] = &[
             },
         ],
         told: &[
-            ("start Ok, suspend Ok, ", 9),
-            ("suspend Ok, ", 2),
-            ("suspend 203 32, ", 1),
+            "start Ok, suspend Ok, 9",
+            "suspend Ok, 2",
+            "suspend 203 32, 1",
         ],
     },
     // A guest whose ears have always one more event is heard 64 times at once.
@@ -202,6 +202,34 @@ pub(crate) const STORIES: &[Story] = &[
             held_before: None,
             steps: &[Step::Call(Asked::Start), Step::Hear],
         }],
+        told: &[],
+    },
+    // The monitor withholds its answer to a suspend until 64 events of its guest are held: no more are heard meanwhile.
+    Story {
+        title: "64 are held",
+        manner: Manner::TalksOnAndWithholds(Withheld::Stop, Signal::Told),
+        first_ticket: 0,
+        parts: &[
+            Part {
+                threads: 1,
+                held_before: None,
+                steps: &[
+                    Step::Call(Asked::Start),
+                    Step::Call(Asked::Suspend),
+                    Step::Info,
+                ],
+            },
+            Part {
+                threads: 1,
+                held_before: None,
+                steps: &[
+                    Step::Wait(Signal::Held, 1),
+                    Step::Hear,
+                    Step::Hear,
+                    Step::Give(Signal::Told),
+                ],
+            },
+        ],
         told: &[],
     },
     // One ticket is left. A query takes it; a call is told that none is left, and the pass that has none does not come back.

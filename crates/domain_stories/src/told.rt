@@ -1,75 +1,68 @@
 // The row of a story: what its threads were told, with the marks that the pass of each left.
 use crate::counting::count_of;
 use crate::row::Row;
-use domain_obj::Chronicle;
 use domain_spec::Mark;
+use domain_threads::Chronicle;
 use history_spec::Stamp;
 use std::alloc::Global;
 
-// How many marks no pass left.
-fn put_end(row: &mut Row, marks: &[Mark<Stamp>]) {
-    row.put("of the guest ");
-    row.put_number(count_of(marks, None));
-}
-
-// What each thread was told, and how many marks its pass left.
-fn put_each(row: &mut Row, said: &[Row], marks: &[Mark<Stamp>]) {
+// After what a thread was told comes how many marks its pass left.
+fn put_marks(said: &mut [Row], marks: &[Mark<Stamp>]) {
     let mut session: u64 = 0;
     for one in said {
         session = session.saturating_add(1);
+        one.put_number(count_of(marks, Some(session)));
+    }
+}
+
+// What each thread was told.
+fn put_each(row: &mut Row, said: &[Row], after: &str) {
+    for one in said {
         row.put(one.as_str());
-        row.put_number(count_of(marks, Some(session)));
-        row.put("; ");
+        row.put(after);
     }
 }
 
-// How many threads were told this, and left so many marks.
-fn count_told(said: &[Row], told: &str, marks: &[Mark<Stamp>], left: u64) -> u64 {
-    let mut session: u64 = 0;
-    let mut count: u64 = 0;
-    for one in said {
-        session = session.saturating_add(1);
-        if one.as_str() == told && count_of(marks, Some(session)) == left {
-            count = count.saturating_add(1);
+// How many threads were told each of these.
+fn put_counted(row: &mut Row, said: &[Row], kinds: &[&str]) {
+    for told in kinds {
+        let mut count: u64 = 0;
+        for one in said {
+            if one.as_str() == *told {
+                count = count.saturating_add(1);
+            }
         }
-    }
-    count
-}
-
-// How many threads were told each of these, and left so many marks.
-fn put_counted(row: &mut Row, said: &[Row], marks: &[Mark<Stamp>], told: &[(&str, u64)]) {
-    for (one, left) in told {
-        row.put_number(count_told(said, *one, marks, *left));
+        row.put_number(count);
         row.put(" times ");
-        row.put(*one);
-        row.put_number(*left);
+        row.put(*told);
         row.put("; ");
     }
 }
 
-/// The row of a story. Where many threads do the same, how many of them were told each of these, and left so many marks. Where
-/// there is no history, since a pass did not come back, what they were told.
+/// The row of a story. Where many threads do the same, how many of them were told each of these kinds. Where there is no
+/// history, since a pass did not come back, what they were told.
 pub(crate) fn told(
     alloc: Global,
-    said: &[Row],
+    said: Vec<Row>,
     history: &Option<Chronicle>,
-    told: &[(&str, u64)],
+    kinds: &[&str],
 ) -> Row {
     let mut row = Row::new(alloc);
+    let mut said = said;
     match history {
         Some(history) => {
             let marks = history.marks.as_slice();
-            if told.is_empty() {
-                put_each(&mut row, said, marks);
+            put_marks(said.as_mut_slice(), marks);
+            if kinds.is_empty() {
+                put_each(&mut row, said.as_slice(), "; ");
             } else {
-                put_counted(&mut row, said, marks, told);
+                put_counted(&mut row, said.as_slice(), kinds);
             }
-            put_end(&mut row, marks);
+            row.put("of the guest ");
+            row.put_number(count_of(marks, None));
         }
         None => {
-            for one in said {
-                row.put(one.as_str());
-            }
+            put_each(&mut row, said.as_slice(), "");
             row.put("a pass is lost");
         }
     }

@@ -1,6 +1,6 @@
 // How rows write replies, what was read and how a hearing ended.
 use crate::row::Row;
-use domain_obj::{Hushed, Queried};
+use domain_threads::{Hushed, Queried};
 use virt_types::{DomainInfo, Refusal, RefusalCode, Reply, Value};
 
 /// Whether it was told that too many wait.
@@ -8,14 +8,6 @@ pub(crate) fn is_full(reply: &Reply) -> bool {
     match reply {
         Reply::No(refusal) => refusal.code == RefusalCode::TooManyWaiting,
         Reply::Ok(_) => false,
-    }
-}
-
-/// The state that was read.
-pub(crate) fn state_of(queried: &Queried) -> Option<u32> {
-    match queried {
-        Queried::Read(Reply::Ok(Value::Info(info)), _) => Some(info.as_ref().state.number()),
-        _ => None,
     }
 }
 

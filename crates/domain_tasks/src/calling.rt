@@ -6,7 +6,7 @@ ghost use Rattle.domain_spec.specs.Call.{begins, takes_up};
 ghost use Rattle.domain_tasks.specs.Serving.{HasCalled, HasDone};
 
 use domain_obj::{At, Desk, DomainObj, DomainPass, Seen, takes_up};
-use monitor_link::{Ears, Killer, Monitor};
+use monitor_link::Guests;
 use std::alloc::Global;
 use std::sync::Wait;
 use virt_types::{Call, Front, Reply, Who};
@@ -45,18 +45,18 @@ fn operates(call: &Call) -> bool
 }
 
 // The call is run; one that begins an operation or takes one up, with its phases.
-fn run_either<M: Monitor + Drop, E: Ears + Drop, Z: Killer + Drop, D: Desk<M, E, Z>, R: Wait>(
+fn run_either<G: Guests, D: Desk<G>, R: Wait>(
     rt: &R,
     alloc: Global,
-    domain: &DomainObj<M, E, Z>,
-    pass: DomainPass<M, E, Z>,
+    domain: &DomainObj<G>,
+    pass: DomainPass<G>,
     who: Who,
     call: &Call,
     desk: &mut D,
-) -> (DomainPass<M, E, Z>, Reply, At)
+) -> (DomainPass<G>, Reply, At)
     requires own { pass.cell ≡ domain.now }
     requires ready { IsReady pass }
-    ensures { HasDone E.ends E.faults E.unheard who call.now pass result.0 (D.report desk.old) (D.report desk.new) result.1 result.2 }
+    ensures { HasDone G.E.ends G.E.faults G.E.unheard who call.now pass result.0 (D.report desk.old) (D.report desk.new) result.1 result.2 }
 {
     if operates(call) {
         domain.run_op(rt, alloc, pass, who, call, desk)
@@ -67,18 +67,18 @@ fn run_either<M: Monitor + Drop, E: Ears + Drop, Z: Killer + Drop, D: Desk<M, E,
 
 /// A call is run, and then the pass hears the guest. With what is said of it, the place of its last mark, and what the pass
 /// has seen.
-pub fn run<M: Monitor + Drop, E: Ears + Drop, Z: Killer + Drop, D: Desk<M, E, Z>, R: Wait>(
+pub fn run<G: Guests, D: Desk<G>, R: Wait>(
     rt: &R,
     alloc: Global,
-    domain: &DomainObj<M, E, Z>,
-    pass: DomainPass<M, E, Z>,
+    domain: &DomainObj<G>,
+    pass: DomainPass<G>,
     who: Who,
     call: &Call,
     desk: &mut D,
-) -> (DomainPass<M, E, Z>, Reply, Option<Front>, Seen)
+) -> (DomainPass<G>, Reply, Option<Front>, Seen)
     requires own { pass.cell ≡ domain.now }
     requires ready { IsReady pass }
-    ensures { HasCalled E.ends E.faults E.unheard who call.now pass result.0 (D.report desk.old) (D.report desk.new) result.1 result.2 result.3 }
+    ensures { HasCalled G.E.ends G.E.faults G.E.unheard who call.now pass result.0 (D.report desk.old) (D.report desk.new) result.1 result.2 result.3 }
 {
     let (pass, said, at) = run_either(rt, alloc, domain, pass, who, call, desk);
     let seen = Seen {

@@ -5,7 +5,7 @@ ghost use Rattle.domain_tasks.specs.Telling.{TellsQueried, front_by, seen_by};
 
 use crate::telling::spent;
 use domain_obj::{DomainObj, DomainPass, Queried, Seen, no_memory};
-use monitor_link::{Ears, Killer, Monitor};
+use monitor_link::Guests;
 use std::alloc::Global;
 use std::sync::Wait;
 use virt_types::{Front, Query, Reply};
@@ -33,13 +33,13 @@ fn told_of_query(alloc: Global, came: Queried) -> (Reply, Option<Front>, Seen)
 }
 
 /// A query takes a turn, and reads. With what is said of it, where it was read, and what the pass saw there.
-pub fn read<M: Monitor + Drop, E: Ears + Drop, Z: Killer + Drop, R: Wait>(
+pub fn read<G: Guests, R: Wait>(
     rt: &R,
     alloc: Global,
-    domain: &DomainObj<M, E, Z>,
-    pass: DomainPass<M, E, Z>,
+    domain: &DomainObj<G>,
+    pass: DomainPass<G>,
     query: &Query,
-) -> (DomainPass<M, E, Z>, Reply, Option<Front>, Seen)
+) -> (DomainPass<G>, Reply, Option<Front>, Seen)
     requires own { pass.cell ≡ domain.now }
     ensures { HasRead query.now pass result.0 result.1 result.2 result.3 }
 {

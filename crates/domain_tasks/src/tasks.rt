@@ -9,7 +9,7 @@ use crate::calling::run;
 use crate::reading::{UNSEEN, read};
 use crate::telling::{not_built, tell};
 use domain_obj::{Desk, DomainObj, DomainPass, Seen};
-use monitor_link::{Ears, Killer, Monitor};
+use monitor_link::Guests;
 use outcome_spec::Task;
 use std::alloc::Global;
 use std::sync::Wait;
@@ -29,18 +29,18 @@ pub struct Tasked {
 }
 
 // What the domain says of a task, the place that this rests on, and what the pass has seen.
-fn serve<M: Monitor + Drop, E: Ears + Drop, Z: Killer + Drop, D: Desk<M, E, Z>, R: Wait>(
+fn serve<G: Guests, D: Desk<G>, R: Wait>(
     rt: &R,
     alloc: Global,
-    domain: &DomainObj<M, E, Z>,
-    pass: DomainPass<M, E, Z>,
+    domain: &DomainObj<G>,
+    pass: DomainPass<G>,
     who: Who,
     task: &Task,
     desk: &mut D,
-) -> (DomainPass<M, E, Z>, Reply, Option<Front>, Seen)
+) -> (DomainPass<G>, Reply, Option<Front>, Seen)
     requires own { pass.cell ≡ domain.now }
     requires ready { IsReady pass }
-    ensures { HasServed E.ends E.faults E.unheard who task.now pass result.0 (D.report desk.old) (D.report desk.new) result.1 result.2 result.3 }
+    ensures { HasServed G.E.ends G.E.faults G.E.unheard who task.now pass result.0 (D.report desk.old) (D.report desk.new) result.1 result.2 result.3 }
 {
     match task {
         Task::Read(query) => read(rt, alloc, domain, pass, query),
@@ -51,10 +51,7 @@ fn serve<M: Monitor + Drop, E: Ears + Drop, Z: Killer + Drop, D: Desk<M, E, Z>, 
 }
 
 // What the pass has seen when it comes back, where the domain told this.
-fn seen_by<M: Monitor + Drop, E: Ears + Drop, Z: Killer + Drop>(
-    pass: &DomainPass<M, E, Z>,
-    saw: Seen,
-) -> Seen
+fn seen_by<G: Guests>(pass: &DomainPass<G>, saw: Seen) -> Seen
     ensures fresh { pass.now.spent ≡ false → result ≡ saw }
     ensures spent { pass.now.spent ≡ true → result ≡ unseen }
 {
@@ -66,18 +63,18 @@ fn seen_by<M: Monitor + Drop, E: Ears + Drop, Z: Killer + Drop>(
 
 /// A query is read in a turn of the pass. A call is run: one that begins an operation or takes one up, with its phases; and
 /// then the pass hears the guest. Registrations are not built yet: they are refused (206), and nothing is done.
-pub fn run_task<M: Monitor + Drop, E: Ears + Drop, Z: Killer + Drop, D: Desk<M, E, Z>, R: Wait>(
+pub fn run_task<G: Guests, D: Desk<G>, R: Wait>(
     rt: &R,
     alloc: Global,
-    domain: &DomainObj<M, E, Z>,
-    pass: DomainPass<M, E, Z>,
+    domain: &DomainObj<G>,
+    pass: DomainPass<G>,
     who: Who,
     task: &Task,
     desk: &mut D,
-) -> (DomainPass<M, E, Z>, Tasked)
+) -> (DomainPass<G>, Tasked)
     requires own { pass.cell ≡ domain.now }
     requires ready { IsReady pass }
-    ensures { HasTasked E.ends E.faults E.unheard who task.now pass result.0 (D.report desk.old) (D.report desk.new) result.1.reply result.1.place result.1.seen }
+    ensures { HasTasked G.E.ends G.E.faults G.E.unheard who task.now pass result.0 (D.report desk.old) (D.report desk.new) result.1.reply result.1.place result.1.seen }
 {
     let (pass, said, place, saw) = serve(rt, alloc, domain, pass, who, task, desk);
     let seen = seen_by(&pass, saw);

@@ -2,7 +2,6 @@
 use Rattle.std.proofs.Common.{◌≡◌, ℕ, List, Option, sym, ◌∙◌, subst}
 use Rattle.domain_spec.specs.Types.{Who}
 use Rattle.held_tasks.specs.OfRows.{DriverRow, known_row}
-use Rattle.held_tasks.specs.declared.counting.CountingMaker.{CountingMaker}
 use Rattle.files_disk.specs.Telling.{Told}
 use Rattle.object_list.specs.Turns.{ListPassed}
 use Rattle.held_tasks.specs.OfObjects.{DomainPass}
@@ -17,9 +16,9 @@ use Rattle.driver.proofs.Outcomes.{answers, reads}
 
 module _ {G : Type 0} where
   -- a row that was taken apart and put together is the same but for its pass of the store
-  pub rejoined : (before had : DriverRow G) (list : ListPassed) (was store : StorePass) (domains : List DomainPass) (guests : CountingMaker G) → before ≡ record { list = list; store = was; domains = domains; guests = guests }
-      → had ≡ record { list = list; store = store; domains = domains; guests = guests } → had ≡ record before { store = had.store }
-  rejoined before had list was store domains guests b h = h ∙ sym (λ i. record (b i) { store = (h i).store })
+  pub rejoined : (before had : DriverRow G) (list : ListPassed) (was store : StorePass) (domains : List DomainPass) (guests : G) (unkept : ℕ) → before ≡ record { list = list; store = was; domains = domains; guests = guests; unkept = unkept }
+      → had ≡ record { list = list; store = store; domains = domains; guests = guests; unkept = unkept } → had ≡ record before { store = had.store }
+  rejoined before had list was store domains guests unkept b h = h ∙ sym (λ i. record (b i) { store = (h i).store })
 
   module _ {F E : Type 0} (told : F → Told) (maker : G → ℕ) (ends faults : E → ℕ) (unheard : E → Option (List GuestEvent)) (store_faults : F → ℕ) where
     pub called : (who : Who) (r : Request) (words : List ℕ) (a : Asked) (before had after : DriverRow G) (o : Outcome) (p q : StorePass) → had ≡ record before { store = had.store } → before.store ≡ p → had.store ≡ q

@@ -3,6 +3,7 @@ use Rattle.std.specs.Prelude.{◌≡◌, ℕ, List, Option}
 use Rattle.held_tasks.specs.OfObjects.{TellsSpent}
 use Rattle.domain_spec.specs.Types.{Reply, Who}
 use Rattle.held_tasks.specs.OfRows.{DriverRow, known_row, no_front}
+use Rattle.driver_lists.specs.Unmarked.{LeavesNoMark}
 use Rattle.files_disk.specs.Telling.{Told}
 use Rattle.held_tasks.specs.Course.{HasServedHeld}
 use Rattle.held_tasks.specs.OfOutcomes.{HasOutcome, Outcome, ReadsNow}
@@ -43,11 +44,12 @@ module _ {G : Type 0} where
   LetsGoOn (listing.Idle most) before after = after ≡ record before { list = after.list; domains = after.domains }
   LetsGoOn listing.Titles before after = after ≡ record before { store = after.store }
 
-  -- the domains were listed, and nobody else was asked anything
+  -- the domains were listed without a mark, and nobody else was asked anything
   pub record HasListed (l : Listing) (before after : DriverRow G) (o : Outcome) : Type 0 where
     pub outcome : HasOutcome (known_row before) (known_row after) (request_of l) o
     pub now : ReadsNow (known_row after) (request_of l) o
     pub others : LetsGoOn l before after
+    pub unmarked : LeavesNoMark before after
 
   -- nothing more was done, and this is the answer
   pub record IsAnswered (said : Outcome) (before after : DriverRow G) (o : Outcome) : Type 0 where

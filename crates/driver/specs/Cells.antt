@@ -4,7 +4,6 @@ use Rattle.atomic_table.specs.Seated.{TableId}
 use Rattle.request_asks.specs.Below.def_keeper.Turns as storing
 use Rattle.driver_close.specs.OfCells as domain
 use Rattle.held_tasks.specs.OfRows.{DriverRow}
-use Rattle.held_tasks.specs.declared.counting.CountingMaker.{CountingMaker}
 use Rattle.files_disk.specs.Telling.{Told}
 use Rattle.object_list.specs.Keeping as listing
 use Rattle.pass_rows.specs.Rows.{HasSplit, IsOf}
@@ -32,4 +31,4 @@ module _ {F G : Type 0} (told : F → Told) where
 
   -- the row became so many: new ones, and itself, which is the last of them; its maker of guests made one for each new row
   abbrev pub BecomesMany : (G → ℕ) → ℕ → DriverRow G → List (DriverRow G) → Type 0
-  BecomesMany faults count row all = HasSplit listing.meaning (storing.meaning told) domain.meaning (λ (m : CountingMaker G). faults m.maker) count row all
+  BecomesMany faults count row all = HasSplit listing.meaning (storing.meaning told) domain.meaning faults count row all

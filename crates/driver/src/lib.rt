@@ -3,12 +3,11 @@
 #![tactic(auto)]
 
 mod answers;
-mod row_list;
 mod serving;
 mod the_driver;
 
-pub use driver_close::{Books, DriverFault};
-pub use held_tasks::{Maker, MakerOf, Outcome, Row, unkept_of};
+pub use driver_close::{Books, DriverFault, RowList};
+pub use held_tasks::{Outcome, Row, unkept_of};
+pub use monitor_link::Guests;
 pub use request_asks::Opening;
-pub use row_list::RowList;
 pub use the_driver::Driver;

@@ -9,7 +9,8 @@ ghost use Rattle.virt_types.specs.Drawn.{IsMadeOfDrawn};
 use crate::answers::{of_nobody, of_store};
 use driver_lists::{list_all, list_defined, tell_titles};
 use files_disk::Files;
-use held_tasks::{Cells, Maker, Outcome, Row, run_out, serve_held, state_of};
+use held_tasks::{Cells, Outcome, Row, run_out, serve_held, state_of};
+use monitor_link::Guests;
 use pass_rows::{RestingPass, RowOf};
 use refusals::no_memory;
 use request_asks::{Asked, Listing, Opening, read_request};
@@ -18,13 +19,13 @@ use std::sync::Wait;
 use virt_types::{Random, Reply, Request, Value, Who};
 
 // Lists domains.
-fn list<R: Wait, G: Maker, F: Files + Drop, K: Opening>(
+fn list<R: Wait, G: Guests, F: Files + Drop, K: Opening>(
     rt: &R,
     alloc: Global,
-    cells: &Cells<F, K, G::M, G::E, G::Z>,
-    row: Row<F, K, G::M, G::E, G::Z, G>,
+    cells: &Cells<F, K, G>,
+    row: Row<F, K, G>,
     listing: Listing,
-) -> (Row<F, K, G::M, G::E, G::Z, G>, Outcome)
+) -> (Row<F, K, G>, Outcome)
     requires own { IsOf cells.now.list cells.now.store cells.now.domains.items row }
     requires ready { IsReadyRow row }
     ensures listed { HasListed listing row result.0 result.1 }
@@ -41,14 +42,14 @@ fn list<R: Wait, G: Maker, F: Files + Drop, K: Opening>(
 }
 
 // What is done of what was asked.
-fn serve_asked<R: Wait, G: Maker, F: Files + Drop, K: Opening>(
+fn serve_asked<R: Wait, G: Guests, F: Files + Drop, K: Opening>(
     rt: &R,
     alloc: Global,
-    cells: &Cells<F, K, G::M, G::E, G::Z>,
-    row: Row<F, K, G::M, G::E, G::Z, G>,
+    cells: &Cells<F, K, G>,
+    row: Row<F, K, G>,
     who: Who,
     asked: Asked,
-) -> (Row<F, K, G::M, G::E, G::Z, G>, Outcome)
+) -> (Row<F, K, G>, Outcome)
     requires own { IsOf cells.now.list cells.now.store cells.now.domains.items row }
     requires ready { IsReadyRow row }
     ensures came { CameTo F.told G.faults G.E.ends G.E.faults G.E.unheard F.faults who asked row result.0 result.1 }
@@ -70,15 +71,15 @@ fn serve_asked<R: Wait, G: Maker, F: Files + Drop, K: Opening>(
 
 /// Serves a request by the passes of a row: what it asks is found out, and then that is done. Its texts are filled in with
 /// words from `random`, and a restore reads its image first, in a turn of the store.
-pub(crate) fn serve<R: Wait, D: Random, G: Maker, F: Files + Drop, K: Opening>(
+pub(crate) fn serve<R: Wait, D: Random, G: Guests, F: Files + Drop, K: Opening>(
     rt: &R,
     alloc: Global,
-    cells: &Cells<F, K, G::M, G::E, G::Z>,
-    row: Row<F, K, G::M, G::E, G::Z, G>,
+    cells: &Cells<F, K, G>,
+    row: Row<F, K, G>,
     who: Who,
     request: &Request,
     random: &mut D,
-) -> (Row<F, K, G::M, G::E, G::Z, G>, Outcome)
+) -> (Row<F, K, G>, Outcome)
     requires own { IsOf cells.now.list cells.now.store cells.now.domains.items row }
     requires ready { IsReadyRow row }
     ensures called { IsMadeOfDrawn (λ words. HasCalled F.told G.faults G.E.ends G.E.faults G.E.unheard F.faults who request.now words row result.0 result.1) (D.drawn random.old) (D.drawn random.new) }
@@ -89,9 +90,9 @@ pub(crate) fn serve<R: Wait, D: Random, G: Maker, F: Files + Drop, K: Opening>(
     ensures own { IsOf cells.now.list cells.now.store cells.now.domains.items result.0 }
     ensures ready { IsReadyRow result.0 }
 {
-    let (list, store, domains, guests) = row.into_parts();
+    let (list, store, domains, guests, unkept) = row.into_parts();
     let (pass, asked) = read_request(rt, alloc, &cells.store, store.into_pass(), request, random);
     let state = state_of(&pass);
-    let row = RowOf::of(list, RestingPass::new(pass, state), domains, guests);
+    let row = RowOf::of(list, RestingPass::new(pass, state), domains, guests, unkept);
     serve_asked(rt, alloc, cells, row, who, asked)
 }

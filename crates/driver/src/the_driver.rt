@@ -12,11 +12,12 @@ ghost use Rattle.virt_types.specs.Drawn.{IsMadeOfDrawn};
 ghost use Rattle.driver.specs.Called.{HasCalled};
 ghost use Rattle.driver.specs.Cells.{BecomesMany, IsIdleRow, IsRowOf};
 
-use crate::row_list::RowList;
 use crate::serving::serve;
-use driver_close::{Books, DriverFault, HistoryRoom, Opened, close_cells, more, open_cells};
+use driver_close::{
+    Books, DriverFault, HistoryRoom, Opened, RowList, close_cells, more, open_cells,
+};
 use files_disk::Files;
-use held_tasks::{Cells, CountingMaker, Maker, MakerOf, Outcome, Row};
+use held_tasks::{Cells, Outcome, Row};
 use monitor_link::Guests;
 use request_asks::Opening;
 use std::alloc::Global;
@@ -27,15 +28,15 @@ use virt_types::{ListOf, NoMemory, OrNoMemory, Random, Request, RequestList, Sta
 /// The driver of a daemon: the list of domains, the store of definitions, and the domains. Many activities call it at once,
 /// each with a row of its own. Contracts see which cells it has.
 #[derive(Drop)]
-pub struct Driver<F: Files + Drop, K: Opening, G: Maker> {
+pub struct Driver<F: Files + Drop, K: Opening, G: Guests> {
     alloc: Global,
-    cells: Cells<F, K, G::M, G::E, G::Z>,
+    cells: Cells<F, K, G>,
     starts: RequestList,
     statuses: ListOf<Option<Status>>,
     room: HistoryRoom,
 }
 
-impl<F: Files + Drop, K: Opening, G: Maker> Model for Driver<F, K, G> {
+impl<F: Files + Drop, K: Opening, G: Guests> Model for Driver<F, K, G> {
     ghost use Rattle.std.specs.Prelude.{◌≡◌, ◌≤◌, length};
     ghost use Rattle.virt_types.specs.Limits.{most_domains};
     ghost use Rattle.driver.specs.Cells.{DriverView};
@@ -47,7 +48,7 @@ impl<F: Files + Drop, K: Opening, G: Maker> Model for Driver<F, K, G> {
     ghost invariant = { λ d. (length d.cells.domains.items ≡ most_domains) × (most_domains ≤ d.room) };
 }
 
-impl<F: Files + Drop, K: Opening, G: Maker> Driver<F, K, G> {
+impl<F: Files + Drop, K: Opening, G: Guests> Driver<F, K, G> {
     /// Opens a driver on the directory of these files, and gives the row of the first passes of its cells. Its list has the
     /// domains that are found there, by rising name, in slots 0, 1, .. Files of version 1 are put again. Where the driver is
     /// not opened, the files and the maker of guests come back: for the first fault of the store, a text that is not that of
@@ -56,21 +57,19 @@ impl<F: Files + Drop, K: Opening, G: Maker> Driver<F, K, G> {
         alloc: Global,
         files: F,
         guests: G,
-    ) -> Result<(Driver<F, K, G>, Row<F, K, G::M, G::E, G::Z, G>), (F, G, OrNoMemory<DriverFault>)>
+    ) -> Result<(Driver<F, K, G>, Row<F, K, G>), (F, G, OrNoMemory<DriverFault>)>
         requires sound { K.sound → IsSureAt (F.told files) }
         ensures ok { IfOk result (λ made. HasCells F.told files made.1 made.0.starts made.0.statuses) }
         ensures own { IfOk result (λ made. IsRowOf made.0 made.1) }
         ensures ready { IfOk result (λ made. IsReadyRow made.1) }
-        ensures maker { IfOk result (λ made. made.1.guests ≡ record { maker = guests; unkept = 0 }) }
+        ensures maker { IfOk result (λ made. made.1.guests ≡ guests) }
+        ensures unkept { IfOk result (λ made. made.1.unkept ≡ 0) }
         ensures err { IfErr result (λ e. IsUnopened F.told F.faults K.sound files e.2 e.0) }
         ensures back { IfErr result (λ e. e.1 ≡ guests) }
     {
-        let opened = match open_cells(alloc, files, CountingMaker::new(guests)) {
+        let opened = match open_cells(alloc, files, guests) {
             Ok(opened) => opened,
-            Err((files, guests, fault)) => {
-                let CountingMaker { maker, unkept: _ } = guests;
-                return Err((files, maker, fault));
-            }
+            Err(e) => return Err(e),
         };
         let Opened {
             cells,
@@ -115,11 +114,11 @@ impl<F: Files + Drop, K: Opening, G: Maker> Driver<F, K, G> {
     pub fn call<R: Wait, D: Random>(
         &self,
         rt: &R,
-        row: Row<F, K, G::M, G::E, G::Z, G>,
+        row: Row<F, K, G>,
         who: Who,
         request: &Request,
         random: &mut D,
-    ) -> (Row<F, K, G::M, G::E, G::Z, G>, Outcome)
+    ) -> (Row<F, K, G>, Outcome)
         requires own { IsRowOf self.now row }
         requires ready { IsReadyRow row }
         ensures called { IsMadeOfDrawn (λ words. HasCalled F.told G.faults G.E.ends G.E.faults G.E.unheard F.faults who request.now words row result.0 result.1) (D.drawn random.old) (D.drawn random.new) }
@@ -134,37 +133,34 @@ impl<F: Files + Drop, K: Opening, G: Maker> Driver<F, K, G> {
     }
 }
 
-impl<F: Files + Drop, K: Opening, G: Guests + Drop> Driver<F, K, MakerOf<G>> {
+impl<F: Files + Drop, K: Opening, G: Guests + Drop> Driver<F, K, G> {
     /// Makes so many rows of this one: itself, and new ones, whose passes are cut off its own and have seen as much. Each has a
     /// maker of guests of its own. Where there is no memory, or no maker for a new row, it comes back with the same passes.
     pub fn more(
         &self,
-        row: Row<F, K, G::M, G::E, G::Z, MakerOf<G>>,
+        row: Row<F, K, G>,
         rows: u32,
-    ) -> Result<
-        RowList<F, K, G::M, G::E, G::Z, MakerOf<G>>,
-        (Row<F, K, G::M, G::E, G::Z, MakerOf<G>>, NoMemory),
-    >
+    ) -> Result<RowList<F, K, G>, (Row<F, K, G>, NoMemory)>
         requires some { 1 ≤ rows }
         requires own { IsRowOf self.now row }
         requires parts { HasRowParts rows row }
         requires ready { IsReadyRow row }
-        ensures ok { IfOk result (λ all. BecomesMany F.told (λ maker. G.faults maker.guests) rows row all.list) }
+        ensures ok { IfOk result (λ all. BecomesMany F.told G.faults rows row all.list) }
         ensures own { IfOk result (λ all. All (IsRowOf self.now) all.list) }
         ensures ready { IfOk result (λ all. All IsReadyRow all.list) }
         ensures idle { IfOk result (λ all. IsIdleRow F.told row → All (IsIdleRow F.told) all.list) }
         ensures passes { IfErr result (λ e. KeepsPasses row e.0) }
-        ensures failed { IfErr result (λ e. G.faults row.guests.maker.guests ≤ G.faults e.0.guests.maker.guests) }
+        ensures failed { IfErr result (λ e. G.faults row.guests ≤ G.faults e.0.guests) }
     {
         more(self.alloc, &self.cells, row, rows)
     }
 }
 
-impl<F: Files + Drop, K: Opening, G: Maker + Drop> Driver<F, K, G> {
+impl<F: Files + Drop, K: Opening, G: Guests + Drop> Driver<F, K, G> {
     /// Closes the driver with all of its rows, each of which is idle. It gives back the files, and what happened in each cell:
     /// what every pass has seen there begins it, and each mark in it is of one of these passes, or of nobody. It takes no
     /// memory.
-    pub fn close(self, rows: RowList<F, K, G::M, G::E, G::Z, G>) -> (F, Books)
+    pub fn close(self, rows: RowList<F, K, G>) -> (F, Books)
         requires some { 0 < length rows.list }
         requires own { All (IsRowOf self) rows.list }
         requires idle { All (IsIdleRow F.told) rows.list }

@@ -84,6 +84,7 @@ module _ {F G : Type 0} (told : F → Told) where
             value = left.value;
             closed = all_close domain.meaning domain.no_mark_lowers (passes_at slot rows) pass left.value all left.closes;
             history_is = left.history_is;
+            legal = left.legal;
           }
 
       pub closed_all : HasClosed told rows files list store domains
@@ -99,10 +100,10 @@ module _ {F G : Type 0} (told : F → Told) where
       }
 
 -- the cells are closed with the passes that a row has
-pub closes_row : {F G : Type 0} (told : F → Told) (row : DriverRow G) (list_pass : ListPassed) (store_pass : Passed StoreBase StoreMark (Unit {0})) (passes taken : List DomainPass) (guests : G) (files : F) (list : ListHistory) (kept : Keeping F) (store : StoreHistory)
-    (domains : List DomainHistory) → row ≡ record { list = list_pass; store = store_pass; domains = passes; guests = guests } → Closes listing.meaning list_pass list → Closes (storing.meaning told) store_pass kept → taken ≡ passes
+pub closes_row : {F G : Type 0} (told : F → Told) (row : DriverRow G) (list_pass : ListPassed) (store_pass : Passed StoreBase StoreMark (Unit {0})) (passes taken : List DomainPass) (guests : G) (unkept : ℕ) (files : F) (list : ListHistory) (kept : Keeping F) (store : StoreHistory)
+    (domains : List DomainHistory) → row ≡ record { list = list_pass; store = store_pass; domains = passes; guests = guests; unkept = unkept } → Closes listing.meaning list_pass list → Closes (storing.meaning told) store_pass kept → taken ≡ passes
     → AllZip LeavesOne taken domains → files ≡ kept.files → store ≡ kept.history → IsMapOf kept.history (found kept.map) → ClosesRow told row files list store domains
-closes_row told row list_pass store_pass passes taken guests files list kept store domains is list_closes store_closes same domains_close files_are store_is map_is = subst (λ (r : DriverRow _). ClosesRow told r files list store domains) (sym is) (record {
+closes_row told row list_pass store_pass passes taken guests unkept files list kept store domains is list_closes store_closes same domains_close files_are store_is map_is = subst (λ (r : DriverRow _). ClosesRow told r files list store domains) (sym is) (record {
   list_closes = list_closes;
   kept = kept;
   store_closes = store_closes;

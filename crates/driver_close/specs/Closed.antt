@@ -7,7 +7,7 @@ use Rattle.domain_spec.specs.declared.mark.Mark.{Mark}
 use Rattle.domain_spec.specs.declared.standing.Base.{Base}
 use Rattle.driver_open.specs.OfCells.{Celled}
 use Rattle.driver_open.specs.OfCells as domain
-use Rattle.driver_open.specs.OfObjects.{DomainPass}
+use Rattle.driver_open.specs.OfObjects.{DomainPass, IsLegalHistory}
 use Rattle.files_disk.specs.Telling.{Told}
 use Rattle.def_keeper.specs.Keeper.{Keeping}
 use Rattle.def_keeper.specs.Marks.{StoreHistory}
@@ -30,11 +30,12 @@ pub record IsWhole {G : Type 0} (rows : List (DriverRow G)) : Type 0 where
   pub store : all_parts (map (λ row. row.store) rows) ≡ 2 ^ 62
   pub domains : (slot : ℕ) → slot < most_domains → all_parts (passes_at slot rows) ≡ 2 ^ 62
 
--- a domain's cell was closed with these passes, and this is its history
+-- a domain's cell was closed with these passes, and this is its history, which is legal
 pub record Leaves (passes : List DomainPass) (history : History Base (Mark ℕ)) : Type 0 where
   pub value : Celled
   pub closed : closing.HasClosed domain.meaning passes value
   pub history_is : history ≡ domain.history_of value
+  pub legal : IsLegalHistory history
 
 -- the cells were closed with these rows, and this is left. What each pass has seen begins the history of its cell, and the
 -- marks there that bear its number are its own; each mark is of one of these passes, or of nobody

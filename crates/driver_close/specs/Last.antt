@@ -7,7 +7,7 @@ use Rattle.domain_spec.specs.declared.mark.Mark.{Mark}
 use Rattle.domain_spec.specs.declared.standing.Base.{Base}
 use Rattle.driver_open.specs.OfCells.{Celled}
 use Rattle.driver_open.specs.OfCells as domain
-use Rattle.driver_open.specs.OfObjects.{DomainPass}
+use Rattle.driver_open.specs.OfObjects.{DomainPass, IsLegalHistory}
 use Rattle.files_disk.specs.Telling.{Told}
 use Rattle.def_keeper.specs.Keeper.{Keeping}
 use Rattle.def_keeper.specs.Marks.{StoreHistory}
@@ -28,11 +28,12 @@ pub record IsLastRow {G : Type 0} (row : DriverRow G) : Type 0 where
   pub store : IsLast row.store
   pub domains : All IsLast row.domains
 
--- a domain's cell was closed with its last pass, and this is its history
+-- a domain's cell was closed with its last pass, and this is its history, which is legal
 pub record LeavesOne (pass : DomainPass) (history : History Base (Mark ℕ)) : Type 0 where
   pub value : Celled
   pub closes : Closes domain.meaning pass value
   pub history_is : history ≡ domain.history_of value
+  pub legal : IsLegalHistory history
 
 -- the cells were closed with the passes of this row
 pub record ClosesRow {F G : Type 0} (told : F → Told) (row : DriverRow G) (files : F) (list : ListHistory) (store : StoreHistory) (domains : List (History Base (Mark ℕ))) : Type 0 where

@@ -17,7 +17,7 @@ use crate::books::Books;
 use def_keeper::Opening;
 use driver_open::{Cells, Chronicle, DomainCell, DomainObj, HistoryRoom, Row, RowList};
 use files_disk::Files;
-use monitor_link::{Ears, Killer, Monitor};
+use monitor_link::Guests;
 use pass_rows::RestingPass;
 use turn_cell::{Kept, TurnCell};
 
@@ -30,11 +30,8 @@ fn close_cell<T: Kept + Drop>(cell: TurnCell<T>, pass: RestingPass<T>) -> T
     cell.close(pass.into_pass())
 }
 
-// The same of a domain. Its guest is let go of.
-fn close_domain<M: Monitor + Drop, E: Ears + Drop, Z: Killer + Drop>(
-    domain: DomainObj<M, E, Z>,
-    pass: RestingPass<DomainCell<M, E, Z>>,
-) -> Chronicle
+// The same of a domain. Its guest is dropped.
+fn close_domain<G: Guests>(domain: DomainObj<G>, pass: RestingPass<DomainCell<G>>) -> Chronicle
     requires own { pass.cell ≡ domain }
     requires last { IsLast pass }
     ensures { LeavesOne pass result }
@@ -43,9 +40,9 @@ fn close_domain<M: Monitor + Drop, E: Ears + Drop, Z: Killer + Drop>(
 }
 
 // Closes the domains in the slots, into room for their histories.
-fn close_domains<M: Monitor + Drop, E: Ears + Drop, Z: Killer + Drop>(
-    domains: Vec<DomainObj<M, E, Z>>,
-    passes: Vec<RestingPass<DomainCell<M, E, Z>>>,
+fn close_domains<G: Guests>(
+    domains: Vec<DomainObj<G>>,
+    passes: Vec<RestingPass<DomainCell<G>>>,
     room: Vec<Chronicle>,
 ) -> Vec<Chronicle>
     requires own { map cell_of passes.items ≡ domains.items }
@@ -66,14 +63,11 @@ fn close_domains<M: Monitor + Drop, E: Ears + Drop, Z: Killer + Drop>(
 }
 
 // Closes the cells with a row whose passes are the last of each.
-fn close_row<
-    F: Files + Drop,
-    K: Opening,
-    M: Monitor + Drop,
-    E: Ears + Drop,
-    Z: Killer + Drop,
-    G: Drop,
->(cells: Cells<F, K, M, E, Z>, row: Row<F, K, M, E, Z, G>, room: HistoryRoom) -> (F, Books)
+fn close_row<F: Files + Drop, K: Opening, G: Guests + Drop>(
+    cells: Cells<F, K, G>,
+    row: Row<F, K, G>,
+    room: HistoryRoom,
+) -> (F, Books)
     requires own { IsOf cells.list cells.store cells.domains.items row }
     requires last { IsLastRow row }
     requires room { length row.domains ≤ room }
@@ -85,7 +79,7 @@ fn close_row<
         store,
         domains,
     } = cells;
-    let (list_pass, store_pass, passes, guests) = row.into_parts();
+    let (list_pass, store_pass, passes, guests, _) = row.into_parts();
     drop(guests);
     let cells = close_domains(domains, passes.into_vec(), room.into_vec());
     let list = close_cell(list, list_pass);
@@ -95,14 +89,11 @@ fn close_row<
 
 /// Closes the cells of a driver with all of its rows, in which nothing is kept for any pass. It gives back the files, and what
 /// is left of the cells. It takes no memory: the room was taken as the driver was opened.
-pub fn close_cells<
-    F: Files + Drop,
-    K: Opening,
-    M: Monitor + Drop,
-    E: Ears + Drop,
-    Z: Killer + Drop,
-    G: Drop,
->(cells: Cells<F, K, M, E, Z>, rows: RowList<F, K, M, E, Z, G>, room: HistoryRoom) -> (F, Books)
+pub fn close_cells<F: Files + Drop, K: Opening, G: Guests + Drop>(
+    cells: Cells<F, K, G>,
+    rows: RowList<F, K, G>,
+    room: HistoryRoom,
+) -> (F, Books)
     requires some { 0 < length rows.list }
     requires own { All (IsOf cells.list cells.store cells.domains.items) rows.list }
     requires idle { All (IsIdleRow listing.meaning (storing.meaning F.told) domain.meaning) rows.list }

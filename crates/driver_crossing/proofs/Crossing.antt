@@ -25,8 +25,6 @@ use Rattle.driver_service.specs.Below.driver.contracts.the_driver.Driver.TheInsi
 use Rattle.driver_service.specs.Below.driver_cells.contracts.cells.Cells
 use Rattle.driver_crossing.proofs.Shared.{room_sync}
 use Rattle.files_disk.specs.declared.files.Files as files
-use Rattle.driver_service.proofs.Below.held_tasks.counting.CountingMaker.TheSendSync as counting
-use Rattle.driver_service.specs.Below.held_tasks.contracts.counting.CountingMaker
 use Rattle.monitor_link.specs.declared.link.Ears as ears
 use Rattle.monitor_link.specs.declared.link.Guests as guests
 use Rattle.monitor_link.specs.declared.link.Killer as killer
@@ -36,10 +34,6 @@ use Rattle.object_list.specs.contracts.kept.ObjectListKept.TheImpl as listing
 use Rattle.object_list.specs.contracts.list.ObjectList
 use Rattle.pass_rows.proofs.row.RowOf.TheSendSync as row
 use Rattle.pass_rows.specs.contracts.row.RowOf
-use Rattle.driver_service.proofs.Below.row_desk.maker.MakerOf.TheSendSync as maker
-use Rattle.driver_service.specs.Below.row_desk.contracts.maker.MakerOf
-use Rattle.driver_service.specs.Below.row_desk.contracts.maker.MakerOfMaker.TheImpl as maker_of
-use Rattle.driver_service.specs.Below.row_desk.declared.maker.Maker as making
 use Rattle.std.proofs.alloc.Global.TheSendSync as global
 use Rattle.std.proofs.Crossing.{Vec-sync}
 use Rattle.std.proofs.option.Option.TheSendSync as option
@@ -57,19 +51,12 @@ use Rattle.virt_types.specs.contracts.status.Status
 
 module _ (F K G M E Z : RattleType) (f : files.Ghosts F.Denot) (k : opening.Ghosts K.Denot) (g : guests.Ghosts G.Denot M.Denot E.Denot Z.Denot) (m : monitor.Ghosts M.Denot) (e : ears.Ghosts E.Denot) (z : killer.Ghosts Z.Denot)
     (sf : IsSend F) (sg : IsSend G) (sm : IsSend M) (se : IsSend E) (sz : IsSend Z) where
-  -- where the definitions are kept, what keeps a domain, and what makes guests
+  -- where the definitions are kept, and what keeps a domain
   abbrev Storing : RattleType
   Storing = Keeper.the_row F K f k
 
   abbrev Celled : RattleType
-  Celled = DomainCell.the_row M E Z
-
-  abbrev Making : RattleType
-  Making = MakerOf.the_row G M E Z
-
-  -- what makes guests for a row, with its count
-  abbrev Counting : RattleType
-  Counting = CountingMaker.the_row Making
+  Celled = DomainCell.the_row G M E Z g m e
 
   -- lists that marks of the list of domains speak of
   abbrev Listed : RattleType → RattleType
@@ -80,28 +67,25 @@ module _ (F K G M E Z : RattleType) (f : files.Ghosts F.Denot) (k : opening.Ghos
   stores = storing.ghosts F K f storing.no_dict k storing.no_dict
 
   abbrev turns : kept.Ghosts Celled.Denot Base.the_row.Denot (Mark.the_row u64).Denot Share.the_row.Denot
-  turns = domain.ghosts M E Z m domain.no_dict e domain.no_dict z domain.no_dict domain.no_dict domain.no_dict domain.no_dict
+  turns = domain.ghosts G M E Z g domain.no_dict m domain.no_dict e domain.no_dict z domain.no_dict domain.no_dict domain.no_dict domain.no_dict
 
   keeper_send : IsSend Storing
   keeper_send = keeper.the_send F K f k sf
 
-  pub row_send : IsSend (RowOf.the_row ObjectList.the_row Storing Celled Counting (Listed (Option.the_row Entry.the_row)) ListMark.the_row (Listed u64) StoreBase.the_row StoreMark.the_row unit Base.the_row (Mark.the_row u64) Share.the_row
+  pub row_send : IsSend (RowOf.the_row ObjectList.the_row Storing Celled G (Listed (Option.the_row Entry.the_row)) ListMark.the_row (Listed u64) StoreBase.the_row StoreMark.the_row unit Base.the_row (Mark.the_row u64) Share.the_row
       listing.ghosts stores turns)
-  row_send = row.the_send ObjectList.the_row Storing Celled Counting (Listed (Option.the_row Entry.the_row)) ListMark.the_row (Listed u64) StoreBase.the_row StoreMark.the_row unit Base.the_row (Mark.the_row u64) Share.the_row
-      listing.ghosts stores turns object_list.the_send keeper_send (cell_send M E Z sm se sz) (counting.the_send Making (maker.the_send G M E Z sg))
+  row_send = row.the_send ObjectList.the_row Storing Celled G (Listed (Option.the_row Entry.the_row)) ListMark.the_row (Listed u64) StoreBase.the_row StoreMark.the_row unit Base.the_row (Mark.the_row u64) Share.the_row
+      listing.ghosts stores turns object_list.the_send keeper_send (cell_send G M E Z g m e sm se sz) sg
 
-  abbrev makes : making.Ghosts Making.Denot M.Denot E.Denot Z.Denot
-  makes = maker_of.ghosts G M E Z g maker_of.no_dict m maker_of.no_dict e maker_of.no_dict z maker_of.no_dict maker_of.no_dict maker_of.no_dict maker_of.no_dict
-
-  cells_field_sync : IsSync (Cells.the_field F K M E Z f k m e z).row
-  cells_field_sync = struct_sync (struct.shape (Cells.the_type F K M E Z f k m e z)) (
+  cells_field_sync : IsSync (Cells.the_field F K G M E Z f k g m e z).row
+  cells_field_sync = struct_sync (struct.shape (Cells.the_type F K G M E Z f k g m e z)) (
     cell.the_sync ObjectList.the_row (Listed (Option.the_row Entry.the_row)) ListMark.the_row (Listed u64) listing.ghosts object_list.the_send,
-    (cell.the_sync Storing StoreBase.the_row StoreMark.the_row unit stores keeper_send, (Vec-sync (DomainObj.the_row M E Z m e z) (object_sync M E Z m e z sm se sz), tt)),
+    (cell.the_sync Storing StoreBase.the_row StoreMark.the_row unit stores keeper_send, (Vec-sync (DomainObj.the_row G M E Z g m e z) (object_sync G M E Z g m e z sm se sz), tt)),
   )
 
-  pub driver_sync : IsSync (Driver.the_row F K Making M E Z f k makes m e z)
-  driver_sync = let T = driver.the_type F K Making M E Z f k makes m e z in
-      view_sync (driver.the_row F K Making M E Z f k makes m e z) _ _ _ _ (recorded_sync (driver.the_field F K Making M E Z f k makes m e z).row _ _ T.to_one (struct_sync (struct.shape T) (
+  pub driver_sync : IsSync (Driver.the_row F K G M E Z f k g m e z)
+  driver_sync = let T = driver.the_type F K G M E Z f k g m e z in
+      view_sync (driver.the_row F K G M E Z f k g m e z) _ _ _ _ (recorded_sync (driver.the_field F K G M E Z f k g m e z).row _ _ T.to_one (struct_sync (struct.shape T) (
         global.the_field_sync,
         (
           cells_field_sync,

@@ -3,24 +3,28 @@
 #![tactic(auto)]
 
 use def_keeper::Opening;
-pub use driver_service::{Books, Driver, DriverService, Maker, MakerOf, Row, RowList};
+pub use domain_threads::ThreadGuests;
+pub use driver_service::{Books, Driver, DriverService, Row, RowList};
 use files_disk::Files;
-use monitor_link::Guests;
 
 fn crosses<T: Send>() {}
 
 fn is_shared<T: Sync>() {}
 
 /// A row may go to another thread, where the files and the maker of guests may. It does nothing.
-pub fn row_crosses<F: Files + Drop + Send, K: Opening + Send + Sync, G: Guests + Drop + Send>() {
-    crosses::<Row<F, K, G::M, G::E, G::Z, MakerOf<G>>>();
+pub fn row_crosses<
+    F: Files + Drop + Send,
+    K: Opening + Send + Sync,
+    G: ThreadGuests + Drop + Send,
+>() {
+    crosses::<Row<F, K, G>>();
 }
 
 /// Threads may share a driver, where the files and the maker of guests may go to another thread. It does nothing.
 pub fn driver_is_shared<
     F: Files + Drop + Send,
     K: Opening + Send + Sync,
-    G: Guests + Drop + Send,
+    G: ThreadGuests + Drop + Send,
 >() {
-    is_shared::<Driver<F, K, MakerOf<G>>>();
+    is_shared::<Driver<F, K, G>>();
 }

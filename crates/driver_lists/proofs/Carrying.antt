@@ -14,17 +14,19 @@ use Rattle.driver_cells.specs.OfOutcomes.{HasGone, IsLater, level}
 use Rattle.pass_rows.specs.Cutting.{cell_of}
 use Rattle.pass_rows.specs.Rows.{IsOf}
 use Rattle.driver_lists.specs.Reading.{PassesGo}
+use Rattle.driver_lists.specs.Unmarked.{LeavesNoMark}
 
 -- passes that stay as they are
 pub go_nowhere : (passes : List DomainPass) → All KeepsNothing passes → PassesGo passes passes
-go_nowhere passes rest = record { later = are_later_itself passes; cells = refl; parts = refl; rest = rest }
+go_nowhere passes rest = record { later = are_later_itself passes; cells = refl; parts = refl; rest = rest; mine = refl; legal = λ legal. legal }
 
--- a pass of the list went on, and holds nothing
+-- a pass of the list went on without a mark, and holds nothing
 pub record ListGoes (before after : ListPassed) : Type 0 where
   pub later : IsLater level (known before) (known after)
   pub cell : after.cell ≡ before.cell
   pub parts : after.parts ≡ before.parts
   pub holds : HoldsNoSlot after
+  pub mine : after.mine ≡ before.mine
 
 -- as many as before
 pub same_length : (before after : List DomainPass) → map cell_of after ≡ map cell_of before → length after ≡ length before
@@ -56,6 +58,14 @@ module _ {G : Type 0} where
     list = goes.list.parts;
     store = ap (λ (row : DriverRow G). row.store.parts) goes.others;
     domains = goes.domains.parts;
+  }
+
+  pub no_mark : (before after : DriverRow G) → RowGoes before after → LeavesNoMark before after
+  no_mark before after goes = record {
+    list = goes.list.mine;
+    store = ap (λ (row : DriverRow G). row.store.mine) goes.others;
+    domains = goes.domains.mine;
+    legal = goes.domains.legal;
   }
 
   pub is_ready : (before after : DriverRow G) → IsReadyRow before → RowGoes before after → IsReadyRow after

@@ -20,6 +20,8 @@ go_through before mid after goes on = record {
   cells = on.cells ∙ goes.cells;
   parts = on.parts ∙ goes.parts;
   rest = on.rest;
+  mine = on.mine ∙ goes.mine;
+  legal = λ legal. on.legal (goes.legal legal);
 }
 
 one_row : (found : Option Domain) (row : Option DomainRow) → row ≡ option_map row_of found → option_to_list row ≡ rows_of (found ∷ [])

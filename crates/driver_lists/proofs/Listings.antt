@@ -1,5 +1,5 @@
 -- The list and the cells of its domains, by the passes of a row.
-use Rattle.std.proofs.Common.{◌≡◌, inl, inr, ⊎_elim, ◌<◌, ℕ, List, [], true, false, length, map, Result, Ok, Err, sym, ap, ◌∙◌, subst}
+use Rattle.std.proofs.Common.{◌≡◌, inl, inr, ⊎_elim, ◌<◌, ℕ, List, [], true, false, length, map, Result, Ok, Err, sym, ap, append-nil, ◌∙◌, subst}
 use Rattle.std.proofs.lemmas.List.{length-map, length-replicate}
 use Rattle.std.specs.List.{All}
 use Rattle.history_spec.proofs.Beginnings.{begins_itself}
@@ -33,6 +33,7 @@ list_spent before after is = record {
   cell = ap (λ (p : ListPassed). p.cell) is;
   parts = ap (λ (p : ListPassed). p.parts) is;
   holds = inl (ap (λ (p : ListPassed). p.spent) is);
+  mine = ap (λ (p : ListPassed). p.mine) is;
 }
 
 count_of : (number : ℕ) (slots : Slots) → holds_of number slots ≡ no_holds → length slots ≡ most_domains
@@ -53,6 +54,7 @@ module _ (names : Result (List SlotName) NoMemory) (front : Front) (before after
     cell = listed.went.same.cell;
     parts = listed.went.same.parts;
     holds = inr (listed.share ∙ free);
+    mine = listed.went.mine ∙ append-nil before.mine;
   }
 
   pub list_idle : IsIdle meaning after

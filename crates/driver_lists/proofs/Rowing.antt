@@ -1,5 +1,5 @@
 -- A turn at the domain in a slot, by the passes of all slots.
-use Rattle.std.proofs.Common.{◌≡◌, inl, inr, ⊎_elim, ◌++◌, ◌&&◌, ℕ, Bool, true, false, List, [], ◌∷◌, length, map, bytes_eq, if◌then◌else◌, get_or, option_map, slice_get, Option, None, Some, Result, Ok, Err, refl, sym, ap, ◌∙◌, subst}
+use Rattle.std.proofs.Common.{◌≡◌, inl, inr, ⊎_elim, ◌++◌, ◌&&◌, ℕ, Bool, true, false, List, [], ◌∷◌, length, map, bytes_eq, if◌then◌else◌, get_or, option_map, slice_get, Option, None, Some, Result, Ok, Err, append-nil, refl, sym, ap, ◌∙◌, subst}
 use Rattle.std.specs.List.{All}
 use Rattle.history_spec.proofs.Beginnings.{begins_itself}
 use Rattle.atomic_table.specs.Seated.{TableId}
@@ -22,6 +22,7 @@ use Rattle.virt_types.specs.declared.domain.State.{State}
 use Rattle.virt_types.specs.declared.domain.State.TheVariants as state
 use Rattle.virt_types.specs.declared.value.DomainRow.{DomainRow}
 use Rattle.driver_lists.specs.Reading.{HasReadOne, HasReadRow, IsTold, PassesGo, row_told}
+use Rattle.driver_lists.specs.Unmarked.{HasSeenLegal, mine_of}
 use Rattle.driver_lists.specs.declared.stopping.Stop.{Stop}
 use Rattle.driver_lists.specs.declared.stopping.Stop.TheVariants as stop
 use Rattle.driver_lists.proofs.Places.{all_at, one_of, same_map, stands_in, value_in}
@@ -55,6 +56,16 @@ same_parts before after (queried.Read said seen) it = it.0.goes.went.same.parts
 same_parts before after (queried.NoMemory seen) it = it.goes.went.same.parts
 same_parts before after queried.Spent it = ap (λ (p : DomainPass). p.parts) it
 
+same_marks : (before after : DomainPass) (came : Queried) → HasQueried query.Reference before after came → after.mine ≡ before.mine
+same_marks before after (queried.Read said seen) it = it.0.goes.went.mine ∙ append-nil before.mine
+same_marks before after (queried.NoMemory seen) it = it.goes.went.mine ∙ append-nil before.mine
+same_marks before after queried.Spent it = ap (λ (p : DomainPass). p.mine) it
+
+still_legal : (before after : DomainPass) (came : Queried) → HasQueried query.Reference before after came → HasSeenLegal before → HasSeenLegal after
+still_legal before after (queried.Read said seen) it legal = it.0.goes.legal_seen legal
+still_legal before after (queried.NoMemory seen) it legal = it.goes.legal_seen legal
+still_legal before after queried.Spent it legal = subst HasSeenLegal (sym it) legal
+
 rests_still : (before after : DomainPass) (seen : Seen) → Reads before after seen → KeepsNothing before → KeepsNothing after
 rests_still before after seen reads rest = ⊎_elim
     (λ (spent : before.spent ≡ true). inl (reads.goes.went.spent ∙ spent))
@@ -86,8 +97,13 @@ module _ (before after first rest : List DomainPass) (old new : DomainPass) (was
         later = are_later before after first rest old new was is (later_queried old new came it);
         cells = ap (map cell_of) is ∙ same_map cell_of first old new rest (same_cell old new came it) ∙ ap (map cell_of) (sym was);
         parts = ap (map parts_of) is ∙ same_map parts_of first old new rest (same_parts old new came it) ∙ ap (map parts_of) (sym was);
+        mine = ap (map mine_of) is ∙ same_map mine_of first old new rest (same_marks old new came it) ∙ ap (map mine_of) (sym was);
+        legal = λ legal. still_all (subst (All HasSeenLegal) was legal);
         rest = subst (All KeepsNothing) (sym is) (all_at KeepsNothing first old new rest there (keeps_nothing old new came it (one_of KeepsNothing first old rest there)));
-      }
+      } where
+        still_all : All HasSeenLegal (first ++ old ∷ rest) → All HasSeenLegal after
+        still_all legal =
+            subst (All HasSeenLegal) (sym is) (all_at HasSeenLegal first old new rest legal (still_legal old new came it (one_of HasSeenLegal first old rest legal)))
 
   module _ (at : SlotName) (slot : length first ≡ at.slot) where
     here_before : slice_get (map known before) at.slot ≡ Some (known old)

@@ -1,5 +1,6 @@
 -- The titles of the store, by the passes of a row.
-use Rattle.std.proofs.Common.{◌≡◌, inl, inr, List, [], true, map, Result, Ok, refl, sym, ap, ◌∙◌, subst}
+use Rattle.std.proofs.Common.{◌≡◌, inl, inr, List, [], true, map, Result, Ok, append-nil, refl, sym, ap, ◌∙◌, subst}
+use Rattle.std.specs.List.{All}
 use Rattle.atomic_table.specs.Seated.{TableId}
 use Rattle.history_spec.proofs.Beginnings.{begins_itself}
 use Rattle.def_keeper.specs.Turns.{meaning}
@@ -22,21 +23,23 @@ use Rattle.virt_types.specs.declared.value.Reply.TheVariants as reply
 use Rattle.virt_types.specs.declared.value.TitleRow.{TitleRow}
 use Rattle.virt_types.specs.declared.value.Value.TheVariants as value
 use Rattle.driver_lists.specs.Titling.{HasReadTitles}
+use Rattle.driver_lists.specs.Unmarked.{HasSeenLegal, LeavesNoMark, mine_of}
 
 abbrev pub StorePass : Type 0
 StorePass = Passed StoreBase StoreMark (Unit {0})
 
--- a pass of the store went on
+-- a pass of the store went on without a mark
 pub record StoreGoes (before after : StorePass) : Type 0 where
   pub later : IsLater level (known before) (known after)
   pub cell : after.cell ≡ before.cell
   pub parts : after.parts ≡ before.parts
+  pub mine : after.mine ≡ before.mine
 
 pub store_spent : (before after : StorePass) → after ≡ record before { spent = true } → StoreGoes before after
-store_spent before after is = record { later = later_spent level before after is; cell = ap (λ (p : StorePass). p.cell) is; parts = ap (λ (p : StorePass). p.parts) is }
+store_spent before after is = record { later = later_spent level before after is; cell = ap (λ (p : StorePass). p.cell) is; parts = ap (λ (p : StorePass). p.parts) is; mine = ap (λ (p : StorePass). p.mine) is }
 
 pub store_went : {F : Type 0} (told : F → Told) (rows : Result (List TitleRow) NoMemory) (front : Front) (before after : StorePass) → HasReadTitles told rows front before after → StoreGoes before after
-store_went told rows front before after read = record { later = later_went (meaning told) 1 [] before after read.went; cell = read.went.same.cell; parts = read.went.same.parts }
+store_went told rows front before after read = record { later = later_went (meaning told) 1 [] before after read.went; cell = read.went.same.cell; parts = read.went.same.parts; mine = read.went.mine ∙ append-nil before.mine }
 
 -- of passes that are these
 pub store_goes_at : (before after was is : StorePass) → before ≡ was → after ≡ is → StoreGoes was is → StoreGoes before after
@@ -70,6 +73,14 @@ module _ {G : Type 0} where
     list = ap (λ (row : DriverRow G). row.list.parts) goes.others;
     store = goes.store.parts;
     domains = ap (λ (row : DriverRow G). map parts_of row.domains) goes.others;
+  }
+
+  pub no_mark : (before after : DriverRow G) → StoreRowGoes before after → LeavesNoMark before after
+  no_mark before after goes = record {
+    list = ap (λ (row : DriverRow G). row.list.mine) goes.others;
+    store = goes.store.mine;
+    domains = ap (λ (row : DriverRow G). map mine_of row.domains) goes.others;
+    legal = λ legal. subst (λ (row : DriverRow G). All HasSeenLegal row.domains) (sym goes.others) legal;
   }
 
   pub is_ready : (before after : DriverRow G) → IsReadyRow before → StoreRowGoes before after → IsReadyRow after

@@ -20,6 +20,7 @@ use Rattle.virt_types.specs.declared.value.DomainRow.{DomainRow}
 use Rattle.virt_types.specs.declared.value.Reply.{Reply}
 use Rattle.virt_types.specs.declared.value.Reply.TheVariants as reply
 use Rattle.virt_types.specs.declared.value.Value.TheVariants as value
+use Rattle.driver_lists.specs.Unmarked.{HasSeenLegal, mine_of}
 use Rattle.driver_lists.specs.declared.stopping.Stop.{Stop}
 use Rattle.driver_lists.specs.declared.stopping.Stop.TheVariants as stop
 
@@ -39,12 +40,15 @@ IsTold at queried.Spent result = result ≡ Err stop.Spent
 abbrev pub HasReadRow : SlotName → DomainPass → DomainPass → Result (Option DomainRow) Stop → Type 0
 HasReadRow at before after result = (came : Queried) × HasQueried query.Reference before after came × IsTold at came result
 
--- passes that went on: of the same cells, with the parts that they had, and nothing is kept for any
+-- passes that went on: of the same cells, with the parts and the marks that they had; nothing is kept for any, and what they
+-- have seen is legal where it was
 pub record PassesGo (before after : List DomainPass) : Type 0 where
   pub later : AreLater (map known before) (map known after)
   pub cells : map cell_of after ≡ map cell_of before
   pub parts : map parts_of after ≡ map parts_of before
   pub rest : All KeepsNothing after
+  pub mine : map mine_of after ≡ map mine_of before
+  pub legal : All HasSeenLegal before → All HasSeenLegal after
 
 -- this was found in the cell of a slot: the domain of its name and identifier, if the cell had it. The history that was read
 -- lies between what the pass had seen before and what it has seen after

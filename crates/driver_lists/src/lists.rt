@@ -6,6 +6,7 @@ ghost use Rattle.driver_cells.specs.Ready.{IsReadyRow};
 ghost use Rattle.driver_cells.specs.OfOutcomes.{HasGone, HasOutcome, ReadsNow};
 ghost use Rattle.pass_rows.specs.Rows.{IsOf};
 ghost use Rattle.virt_types.specs.declared.request.Request.TheVariants as request;
+ghost use Rattle.driver_lists.specs.Unmarked.{LeavesNoMark};
 
 use crate::stopping::{Stop, stopped};
 use crate::telling::idle_names;
@@ -13,32 +14,25 @@ use crate::whole::read_list;
 use def_keeper::Opening;
 use driver_cells::{Cells, Outcome, Row};
 use files_disk::Files;
-use monitor_link::{Ears, Killer, Monitor};
+use monitor_link::Guests;
 use std::alloc::Global;
 use std::sync::Wait;
 use virt_types::{CellName, ListOf, NoMemory, Reply, Value};
 
 /// All domains by rising name, with their states. The list gives the names and slots in one turn; each row is read in a turn
 /// of its cell after that. A domain that is not there any more has no row.
-pub fn list_all<
-    R: Wait,
-    F: Files + Drop,
-    K: Opening,
-    M: Monitor + Drop,
-    E: Ears + Drop,
-    Z: Killer + Drop,
-    G,
->(
+pub fn list_all<R: Wait, F: Files + Drop, K: Opening, G: Guests>(
     rt: &R,
     alloc: Global,
-    cells: &Cells<F, K, M, E, Z>,
-    row: Row<F, K, M, E, Z, G>,
-) -> (Row<F, K, M, E, Z, G>, Outcome)
+    cells: &Cells<F, K, G>,
+    row: Row<F, K, G>,
+) -> (Row<F, K, G>, Outcome)
     requires own { IsOf cells.now.list cells.now.store cells.now.domains.items row }
     requires ready { IsReadyRow row }
     ensures outcome { HasOutcome (known_row row) (known_row result.0) request.ListAll result.1 }
     ensures now { ReadsNow (known_row result.0) request.ListAll result.1 }
     ensures gone { HasGone (known_row row) (known_row result.0) }
+    ensures unmarked { LeavesNoMark row result.0 }
     ensures others { result.0 ≡ record row { list = result.0.list; domains = result.0.domains } }
     ensures parts { KeepsParts row result.0 }
     ensures own { IsOf cells.now.list cells.now.store cells.now.domains.items result.0 }
@@ -59,26 +53,19 @@ pub fn list_all<
 }
 
 /// The names of the domains that are not active, by rising name: at most so many. They are found as by `list_all`.
-pub fn list_defined<
-    R: Wait,
-    F: Files + Drop,
-    K: Opening,
-    M: Monitor + Drop,
-    E: Ears + Drop,
-    Z: Killer + Drop,
-    G,
->(
+pub fn list_defined<R: Wait, F: Files + Drop, K: Opening, G: Guests>(
     rt: &R,
     alloc: Global,
-    cells: &Cells<F, K, M, E, Z>,
-    row: Row<F, K, M, E, Z, G>,
+    cells: &Cells<F, K, G>,
+    row: Row<F, K, G>,
     most: i32,
-) -> (Row<F, K, M, E, Z, G>, Outcome)
+) -> (Row<F, K, G>, Outcome)
     requires own { IsOf cells.now.list cells.now.store cells.now.domains.items row }
     requires ready { IsReadyRow row }
     ensures outcome { HasOutcome (known_row row) (known_row result.0) (request.ListDefinedDomains most) result.1 }
     ensures now { ReadsNow (known_row result.0) (request.ListDefinedDomains most) result.1 }
     ensures gone { HasGone (known_row row) (known_row result.0) }
+    ensures unmarked { LeavesNoMark row result.0 }
     ensures others { result.0 ≡ record row { list = result.0.list; domains = result.0.domains } }
     ensures parts { KeepsParts row result.0 }
     ensures own { IsOf cells.now.list cells.now.store cells.now.domains.items result.0 }

@@ -9,7 +9,7 @@ ghost use Rattle.driver_lists.specs.Reading.{HasReadAll, HasReadOne, HasReadRow,
 
 use crate::stopping::Stop;
 use driver_cells::{DomainCell, DomainObj, DomainPass, Queried, state_of};
-use monitor_link::{Ears, Killer, Monitor};
+use monitor_link::Guests;
 use object_list::SlotName;
 use pass_rows::Passes;
 use std::alloc::Global;
@@ -47,13 +47,13 @@ fn row_told_in(came: &Queried, at: &SlotName) -> Result<Option<DomainRow>, Stop>
 }
 
 // Takes a turn at the domain in the slot, and reads the row of the domain of this name and identifier, if it is there.
-fn read_row<M: Monitor + Drop, E: Ears + Drop, Z: Killer + Drop, R: Wait>(
+fn read_row<G: Guests, R: Wait>(
     rt: &R,
     alloc: Global,
-    domain: &DomainObj<M, E, Z>,
-    pass: DomainPass<M, E, Z>,
+    domain: &DomainObj<G>,
+    pass: DomainPass<G>,
     at: &SlotName,
-) -> (DomainPass<M, E, Z>, Result<Option<DomainRow>, Stop>)
+) -> (DomainPass<G>, Result<Option<DomainRow>, Stop>)
     requires own { pass.cell ≡ domain.now }
     ensures { HasReadRow at.now pass result.0 result.1 }
 {
@@ -63,13 +63,13 @@ fn read_row<M: Monitor + Drop, E: Ears + Drop, Z: Killer + Drop, R: Wait>(
 }
 
 // The same by the passes of all slots.
-fn read_one<M: Monitor + Drop, E: Ears + Drop, Z: Killer + Drop, R: Wait>(
+fn read_one<G: Guests, R: Wait>(
     rt: &R,
     alloc: Global,
-    domains: &[DomainObj<M, E, Z>],
-    passes: Passes<DomainCell<M, E, Z>>,
+    domains: &[DomainObj<G>],
+    passes: Passes<DomainCell<G>>,
     at: &SlotName,
-) -> (Passes<DomainCell<M, E, Z>>, Result<Option<DomainRow>, Stop>)
+) -> (Passes<DomainCell<G>>, Result<Option<DomainRow>, Stop>)
     requires own { map cell_of passes ≡ domains.now }
     requires within { at.now.slot < length passes }
     requires rest { All KeepsNothing passes }
@@ -94,13 +94,13 @@ fn add(rows: &mut Vec<DomainRow>, row: Option<DomainRow>) -> Result<(), NoMemory
 }
 
 /// Reads the rows of these domains, one after another. One that is not where the list told it has none.
-pub(crate) fn read_all<M: Monitor + Drop, E: Ears + Drop, Z: Killer + Drop, R: Wait>(
+pub(crate) fn read_all<G: Guests, R: Wait>(
     rt: &R,
     alloc: Global,
-    domains: &[DomainObj<M, E, Z>],
-    passes: Passes<DomainCell<M, E, Z>>,
+    domains: &[DomainObj<G>],
+    passes: Passes<DomainCell<G>>,
     names: &[SlotName],
-) -> (Passes<DomainCell<M, E, Z>>, Result<DomainRowList, Stop>)
+) -> (Passes<DomainCell<G>>, Result<DomainRowList, Stop>)
     requires own { map cell_of passes ≡ domains.now }
     requires within { All (λ at. at.slot < length passes) names.now }
     requires rest { All KeepsNothing passes }

@@ -6,6 +6,7 @@ ghost use Rattle.driver_cells.specs.Ready.{IsReadyRow};
 ghost use Rattle.driver_cells.specs.OfOutcomes.{HasGone};
 ghost use Rattle.pass_rows.specs.Rows.{IsOf};
 ghost use Rattle.driver_lists.specs.Whole.{HasReadList};
+ghost use Rattle.driver_lists.specs.Unmarked.{LeavesNoMark};
 
 use crate::listing::list_domains;
 use crate::rows::read_all;
@@ -13,7 +14,7 @@ use crate::stopping::Stop;
 use def_keeper::Opening;
 use driver_cells::{Cells, Row};
 use files_disk::Files;
-use monitor_link::{Ears, Killer, Monitor};
+use monitor_link::Guests;
 use pass_rows::{PassState, RestingPass, RowOf};
 use std::alloc::Global;
 use std::sync::Wait;
@@ -21,35 +22,31 @@ use virt_types::{DomainRowList, Front, NoMemory};
 
 /// Takes the names from the list in one turn, leaves it, and then reads each domain in a turn of its cell. With the rows comes
 /// the front of the list's history that told the names.
-pub(crate) fn read_list<
-    R: Wait,
-    F: Files + Drop,
-    K: Opening,
-    M: Monitor + Drop,
-    E: Ears + Drop,
-    Z: Killer + Drop,
-    G,
->(
+pub(crate) fn read_list<R: Wait, F: Files + Drop, K: Opening, G: Guests>(
     rt: &R,
     alloc: Global,
-    cells: &Cells<F, K, M, E, Z>,
-    row: Row<F, K, M, E, Z, G>,
-) -> (Row<F, K, M, E, Z, G>, Result<(DomainRowList, Front), Stop>)
+    cells: &Cells<F, K, G>,
+    row: Row<F, K, G>,
+) -> (Row<F, K, G>, Result<(DomainRowList, Front), Stop>)
     requires own { IsOf cells.now.list cells.now.store cells.now.domains.items row }
     requires ready { IsReadyRow row }
     ensures read { HasReadList (known_row row) (known_row result.0) result.1 }
     ensures gone { HasGone (known_row row) (known_row result.0) }
+    ensures unmarked { LeavesNoMark row result.0 }
     ensures others { result.0 ≡ record row { list = result.0.list; domains = result.0.domains } }
     ensures parts { KeepsParts row result.0 }
     ensures own { IsOf cells.now.list cells.now.store cells.now.domains.items result.0 }
     ensures ready { IsReadyRow result.0 }
 {
-    let (list, store, domains, guests) = row.into_parts();
+    let (list, store, domains, guests, unkept) = row.into_parts();
     let (pass, names, front) = match list_domains(rt, &cells.list, list.into_pass()) {
         Ok(listed) => listed,
         Err(pass) => {
             let list = RestingPass::new(pass, PassState::Spent);
-            return (RowOf::of(list, store, domains, guests), Err(Stop::Spent));
+            return (
+                RowOf::of(list, store, domains, guests, unkept),
+                Err(Stop::Spent),
+            );
         }
     };
     let list = RestingPass::new(pass, PassState::Idle);
@@ -57,14 +54,14 @@ pub(crate) fn read_list<
         Ok(names) => {
             let cells = cells.domains.as_slice();
             let (domains, read) = read_all(rt, alloc, cells, domains, names.as_slice());
-            let row = RowOf::of(list, store, domains, guests);
+            let row = RowOf::of(list, store, domains, guests, unkept);
             match read {
                 Ok(rows) => (row, Ok((rows, front))),
                 Err(why) => (row, Err(why)),
             }
         }
         Err(NoMemory) => {
-            let row = RowOf::of(list, store, domains, guests);
+            let row = RowOf::of(list, store, domains, guests, unkept);
             (row, Err(Stop::NoMemory))
         }
     }

@@ -23,7 +23,7 @@ use Rattle.driver_open.proofs.Slotted.{slots_count}
 abbrev StorePassed : Type 0
 StorePassed = Passed StoreBase StoreMark (Unit {0})
 
-module _ {G : Type 0} (list : ListPassed) (store : StorePassed) (passes : List DomainPass) (guests : G) (row : DriverRow G) (is : row ≡ record { list = list; store = store; domains = passes; guests = guests }) where
+module _ {G : Type 0} (list : ListPassed) (store : StorePassed) (passes : List DomainPass) (guests : G) (row : DriverRow G) (is : row ≡ record { list = list; store = store; domains = passes; guests = guests; unkept = 0 }) where
   -- it is of these cells
   pub own_row : (found : List FoundDomain) (list_id store_id list_now store_now : TableId) (ids ids_now : List TableId) → AreFirst (cells_of found) ids passes → list.cell ≡ list_id → store.cell ≡ store_id
       → list_now ≡ list_id → store_now ≡ store_id → ids_now ≡ ids → IsOf list_now store_now ids_now row

@@ -24,7 +24,7 @@ use def_keeper::{Keeper, KeeperPass, Opening};
 use driver_cells::Cells;
 use driver_store::{DriverFault, FoundDomain, OpenStore, open_list, open_store, starts_of};
 use files_disk::Files;
-use monitor_link::{Ears, Killer, Monitor};
+use monitor_link::Guests;
 use object_list::{ListPass, ObjectList};
 use pass_rows::{PassState, Passes, RestingPass, RowOf};
 use std::alloc::Global;
@@ -33,19 +33,16 @@ use virt_types::{ListOf, MOST_DOMAINS, NoMemory, OrNoMemory, RequestList, Status
 
 // What is made of the domains that were found.
 #[derive(Drop)]
-struct Parts<M: Monitor + Drop, E: Ears + Drop, Z: Killer + Drop> {
+struct Parts<G: Guests> {
     list: TurnCell<ObjectList>,
     list_pass: ListPass,
-    slots: Slots<M, E, Z>,
+    slots: Slots<G>,
     starts: RequestList,
     room: HistoryRoom,
 }
 
 // Makes the list of the domains, the domains themselves, and the requests that start those which are to be started.
-fn make_parts<M: Monitor + Drop, E: Ears + Drop, Z: Killer + Drop>(
-    alloc: Global,
-    found: &[FoundDomain],
-) -> Result<Parts<M, E, Z>, NoMemory>
+fn make_parts<G: Guests>(alloc: Global, found: &[FoundDomain]) -> Result<Parts<G>, NoMemory>
     requires few { length found.now ≤ most_domains }
     requires names { AreDistinct name_of found.now }
     requires uuids { AreDistinct (λ d. d.uuid) found.now }
@@ -75,15 +72,15 @@ struct StoreCell<F: Files + Drop, K: Opening> {
 }
 
 // Puts the cells together, and their first passes.
-fn joined<F: Files + Drop, K: Opening, M: Monitor + Drop, E: Ears + Drop, Z: Killer + Drop, G>(
-    parts: Parts<M, E, Z>,
+fn joined<F: Files + Drop, K: Opening, G: Guests>(
+    parts: Parts<G>,
     kept: StoreCell<F, K>,
     guests: G,
     statuses: ListOf<Option<Status>>,
-) -> Opened<F, K, M, E, Z, G>
+) -> Opened<F, K, G>
     requires list { IsIdle listing.meaning parts.list_pass }
     requires store { IsIdle (storing.meaning F.told) kept.pass }
-    ensures row { result.row ≡ record { list = parts.list_pass; store = kept.pass; domains = parts.slots.passes; guests = guests } }
+    ensures row { result.row ≡ record { list = parts.list_pass; store = kept.pass; domains = parts.slots.passes; guests = guests; unkept = 0 } }
     ensures list { result.cells.list ≡ parts.list }
     ensures store { result.cells.store ≡ kept.store }
     ensures domains { result.cells.domains.items ≡ parts.slots.domains }
@@ -105,6 +102,7 @@ fn joined<F: Files + Drop, K: Opening, M: Monitor + Drop, E: Ears + Drop, Z: Kil
         RestingPass::new(pass, PassState::Idle),
         Passes::of(passes.into_vec()),
         guests,
+        0,
     );
     let cells = Cells {
         list,
@@ -121,11 +119,11 @@ fn joined<F: Files + Drop, K: Opening, M: Monitor + Drop, E: Ears + Drop, Z: Kil
 }
 
 // Makes the cells of a store that was opened. Without memory its files come back, and the maker of guests.
-fn make_cells<F: Files + Drop, K: Opening, M: Monitor + Drop, E: Ears + Drop, Z: Killer + Drop, G>(
+fn make_cells<F: Files + Drop, K: Opening, G: Guests>(
     alloc: Global,
     store: OpenStore<F, K>,
     guests: G,
-) -> Result<Opened<F, K, M, E, Z, G>, (F, G)>
+) -> Result<Opened<F, K, G>, (F, G)>
     requires few { length store.domains ≤ most_domains }
     requires names { AreDistinct name_of store.domains }
     requires uuids { AreDistinct (λ d. d.uuid) store.domains }
@@ -134,6 +132,7 @@ fn make_cells<F: Files + Drop, K: Opening, M: Monitor + Drop, E: Ears + Drop, Z:
     ensures cells { IfOk result (λ opened. IsOf opened.cells.list opened.cells.store opened.cells.domains.items opened.row) }
     ensures first { IfOk result (λ opened. IsFirstRow F.told store.domains store.keeper opened.row) }
     ensures guests { IfOk result (λ opened. opened.row.guests ≡ guests) }
+    ensures unkept { IfOk result (λ opened. opened.row.unkept ≡ 0) }
     ensures starts { IfOk result (λ opened. opened.starts ≡ spec.starts_of store.domains) }
     ensures statuses { IfOk result (λ opened. opened.statuses ≡ store.finds.statuses) }
     ensures room { IfOk result (λ opened. most_domains ≤ opened.room) }
@@ -167,22 +166,16 @@ fn make_cells<F: Files + Drop, K: Opening, M: Monitor + Drop, E: Ears + Drop, Z:
 /// Opens a driver on the directory of these files: its list has the domains that are found there, by rising name, in slots 0,
 /// 1, .., and each slot its domain, with its stored definition and its flag. Each file of version 1 is put again, in the order
 /// of the files' names. Where the driver isn't opened the files and the maker of guests come back.
-pub fn open_cells<
-    F: Files + Drop,
-    K: Opening,
-    M: Monitor + Drop,
-    E: Ears + Drop,
-    Z: Killer + Drop,
-    G,
->(
+pub fn open_cells<F: Files + Drop, K: Opening, G: Guests>(
     alloc: Global,
     files: F,
     guests: G,
-) -> Result<Opened<F, K, M, E, Z, G>, (F, G, OrNoMemory<DriverFault>)>
+) -> Result<Opened<F, K, G>, (F, G, OrNoMemory<DriverFault>)>
     requires sound { K.sound → IsSureAt (F.told files) }
     ensures ok { IfOk result (λ opened. HasCells F.told files opened.row opened.starts opened.statuses) }
     ensures cells { IfOk result (λ opened. IsOf opened.cells.list opened.cells.store opened.cells.domains.items opened.row) }
     ensures maker { IfOk result (λ opened. opened.row.guests ≡ guests) }
+    ensures unkept { IfOk result (λ opened. opened.row.unkept ≡ 0) }
     ensures room { IfOk result (λ opened. most_domains ≤ opened.room) }
     ensures err { IfErr result (λ e. IsUnopened F.told F.faults K.sound files e.2 e.0) }
     ensures back { IfErr result (λ e. e.1 ≡ guests) }

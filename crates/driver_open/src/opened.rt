@@ -3,22 +3,15 @@ use crate::histories::HistoryRoom;
 use def_keeper::Opening;
 use driver_cells::{Cells, Row};
 use files_disk::Files;
-use monitor_link::{Ears, Killer, Monitor};
+use monitor_link::Guests;
 use virt_types::{ListOf, RequestList, Status};
 
 /// A driver whose store was opened: its cells, the first pass of each, and what is to be done at once.
-pub struct Opened<
-    F: Files + Drop,
-    K: Opening,
-    M: Monitor + Drop,
-    E: Ears + Drop,
-    Z: Killer + Drop,
-    G,
-> {
+pub struct Opened<F: Files + Drop, K: Opening, G: Guests> {
     /// The list of domains, the store, and the domain of each slot.
-    pub cells: Cells<F, K, M, E, Z>,
+    pub cells: Cells<F, K, G>,
     /// The first pass of each of them, with all its parts, and the maker of guests.
-    pub row: Row<F, K, M, E, Z, G>,
+    pub row: Row<F, K, G>,
     /// The requests that start the domains which are to be started, by rising name.
     pub starts: RequestList,
     /// What each status file told, in the order of their names; none where one told nothing.

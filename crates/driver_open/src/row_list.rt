@@ -9,30 +9,23 @@ ghost use Rattle.pass_rows.specs.Rows.{HasRowParts, HasSplit, IsIdleRow, IsOf, K
 use def_keeper::{Keeper, Opening};
 use driver_cells::{Cells, DomainCell, Row};
 use files_disk::Files;
-use monitor_link::{Ears, Guests, Killer, Monitor};
+use monitor_link::Guests;
 use object_list::ObjectList;
 use pass_rows::RowListOf;
 use std::alloc::Global;
 use virt_types::NoMemory;
 
 /// Rows of a driver, with room for more.
-pub type RowList<F, K, M, E, Z, G> = RowListOf<ObjectList, Keeper<F, K>, DomainCell<M, E, Z>, G>;
+pub type RowList<F, K, G> = RowListOf<ObjectList, Keeper<F, K>, DomainCell<G>, G>;
 
 /// Makes so many rows of this one: itself, and new ones, whose passes are cut off its own. Where there is no memory, or no
 /// maker of guests for a new row, it comes back with the same passes.
-pub fn more<
-    F: Files + Drop,
-    K: Opening,
-    M: Monitor + Drop,
-    E: Ears + Drop,
-    Z: Killer + Drop,
-    G: Guests + Drop,
->(
+pub fn more<F: Files + Drop, K: Opening, G: Guests + Drop>(
     alloc: Global,
-    cells: &Cells<F, K, M, E, Z>,
-    row: Row<F, K, M, E, Z, G>,
+    cells: &Cells<F, K, G>,
+    row: Row<F, K, G>,
     rows: u32,
-) -> Result<RowList<F, K, M, E, Z, G>, (Row<F, K, M, E, Z, G>, NoMemory)>
+) -> Result<RowList<F, K, G>, (Row<F, K, G>, NoMemory)>
     requires some { 1 ≤ rows }
     requires own { IsOf cells.now.list cells.now.store cells.now.domains.items row }
     requires parts { HasRowParts rows row }

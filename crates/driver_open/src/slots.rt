@@ -6,22 +6,22 @@ ghost use Rattle.driver_open.specs.Slots.{AreFirst, IsPushed, cells_of, found_ce
 
 use driver_cells::{DomainCell, DomainObj};
 use driver_store::FoundDomain;
-use monitor_link::{Ears, Killer, Monitor};
+use monitor_link::Guests;
 use pass_rows::{PassState, RestingPass};
 use std::alloc::Global;
 use virt_types::{DomainDef, ListOf, MOST_DOMAINS, NoMemory, TryCopy};
 
 /// The domains in the slots, and the first pass of each.
 #[derive(Drop)]
-pub(crate) struct Slots<M: Monitor + Drop, E: Ears + Drop, Z: Killer + Drop> {
-    pub(crate) domains: ListOf<DomainObj<M, E, Z>>,
-    pub(crate) passes: ListOf<RestingPass<DomainCell<M, E, Z>>>,
+pub(crate) struct Slots<G: Guests> {
+    pub(crate) domains: ListOf<DomainObj<G>>,
+    pub(crate) passes: ListOf<RestingPass<DomainCell<G>>>,
 }
 
 // Makes the domain of the next slot, and its first pass.
-fn push<M: Monitor + Drop, E: Ears + Drop, Z: Killer + Drop>(
+fn push<G: Guests>(
     alloc: Global,
-    slots: &mut Slots<M, E, Z>,
+    slots: &mut Slots<G>,
     stored: Option<DomainDef>,
     autostart: bool,
 ) -> Result<(), NoMemory>
@@ -35,9 +35,9 @@ fn push<M: Monitor + Drop, E: Ears + Drop, Z: Killer + Drop>(
 }
 
 // The same for a domain that was found.
-fn push_found<M: Monitor + Drop, E: Ears + Drop, Z: Killer + Drop>(
+fn push_found<G: Guests>(
     alloc: Global,
-    slots: &mut Slots<M, E, Z>,
+    slots: &mut Slots<G>,
     domain: &FoundDomain,
 ) -> Result<(), NoMemory>
     ensures { OnOk result (IsPushed (found_cell domain.now) slots.old.domains slots.new.domains slots.old.passes slots.new.passes) }
@@ -47,10 +47,10 @@ fn push_found<M: Monitor + Drop, E: Ears + Drop, Z: Killer + Drop>(
 }
 
 /// The domains that were found, in slots 0, 1, .., and vacant ones in the others.
-pub(crate) fn make_slots<M: Monitor + Drop, E: Ears + Drop, Z: Killer + Drop>(
+pub(crate) fn make_slots<G: Guests>(
     alloc: Global,
     found: &[FoundDomain],
-) -> Result<Slots<M, E, Z>, NoMemory>
+) -> Result<Slots<G>, NoMemory>
     requires { length found.now ≤ most_domains }
     ensures { IfOk result (λ slots. AreFirst (cells_of found.now) slots.domains slots.passes) }
 {

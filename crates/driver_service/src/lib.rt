@@ -5,6 +5,6 @@ mod saying;
 mod service;
 mod serving;
 
-pub use driver::{Books, Driver, DriverFault, Maker, MakerOf, Outcome, Row, RowList, unkept_of};
+pub use driver::{Books, Driver, DriverFault, Outcome, Row, RowList, unkept_of};
 pub use service::DriverService;
 pub use serving::is_served;

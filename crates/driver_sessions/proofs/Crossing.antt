@@ -12,22 +12,12 @@ use Rattle.monitor_link.specs.declared.link.Ears as ears
 use Rattle.monitor_link.specs.declared.link.Guests as guests
 use Rattle.monitor_link.specs.declared.link.Killer as killer
 use Rattle.monitor_link.specs.declared.link.Monitor as monitor
-use Rattle.driver_crossing.specs.Below.row_desk.contracts.maker.MakerOf
-use Rattle.driver_crossing.specs.Below.row_desk.contracts.maker.MakerOfMaker.TheImpl as maker_of
-use Rattle.driver_crossing.specs.Below.row_desk.declared.maker.Maker as making
 use Rattle.six_rows.proofs.Below.row_session.connection.SixRows.TheSendSync as six
 
 module _ (F K G M E Z : RattleType) (f : files.Ghosts F.Denot) (k : opening.Ghosts K.Denot) (g : guests.Ghosts G.Denot M.Denot E.Denot Z.Denot) (m : monitor.Ghosts M.Denot) (e : ears.Ghosts E.Denot) (z : killer.Ghosts Z.Denot)
     (sf : IsSend F) (sg : IsSend G) (sm : IsSend M) (se : IsSend E) (sz : IsSend Z) where
-  -- what makes guests
-  abbrev Making : RattleType
-  Making = MakerOf.the_row G M E Z
-
-  abbrev makes : making.Ghosts Making.Denot M.Denot E.Denot Z.Denot
-  makes = maker_of.ghosts G M E Z g maker_of.no_dict m maker_of.no_dict e maker_of.no_dict z maker_of.no_dict maker_of.no_dict maker_of.no_dict maker_of.no_dict
-
-  pub seated_send : (C : RattleType) → IsSend C → IsSend (Seated.the_row F K Making C M E Z f k makes m e z)
+  pub seated_send : (C : RattleType) → IsSend C → IsSend (Seated.the_row F K G C M E Z f k g m e z)
   seated_send C sc =
-      let T = seated.the_type F K Making C M E Z f k makes m e z in
-      view_send (seated.the_row F K Making C M E Z f k makes m e z) _ _ _ _ (recorded_send (seated.the_field F K Making C M E Z f k makes m e z).row _ _ T.to_one (struct_send (struct.shape T)
+      let T = seated.the_type F K G C M E Z f k g m e z in
+      view_send (seated.the_row F K G C M E Z f k g m e z) _ _ _ _ (recorded_send (seated.the_field F K G C M E Z f k g m e z).row _ _ T.to_one (struct_send (struct.shape T)
       (six.the_field_send _ (row_send F K G M E Z f k g m e z sf sg sm se sz), (sc, tt))))

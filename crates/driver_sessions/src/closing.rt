@@ -11,7 +11,7 @@ use crate::seats::{DriverRow, DriverRows};
 use crate::serving::serve_all;
 use crate::session::{Served, Session};
 use def_keeper::Opening;
-use driver_crossing::{Books, Driver, MakerOf};
+use driver_crossing::{Books, Driver, ThreadGuests};
 use files_disk::Files;
 use monitor_link::Guests;
 use packet::{Sink, Source};
@@ -39,7 +39,7 @@ pub struct Left<F, C> {
 
 // Closes a driver with all of its rows. None where one of their passes has no ticket left.
 fn close_all<F: Files + Drop, K: Opening, G: Guests + Drop, C: Drop>(
-    driver: Driver<F, K, MakerOf<G>>,
+    driver: Driver<F, K, G>,
     rows: DriverRows<F, K, G>,
     served: Vec<C>,
 ) -> Option<Left<F, C>>
@@ -71,7 +71,7 @@ fn rows_for(sessions: usize) -> u32
 
 // The rows of so many sessions, which this one becomes. None where there is no memory, or no maker of guests for a new row.
 fn share_out<F: Files + Drop, K: Opening, G: Guests + Drop>(
-    driver: &Driver<F, K, MakerOf<G>>,
+    driver: &Driver<F, K, G>,
     row: DriverRow<F, K, G>,
     sessions: usize,
 ) -> Option<DriverRows<F, K, G>>
@@ -80,7 +80,7 @@ fn share_out<F: Files + Drop, K: Opening, G: Guests + Drop>(
     requires whole { IsWhole (row ∷ []) }
     requires some { 1 ≤ sessions }
     requires few { sessions ≤ 1000 }
-    ensures made { IfSome result (λ rows. BecomesMany F.told (λ maker. G.faults maker.guests) (6 * sessions) row rows.list) }
+    ensures made { IfSome result (λ rows. BecomesMany F.told G.faults (6 * sessions) row rows.list) }
     ensures six_each { IfSome result (λ rows. length rows.list ≡ 6 * sessions) }
     ensures own { IfSome result (λ rows. All (IsRowOf driver.now) rows.list) }
     ensures ready { IfSome result (λ rows. All IsReadyRow rows.list) }
@@ -97,7 +97,7 @@ fn serve_by<
     R: Threads + Wait + Sync,
     F: Files + Drop + Send,
     K: Opening + Send + Sync,
-    G: Guests + Drop + Send,
+    G: ThreadGuests + Drop + Send,
     S: Source + Drop + Send,
     O: Sink + Drop + Send,
     N: Random + Drop + Send,
@@ -105,7 +105,7 @@ fn serve_by<
 >(
     rt: &R,
     alloc: Global,
-    driver: Driver<F, K, MakerOf<G>>,
+    driver: Driver<F, K, G>,
     rows: DriverRows<F, K, G>,
     sessions: Vec<Session<S, O, N, T>>,
 ) -> Option<Left<F, Served<S, O, N, T>>>
@@ -114,7 +114,7 @@ fn serve_by<
     requires own { All (IsRowOf driver) rows.list }
     requires ready { All IsReadyRow rows.list }
     requires whole { IsWhole rows.list }
-    ensures { IfSome result (λ left. HasServedBy F.told K.sound F.faults (λ maker. G.faults maker.guests) G.E.ends G.E.faults G.E.unheard S.left S.faults O.held O.faults N.drawn driver rows.list
+    ensures { IfSome result (λ left. HasServedBy F.told K.sound F.faults G.faults G.E.ends G.E.faults G.E.unheard S.left S.faults O.held O.faults N.drawn driver rows.list
         sessions.items left.served.items left.files left.books.list left.books.store left.books.cells.items) }
 {
     match serve_all(rt, alloc, &driver, rows, sessions) {
@@ -125,13 +125,13 @@ fn serve_by<
 
 /// Serves all sessions over a driver at once, each in a thread of its own and by six rows that are cut off this one, which is
 /// all of the driver's rows. Then the driver is closed with all rows. None where there are no sessions or more than a
-/// thousand, where no maker of guests is to be had for a new row, where a pass of the rows has no ticket left in the end, or
+/// thousand, where there is no maker of guests for a new row, where a pass of the rows has no ticket left in the end, or
 /// where there is no memory.
 pub fn serve_and_close<
     R: Threads + Wait + Sync,
     F: Files + Drop + Send,
     K: Opening + Send + Sync,
-    G: Guests + Drop + Send,
+    G: ThreadGuests + Drop + Send,
     S: Source + Drop + Send,
     O: Sink + Drop + Send,
     N: Random + Drop + Send,
@@ -139,14 +139,14 @@ pub fn serve_and_close<
 >(
     rt: &R,
     alloc: Global,
-    driver: Driver<F, K, MakerOf<G>>,
+    driver: Driver<F, K, G>,
     row: DriverRow<F, K, G>,
     sessions: Vec<Session<S, O, N, T>>,
 ) -> Option<Left<F, Served<S, O, N, T>>>
     requires own { IsRowOf driver row }
     requires ready { IsReadyRow row }
     requires whole { IsWhole (row ∷ []) }
-    ensures { IfSome result (λ left. HasServedAll F.told K.sound F.faults (λ maker. G.faults maker.guests) G.E.ends G.E.faults G.E.unheard S.left S.faults O.held O.faults N.drawn driver row
+    ensures { IfSome result (λ left. HasServedAll F.told K.sound F.faults G.faults G.E.ends G.E.faults G.E.unheard S.left S.faults O.held O.faults N.drawn driver row
         sessions.items left.served.items left.files left.books.list left.books.store left.books.cells.items) }
 {
     let count = sessions.len();

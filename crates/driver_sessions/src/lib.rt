@@ -7,7 +7,7 @@ mod serving;
 mod session;
 
 pub use closing::{Left, serve_and_close};
-pub use driver_crossing::{Driver, MakerOf};
+pub use driver_crossing::Driver;
 pub use seats::{DriverRow, DriverRows};
 pub use serving::serve_all;
 pub use session::{Served, Session};

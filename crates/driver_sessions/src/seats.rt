@@ -4,42 +4,28 @@ ghost use Rattle.std.specs.Vec.{vec_capacity};
 ghost use Rattle.driver_sessions.specs.Seats.{holders_of, rows_of};
 
 use def_keeper::Opening;
-use driver_crossing::{Maker, MakerOf, Row, RowList};
+use driver_crossing::{Row, RowList};
 use files_disk::Files;
 use monitor_link::Guests;
 use six_rows::{SixRows, put_six, take_six};
 use std::marker::Model;
 
 /// A row of a driver.
-pub type DriverRow<F, K, G> = Row<
-    F,
-    K,
-    <G as Guests>::M,
-    <G as Guests>::E,
-    <G as Guests>::Z,
-    MakerOf<G>,
->;
+pub type DriverRow<F, K, G> = Row<F, K, G>;
 
 /// Rows of it, with room for more.
-pub type DriverRows<F, K, G> = RowList<
-    F,
-    K,
-    <G as Guests>::M,
-    <G as Guests>::E,
-    <G as Guests>::Z,
-    MakerOf<G>,
->;
+pub type DriverRows<F, K, G> = RowList<F, K, G>;
 
 /// Somebody with six rows of a driver.
 #[derive(Drop)]
-pub(crate) struct Seated<F: Files + Drop, K: Opening, G: Maker + Drop, C> {
+pub(crate) struct Seated<F: Files + Drop, K: Opening, G: Guests + Drop, C> {
     /// The rows.
-    pub(crate) rows: SixRows<Row<F, K, G::M, G::E, G::Z, G>>,
+    pub(crate) rows: SixRows<Row<F, K, G>>,
     /// Who has them.
     pub(crate) holder: C,
 }
 
-impl<F: Files + Drop, K: Opening, G: Maker + Drop, C> Model for Seated<F, K, G, C> {
+impl<F: Files + Drop, K: Opening, G: Guests + Drop, C> Model for Seated<F, K, G, C> {
     ghost use Rattle.driver_sessions.specs.Seats.{Seat};
 
     ghost Value = { Seat G C };
@@ -48,11 +34,11 @@ impl<F: Files + Drop, K: Opening, G: Maker + Drop, C> Model for Seated<F, K, G, 
 }
 
 /// Each takes six rows, the last one the last six, into room that is there. No row is left.
-pub(crate) fn seat_all<F: Files + Drop, K: Opening, G: Maker + Drop, C: Drop>(
-    rows: RowList<F, K, G::M, G::E, G::Z, G>,
+pub(crate) fn seat_all<F: Files + Drop, K: Opening, G: Guests + Drop, C: Drop>(
+    rows: RowList<F, K, G>,
     holders: Vec<C>,
     room: Vec<Seated<F, K, G, C>>,
-) -> (RowList<F, K, G::M, G::E, G::Z, G>, Vec<Seated<F, K, G, C>>)
+) -> (RowList<F, K, G>, Vec<Seated<F, K, G, C>>)
     requires six_each { length rows.list ≡ 6 * vec_len holders }
     requires none { room.items ≡ [] }
     requires room { vec_len holders ≤ vec_capacity room }
@@ -73,11 +59,11 @@ pub(crate) fn seat_all<F: Files + Drop, K: Opening, G: Maker + Drop, C: Drop>(
 }
 
 /// All give their rows back, the last one first, into room that is there.
-pub(crate) fn unseat_all<F: Files + Drop, K: Opening, G: Maker + Drop, C: Drop>(
-    rows: RowList<F, K, G::M, G::E, G::Z, G>,
+pub(crate) fn unseat_all<F: Files + Drop, K: Opening, G: Guests + Drop, C: Drop>(
+    rows: RowList<F, K, G>,
     seats: Vec<Seated<F, K, G, C>>,
     room: Vec<C>,
-) -> (RowList<F, K, G::M, G::E, G::Z, G>, Vec<C>)
+) -> (RowList<F, K, G>, Vec<C>)
     requires empty { rows.list ≡ [] }
     requires rows { 6 * vec_len seats ≤ rows.room }
     requires none { room.items ≡ [] }

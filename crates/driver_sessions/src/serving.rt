@@ -9,7 +9,7 @@ ghost use Rattle.driver_sessions.specs.Serving.{AreServed, IsServed, MayServe};
 use crate::seats::{DriverRows, Seated, seat_all, unseat_all};
 use crate::session::{Served, Session};
 use def_keeper::Opening;
-use driver_crossing::{Driver, DriverService, Maker, MakerOf};
+use driver_crossing::{Driver, DriverService, ThreadGuests};
 use files_disk::Files;
 use monitor_link::Guests;
 use packet::{Sink, Source};
@@ -25,7 +25,7 @@ fn serve_one<
     R: Wait,
     F: Files + Drop,
     K: Opening,
-    G: Maker + Drop,
+    G: Guests + Drop,
     S: Source,
     O: Sink,
     N: Random,
@@ -73,7 +73,7 @@ fn serve_one<
     }
 }
 
-impl<F: Files + Drop, K: Opening, G: Maker + Drop, S: Source, O: Sink, N: Random, T: Gate> Work<
+impl<F: Files + Drop, K: Opening, G: Guests + Drop, S: Source, O: Sink, N: Random, T: Gate> Work<
     Driver<F, K, G>,
     Seated<F, K, G, Served<S, O, N, T>>,
 > for Seated<F, K, G, Session<S, O, N, T>> {
@@ -98,18 +98,18 @@ fn serve_seated<
     R: Threads + Wait + Sync,
     F: Files + Drop + Send,
     K: Opening + Send + Sync,
-    G: Guests + Drop + Send,
+    G: ThreadGuests + Drop + Send,
     S: Source + Drop + Send,
     O: Sink + Drop + Send,
     N: Random + Drop + Send,
     T: Gate + Drop + Send,
 >(
     rt: &R,
-    driver: &Driver<F, K, MakerOf<G>>,
-    all: Vec<Seated<F, K, MakerOf<G>, Session<S, O, N, T>>>,
-) -> Result<Vec<Seated<F, K, MakerOf<G>, Served<S, O, N, T>>>, AllocError>
+    driver: &Driver<F, K, G>,
+    all: Vec<Seated<F, K, G, Session<S, O, N, T>>>,
+) -> Result<Vec<Seated<F, K, G, Served<S, O, N, T>>>, AllocError>
     requires { All (λ one. MayServe driver.now one.rows) all.items }
-    ensures { IfOk result (λ over. AllZip (IsServed F.told F.faults (λ maker. G.faults maker.guests) G.E.ends G.E.faults G.E.unheard S.left S.faults O.held O.faults N.drawn driver.now) all.items over.items) }
+    ensures { IfOk result (λ over. AllZip (IsServed F.told F.faults G.faults G.E.ends G.E.faults G.E.unheard S.left S.faults O.held O.faults N.drawn driver.now) all.items over.items) }
 {
     do_all(rt, driver, all)
 }
@@ -132,7 +132,7 @@ pub fn serve_all<
     R: Threads + Wait + Sync,
     F: Files + Drop + Send,
     K: Opening + Send + Sync,
-    G: Guests + Drop + Send,
+    G: ThreadGuests + Drop + Send,
     S: Source + Drop + Send,
     O: Sink + Drop + Send,
     N: Random + Drop + Send,
@@ -140,14 +140,14 @@ pub fn serve_all<
 >(
     rt: &R,
     alloc: Global,
-    driver: &Driver<F, K, MakerOf<G>>,
+    driver: &Driver<F, K, G>,
     rows: DriverRows<F, K, G>,
     sessions: Vec<Session<S, O, N, T>>,
 ) -> Option<(DriverRows<F, K, G>, Vec<Served<S, O, N, T>>)>
     requires six_each { length rows.list ≡ 6 * vec_len sessions }
     requires own { All (IsRowOf driver.now) rows.list }
     requires ready { All IsReadyRow rows.list }
-    ensures served { IfSome result (λ r. AreServed F.told F.faults (λ maker. G.faults maker.guests) G.E.ends G.E.faults G.E.unheard S.left S.faults O.held O.faults N.drawn driver.now
+    ensures served { IfSome result (λ r. AreServed F.told F.faults G.faults G.E.ends G.E.faults G.E.unheard S.left S.faults O.held O.faults N.drawn driver.now
         rows.list sessions.items r.0.list r.1.items) }
     ensures parts { IfSome result (λ r. AllZip KeepsParts rows.list r.0.list) }
     ensures own { IfSome result (λ r. All (IsRowOf driver.now) r.0.list) }

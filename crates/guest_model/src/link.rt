@@ -92,11 +92,7 @@ impl<H: Wait + Copy + Send + Sync> Guests for SimGuests<H> {
 
     ghost faults = { λ _. 0 };
 
-    fn make(
-        &mut self,
-        def: &DomainDef,
-        boot: u64,
-    ) -> Result<Link<SimMonitor<H>, SimEars<H>, SimKiller<H>>, Fault> {
+    fn make(&mut self, def: &DomainDef, boot: u64) -> Result<Link<SimGuests<H>>, Fault> {
         let rt = self.rt;
         let guest = SimGuest::new(self.alloc, def, boot)?;
         let for_monitor = Arc::new(self.alloc, Mutex::new(guest))?;

@@ -4,7 +4,7 @@ use Rattle.boot_status.specs.Reporting.{boot_status}
 use Rattle.domain_spec.specs.declared.mark.Mark.{Mark}
 use Rattle.domain_spec.specs.declared.standing.Base.{Base}
 use Rattle.driver_cells.specs.OfCells.{CellShare, Celled, history_of, meaning, no_mark_lowers}
-use Rattle.driver_cells.specs.OfObjects.{DomainPass}
+use Rattle.driver_cells.specs.OfObjects.{DomainPass, IsLegalHistory}
 use Rattle.driver_cells.specs.OfOutcomes.{state_of}
 use Rattle.history_spec.specs.declared.history.History.{History}
 use Rattle.turn_cell.proofs.Turning.{nothing_changes, turn_tells}
@@ -44,11 +44,17 @@ module _ (before : DomainPass) (turn now : DomainTurn) (after : DomainPass) (ent
   mine_is : after.mine ≡ before.mine
   mine_is = went_silent.1.mine ∙ append-nil before.mine
 
-  pub only_looks : OnlyLooks before after
-  only_looks =
+  pub only_looks : IsLegalHistory (history_of turn.value) → OnlyLooks before after
+  only_looks legal =
+      let seen : IsLegalHistory after.seen = subst (λ (h : DomainHistory). IsLegalHistory h) (sym (seen_is ∙ sym (ap history_of enters.value))) legal in
       let found : now.value ≡ turn.entry = ap (λ (t : DomainTurn). t.value) same ∙ enters.value in
       record {
-        went = went_silent.1;
+        goes = record {
+          went = went_silent.1;
+          legal = λ some. seen;
+          legal_seen = λ l. seen;
+          legal_held = λ l. subst (λ (h : DomainHistory). IsLegalHistory h) (sym went_silent.1.held) l;
+        };
         share = went_silent.0.share ∙ ap (λ (c : Celled). meaning.share c before.number) found ∙ enters.share;
         own = subst (λ (x : ℕ × List (ℕ × Mark ℕ) × DomainHistory). HasMarks meaning x.0 x.1 x.2) (λ i. (sym went_silent.1.same.number i, sym mine_is i, sym seen_is i)) enters.mine;
       }

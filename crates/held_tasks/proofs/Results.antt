@@ -22,7 +22,7 @@ use Rattle.virt_types.specs.Below.types_base.declared.caller.CellName.TheVariant
 use Rattle.virt_types.specs.Below.types_base.declared.caller.Front.{Front}
 use Rattle.virt_types.specs.Below.types_base.declared.memory.OrNoMemory.{OrNoMemory}
 use Rattle.virt_types.specs.Below.types_base.declared.memory.OrNoMemory.TheVariants as or
-use Rattle.held_tasks.specs.Counting.{DriverRow}
+use Rattle.driver_cells.specs.Known.{DriverRow}
 use Rattle.held_tasks.specs.Course.{HasServedHeld, IsServed, IsServedIn, RestsAt}
 use Rattle.driver_cells.specs.Known.{known, known_row}
 use Rattle.driver_cells.proofs.Stopping.{no_room, ran_out, stopped}

@@ -20,7 +20,7 @@ use Rattle.row_desk.specs.Views.{StorePass}
 use Rattle.virt_types.specs.declared.ask.GuestEvent.{GuestEvent}
 use Rattle.virt_types.specs.Below.types_base.declared.caller.Front.{Front}
 use Rattle.virt_types.specs.Below.types_base.declared.memory.OrNoMemory.{OrNoMemory}
-use Rattle.held_tasks.specs.Counting.{DriverRow}
+use Rattle.driver_cells.specs.Known.{DriverRow}
 use Rattle.held_tasks.specs.Course.{HasServedHeld, IsServedIn, ListGoes}
 use Rattle.driver_cells.specs.Known.{known, known_row}
 use Rattle.driver_cells.specs.Parts.{KeepsParts, parts_of}

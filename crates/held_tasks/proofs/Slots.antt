@@ -15,8 +15,7 @@ use Rattle.row_desk.specs.Views.{StorePass}
 use Rattle.virt_types.specs.declared.ask.GuestEvent.{GuestEvent}
 use Rattle.virt_types.specs.Below.types_base.declared.caller.Front.{Front}
 use Rattle.list_holds.specs.Released.{LetsGo}
-use Rattle.held_tasks.specs.Counting.{DriverRow}
-use Rattle.held_tasks.specs.declared.counting.CountingMaker.{CountingMaker}
+use Rattle.driver_cells.specs.Known.{DriverRow}
 use Rattle.held_tasks.specs.Course.{IsServedIn, RestsAt}
 use Rattle.held_tasks.specs.Holding.{HoldsSlot}
 use Rattle.held_tasks.specs.Running.{HasServedTask}
@@ -24,10 +23,10 @@ use Rattle.held_tasks.specs.Statuses.{HasReported}
 use Rattle.held_tasks.proofs.Lists.{one_of, value_in}
 
 -- the row of these parts
-abbrev pub row_with : {G : Type 0} → ListPassed → StorePass → List DomainPass → CountingMaker G → DriverRow G
-row_with list store domains guests = record { list = list; store = store; domains = domains; guests = guests }
+abbrev pub row_with : {G : Type 0} → ListPassed → StorePass → List DomainPass → G → ℕ → DriverRow G
+row_with list store domains guests unkept = record { list = list; store = store; domains = domains; guests = guests; unkept = unkept }
 
-module _ {G : Type 0} (slot : ℕ) (list store : TableId) (cells : List TableId) (row : DriverRow G) (can : HoldsSlot slot list store cells row) (l : ListPassed) (s : StorePass) (domains : List DomainPass) (guests : CountingMaker G) (is : row ≡ row_with l s domains guests) (first : List DomainPass) (old : DomainPass) (rest : List DomainPass) (was : domains ≡ first ++ old ∷ rest) (at : length first ≡ slot) where
+module _ {G : Type 0} (slot : ℕ) (list store : TableId) (cells : List TableId) (row : DriverRow G) (can : HoldsSlot slot list store cells row) (l : ListPassed) (s : StorePass) (domains : List DomainPass) (guests : G) (unkept : ℕ) (is : row ≡ row_with l s domains guests unkept) (first : List DomainPass) (old : DomainPass) (rest : List DomainPass) (was : domains ≡ first ++ old ∷ rest) (at : length first ≡ slot) where
   pub domain_idle : IsIdle meaning old
   domain_idle =
       let all : All (IsIdle meaning) domains = subst (λ (r : DriverRow G). All (IsIdle meaning) r.domains) is can.idle in
@@ -45,11 +44,11 @@ keeps_empty old new keeps free fresh = keeps fresh ∙ free
 -- all of it
 module _ {F E G : Type 0} (told : F → Told) (stores : F → ℕ) (maker : G → ℕ) (ends faults : E → ℕ) (unheard : E → Option (List GuestEvent)) where
   pub served_in : (who : Who) (t : Task) (slot : ℕ) (row after : DriverRow G) (o : Outcome) (l l' : ListPassed) (s mid s' : StorePass) (domains domains' before rest : List DomainPass) (old first last new : DomainPass)
-      (guests guests' : CountingMaker G) (r : Reply) (place : Option Front) (seen : Seen) → row ≡ row_with l s domains guests → domains ≡ before ++ old ∷ rest → length before ≡ slot
-      → HasServedTask told ends faults unheard who t s mid (maker guests.maker) (maker guests'.maker) first last r place seen → HasReported told stores t old first last new mid s' guests.unkept guests'.unkept
-      → LetsGo slot seen.front seen.occupied l l' → domains' ≡ before ++ new ∷ rest → after ≡ row_with l' s' domains' guests' → o.reply ≡ r → RestsAt slot place o → IsServedIn told stores maker ends faults unheard who t slot row after o
-  served_in who t slot row after o l l' s mid s' domains domains' before rest old first last new guests guests' r place seen from there at serves reports goes put made says rests =
-      let base : IsServedIn told stores maker ends faults unheard who t slot (row_with l s domains guests) (row_with l' s' domains' guests') o = record {
+      (guests guests' : G) (unkept unkept' : ℕ) (r : Reply) (place : Option Front) (seen : Seen) → row ≡ row_with l s domains guests unkept → domains ≡ before ++ old ∷ rest → length before ≡ slot
+      → HasServedTask told ends faults unheard who t s mid (maker guests) (maker guests') first last r place seen → HasReported told stores t old first last new mid s' unkept unkept'
+      → LetsGo slot seen.front seen.occupied l l' → domains' ≡ before ++ new ∷ rest → after ≡ row_with l' s' domains' guests' unkept' → o.reply ≡ r → RestsAt slot place o → IsServedIn told stores maker ends faults unheard who t slot row after o
+  served_in who t slot row after o l l' s mid s' domains domains' before rest old first last new guests guests' unkept unkept' r place seen from there at serves reports goes put made says rests =
+      let base : IsServedIn told stores maker ends faults unheard who t slot (row_with l s domains guests unkept) (row_with l' s' domains' guests' unkept') o = record {
         old = old;
         first = first;
         last = last;
@@ -58,7 +57,7 @@ module _ {F E G : Type 0} (told : F → Told) (stores : F → ℕ) (maker : G �
         place = place;
         seen = seen;
         domains = record { first = before; rest = rest; was = there; is = put; in_slot = at };
-        serves = subst (λ (x : Reply). HasServedTask told ends faults unheard who t s mid (maker guests.maker) (maker guests'.maker) first last x place seen) (sym says) serves;
+        serves = subst (λ (x : Reply). HasServedTask told ends faults unheard who t s mid (maker guests) (maker guests') first last x place seen) (sym says) serves;
         reports = reports;
         lets_go = goes;
         rests = rests;

@@ -66,16 +66,16 @@ no_more xs ys is = is ∙ append-nil xs
 read_saw : (before after : DomainPass) (status : StatusRead) → HasReadStatus before after status → SawMore before after
 read_saw before after read.NotDue it = absurd it
 read_saw before after (read.Read status) it = record {
-  later = later_went meaning 1 [] before after it.0.went;
-  same = it.0.went.same;
+  later = later_went meaning 1 [] before after it.0.goes.went;
+  same = it.0.goes.went.same;
   share = it.0.share;
-  mine = no_more before.mine after.mine it.0.went.mine;
+  mine = no_more before.mine after.mine it.0.goes.went.mine;
 }
 read_saw before after read.NoMemory it = record {
-  later = later_went meaning 1 [] before after it.went;
-  same = it.went.same;
+  later = later_went meaning 1 [] before after it.goes.went;
+  same = it.goes.went.same;
   share = it.share;
-  mine = no_more before.mine after.mine it.went.mine;
+  mine = no_more before.mine after.mine it.goes.went.mine;
 }
 read_saw before after read.Spent it = saw_no_more before after it
 

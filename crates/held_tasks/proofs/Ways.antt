@@ -26,8 +26,7 @@ use Rattle.virt_types.specs.Below.types_base.declared.caller.CellName.TheVariant
 use Rattle.virt_types.specs.Below.types_base.declared.caller.Front.{Front}
 use Rattle.virt_types.specs.Below.types_base.declared.memory.OrNoMemory.{OrNoMemory}
 use Rattle.held_tasks.specs.Course.{HasServedHeld, IsServedIn}
-use Rattle.held_tasks.specs.Counting.{DriverRow}
-use Rattle.held_tasks.specs.declared.counting.CountingMaker.{CountingMaker}
+use Rattle.driver_cells.specs.Known.{DriverRow}
 use Rattle.driver_cells.specs.Ready.{IsReadyRow}
 use Rattle.driver_cells.proofs.Idle.{has_spent}
 use Rattle.held_tasks.specs.Holding.{HoldsSlot}
@@ -132,10 +131,10 @@ was_not true e h p = cc
 
 -- ---- a row whose pass of the list took a turn
 
-module _ {G : Type 0} (held : ListCall) (slot : ℕ) (at : Front) (answer : Result ℕ (OrNoMemory ListFault)) (before had now l : ListPassed) (s : StorePass) (domains : List DomainPass) (guests : CountingMaker G) (row mid : DriverRow G)
-    (holds : HasHeld held answer at before had) (gave : answer ≡ Ok slot) (from : before ≡ l) (was : row ≡ row_with l s domains guests) (put : now ≡ had) (made : mid ≡ row_with now s domains guests) where
+module _ {G : Type 0} (held : ListCall) (slot : ℕ) (at : Front) (answer : Result ℕ (OrNoMemory ListFault)) (before had now l : ListPassed) (s : StorePass) (domains : List DomainPass) (guests : G) (unkept : ℕ) (row mid : DriverRow G)
+    (holds : HasHeld held answer at before had) (gave : answer ≡ Ok slot) (from : before ≡ l) (was : row ≡ row_with l s domains guests unkept) (put : now ≡ had) (made : mid ≡ row_with now s domains guests unkept) where
   mid_is : mid ≡ record row { list = had }
-  mid_is = made ∙ (ap (λ (p : ListPassed). row_with p s domains guests) put ∙ ap (λ (r : DriverRow G). record r { list = had }) (sym was))
+  mid_is = made ∙ (ap (λ (p : ListPassed). row_with p s domains guests unkept) put ∙ ap (λ (r : DriverRow G). record r { list = had }) (sym was))
 
   list_is : row.list ≡ before
   list_is = ap (λ (r : DriverRow G). r.list) was ∙ sym from

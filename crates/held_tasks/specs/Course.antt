@@ -17,7 +17,7 @@ use Rattle.virt_types.specs.declared.ask.GuestEvent.{GuestEvent}
 use Rattle.virt_types.specs.Below.types_base.declared.caller.CellName.TheVariants as cell
 use Rattle.virt_types.specs.Below.types_base.declared.caller.Front.{Front}
 use Rattle.virt_types.specs.Below.types_base.declared.memory.OrNoMemory.{OrNoMemory}
-use Rattle.held_tasks.specs.Counting.{DriverRow}
+use Rattle.driver_cells.specs.Known.{DriverRow}
 use Rattle.held_tasks.specs.Running.{HasServedTask}
 use Rattle.held_tasks.specs.Statuses.{HasReported}
 
@@ -67,8 +67,8 @@ module _ {G : Type 0} where
       pub seen : Seen
       pub domains : Replaces slot old new before.domains after.domains
       pub serves :
-          HasServedTask told ends faults unheard who t before.store mid (maker before.guests.maker) (maker after.guests.maker) first last o.reply place seen
-      pub reports : HasReported told stores t old first last new mid after.store before.guests.unkept after.guests.unkept
+          HasServedTask told ends faults unheard who t before.store mid (maker before.guests) (maker after.guests) first last o.reply place seen
+      pub reports : HasReported told stores t old first last new mid after.store before.unkept after.unkept
       pub lets_go : LetsGo slot seen.front seen.occupied before.list after.list
       pub rests : RestsAt slot place o
 

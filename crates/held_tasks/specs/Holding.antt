@@ -7,7 +7,7 @@ use Rattle.driver_cells.specs.OfCells.{meaning}
 use Rattle.object_list.specs.Turns.{one_more}
 use Rattle.pass_rows.specs.Resting.{IsIdle}
 use Rattle.pass_rows.specs.Rows.{IsOf}
-use Rattle.held_tasks.specs.Counting.{DriverRow}
+use Rattle.driver_cells.specs.Known.{DriverRow}
 
 -- a row of these cells whose pass of the list holds this slot and no other; the other passes have tickets left and nothing open
 pub record HoldsSlot {G : Type 0} (slot : ℕ) (list store : TableId) (domains : List TableId) (row : DriverRow G) : Type 0 where

@@ -7,20 +7,19 @@ use Rattle.boot_status.specs.declared.outcome.StatusKept.TheVariants as came
 use Rattle.list_replies.specs.Below.domain_requests.declared.task.Task.{Task}
 use Rattle.list_replies.specs.Below.domain_requests.declared.task.Task.TheVariants as task
 use Rattle.driver_cells.specs.OfCells.{meaning}
-use Rattle.driver_cells.specs.OfObjects.{DomainPass}
+use Rattle.driver_cells.specs.OfObjects.{DomainPass, Goes}
 use Rattle.driver_cells.specs.OfOutcomes.{state_of}
 use Rattle.files_disk.specs.Telling.{Told}
 use Rattle.row_desk.specs.Views.{StorePass}
 use Rattle.turn_cell.specs.Known.{HasMarks}
-use Rattle.turn_cell.specs.Turning.{Went}
 use Rattle.held_tasks.specs.Counting.{Counts}
 use Rattle.held_tasks.specs.declared.status.StatusRead.{StatusRead}
 use Rattle.held_tasks.specs.declared.status.StatusRead.TheVariants as read
 
--- a pass took one turn, in which nothing changed. In the history that it saw its marks are just those that it had left by then:
--- so before a call that is the history without the marks of the call
+-- a pass took one turn, in which nothing changed. The history that it saw is legal, and its marks in it are just those that it
+-- had left by then: so before a call that is the history without the marks of the call
 pub record OnlyLooks (before after : DomainPass) : Type 0 where
-  pub went : Went meaning 1 [] before after
+  pub goes : Goes 1 [] before after
   pub share : after.share ≡ before.share
   pub own : HasMarks meaning after.number after.mine after.seen
 

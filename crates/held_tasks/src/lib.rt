@@ -9,8 +9,7 @@ mod slot;
 mod status;
 mod store;
 
-pub use counting::{CountingMaker, Row, unkept_of};
-pub use driver_cells::{Cells, NO_FRONT, Outcome, run_out, state_of};
+pub use counting::unkept_of;
+pub use driver_cells::{Cells, NO_FRONT, Outcome, Row, run_out, state_of};
 pub use laws::{queries_read_now, tasks_answer_requests};
-pub use row_desk::{Maker, MakerOf};
 pub use serving::serve_held;

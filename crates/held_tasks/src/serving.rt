@@ -9,30 +9,29 @@ ghost use Rattle.slot_holds.specs.Holds.{call_of};
 ghost use Rattle.held_tasks.specs.Course.{HasServedHeld};
 ghost use Rattle.held_tasks.specs.Outcomes.{HasTaskOutcome, is_query};
 
-use crate::counting::Row;
 use crate::slot::serve_in_slot;
 use boot_status::Opening;
-use driver_cells::{Cells, Outcome, run_out};
+use driver_cells::{Cells, Outcome, Row, run_out};
 use files_disk::Files;
 use list_holds::hold_slot;
 use list_replies::{Task, reply_to};
+use monitor_link::Guests;
 use pass_rows::{PassState, RestingPass, RowOf};
-use row_desk::Maker;
 use slot_holds::Hold;
 use std::alloc::Global;
 use std::sync::Wait;
 use virt_types::{CellName, Who};
 
 // What becomes of the task.
-fn hold_and_serve<R: Wait, G: Maker, F: Files + Drop, K: Opening>(
+fn hold_and_serve<R: Wait, G: Guests, F: Files + Drop, K: Opening>(
     rt: &R,
     alloc: Global,
-    cells: &Cells<F, K, G::M, G::E, G::Z>,
-    row: Row<F, K, G::M, G::E, G::Z, G>,
+    cells: &Cells<F, K, G>,
+    row: Row<F, K, G>,
     who: Who,
     hold: &Hold,
     task: &Task,
-) -> (Row<F, K, G::M, G::E, G::Z, G>, Outcome)
+) -> (Row<F, K, G>, Outcome)
     requires own { IsOf cells.now.list cells.now.store cells.now.domains.items row }
     requires ready { IsReadyRow row }
     ensures { HasServedHeld F.told F.faults G.faults G.E.ends G.E.faults G.E.unheard who (call_of hold.now) task.now row result.0 result.1 }
@@ -40,18 +39,21 @@ fn hold_and_serve<R: Wait, G: Maker, F: Files + Drop, K: Opening>(
     if !row.is_idle() {
         return (row, run_out(alloc));
     }
-    let (list, store, domains, guests) = row.into_parts();
+    let (list, store, domains, guests, unkept) = row.into_parts();
     let (pass, held, front) = match hold_slot(rt, &cells.list, list.into_pass(), hold) {
         Ok(held) => held,
         Err(pass) => {
             let list = RestingPass::new(pass, PassState::Spent);
-            return (RowOf::of(list, store, domains, guests), run_out(alloc));
+            return (
+                RowOf::of(list, store, domains, guests, unkept),
+                run_out(alloc),
+            );
         }
     };
     match held {
         Ok(slot) => {
             let list = RestingPass::new(pass, PassState::Busy);
-            let row = RowOf::of(list, store, domains, guests);
+            let row = RowOf::of(list, store, domains, guests, unkept);
             serve_in_slot(rt, alloc, cells, row, slot, who, task)
         }
         Err(why) => {
@@ -61,7 +63,7 @@ fn hold_and_serve<R: Wait, G: Maker, F: Files + Drop, K: Opening>(
                 cell: CellName::List,
                 front,
             };
-            (RowOf::of(list, store, domains, guests), outcome)
+            (RowOf::of(list, store, domains, guests, unkept), outcome)
         }
     }
 }
@@ -72,15 +74,15 @@ fn hold_and_serve<R: Wait, G: Maker, F: Files + Drop, K: Opening>(
 /// Where a call began or ended a boot, or changed the state, the operation or the phase of the domain, the status file is
 /// written or removed after the call's last turn of the domain. A fault there is counted in the row; the outcome does not
 /// depend on it.
-pub fn serve_held<R: Wait, G: Maker, F: Files + Drop, K: Opening>(
+pub fn serve_held<R: Wait, G: Guests, F: Files + Drop, K: Opening>(
     rt: &R,
     alloc: Global,
-    cells: &Cells<F, K, G::M, G::E, G::Z>,
-    row: Row<F, K, G::M, G::E, G::Z, G>,
+    cells: &Cells<F, K, G>,
+    row: Row<F, K, G>,
     who: Who,
     hold: &Hold,
     task: &Task,
-) -> (Row<F, K, G::M, G::E, G::Z, G>, Outcome)
+) -> (Row<F, K, G>, Outcome)
     requires own { IsOf cells.now.list cells.now.store cells.now.domains.items row }
     requires ready { IsReadyRow row }
     ensures course { HasServedHeld F.told F.faults G.faults G.E.ends G.E.faults G.E.unheard who (call_of hold.now) task.now row result.0 result.1 }

@@ -3,16 +3,16 @@ ghost use Rattle.std.specs.Prelude.{◌≡◌};
 ghost use Rattle.held_tasks.specs.Course.{IsServedIn, RestsAt};
 ghost use Rattle.held_tasks.specs.Holding.{HoldsSlot};
 
-use crate::counting::{CountingMaker, Row, counted};
+use crate::counting::counted;
 use crate::status::{look, tell};
 use crate::store::{Means, serve_with};
 use boot_status::Opening;
-use driver_cells::{Cells, NO_FRONT, Outcome, Tasked, state_of};
+use driver_cells::{Cells, NO_FRONT, Outcome, Row, Tasked, state_of};
 use files_disk::Files;
 use list_holds::give_back;
 use list_replies::Task;
+use monitor_link::Guests;
 use pass_rows::{RestingPass, RowOf};
-use row_desk::Maker;
 use std::alloc::Global;
 use std::sync::Wait;
 use virt_types::{CellName, Front, Reply, Who};
@@ -39,23 +39,22 @@ fn outcome_at(slot: u32, place: Option<Front>, reply: Reply) -> Outcome
 /// Runs the task in the domain of the slot that the row's pass of the list holds, tells the store what a call changed of the
 /// status of the domain's boot, and releases the slot. The store is told before the release, while no other domain can get the
 /// slot.
-pub(crate) fn serve_in_slot<R: Wait, G: Maker, F: Files + Drop, K: Opening>(
+pub(crate) fn serve_in_slot<R: Wait, G: Guests, F: Files + Drop, K: Opening>(
     rt: &R,
     alloc: Global,
-    cells: &Cells<F, K, G::M, G::E, G::Z>,
-    row: Row<F, K, G::M, G::E, G::Z, G>,
+    cells: &Cells<F, K, G>,
+    row: Row<F, K, G>,
     slot: u32,
     who: Who,
     task: &Task,
-) -> (Row<F, K, G::M, G::E, G::Z, G>, Outcome)
+) -> (Row<F, K, G>, Outcome)
     requires { HoldsSlot slot cells.now.list cells.now.store cells.now.domains.items row }
     ensures { IsServedIn F.told F.faults G.faults G.E.ends G.E.faults G.E.unheard who task.now slot row result.0 result.1 }
 {
-    let (list, store, domains, guests) = row.into_parts();
-    let CountingMaker { maker, unkept } = guests;
+    let (list, store, domains, guests, unkept) = row.into_parts();
     let (pass, others) = domains.take(slot);
     let means = Means {
-        guests: maker,
+        guests,
         store: store.into_pass(),
     };
     let domain = &cells.domains[slot as usize];
@@ -71,10 +70,6 @@ pub(crate) fn serve_in_slot<R: Wait, G: Maker, F: Files + Drop, K: Opening>(
     let store = RestingPass::new(store, rests);
     let rests = state_of(&pass);
     let domains = others.put(pass, rests);
-    let guests = CountingMaker {
-        maker: guests,
-        unkept: counted(unkept, kept),
-    };
-    let row = RowOf::of(list, store, domains, guests);
+    let row = RowOf::of(list, store, domains, guests, counted(unkept, kept));
     (row, outcome_at(slot, place, reply))
 }

@@ -2,6 +2,7 @@
 ghost use Rattle.std.specs.Prelude.{◌≡◌, IfOk};
 ghost use Rattle.boot_status.specs.Reporting.{boot_status};
 ghost use Rattle.driver_cells.specs.OfCells.{history_of};
+ghost use Rattle.driver_cells.specs.OfObjects.{IsLegalHistory};
 ghost use Rattle.driver_cells.specs.OfOutcomes.{state_of};
 ghost use Rattle.held_tasks.specs.Statuses.{HasLooked, HasReadStatus, IsTold};
 ghost use Rattle.turn_cell.specs.Turning.{SamePass};
@@ -10,7 +11,7 @@ use boot_status::{Keeper, KeeperPass, Opening, StatusKept, keep_status, status_o
 use driver_cells::{DomainCell, DomainObj, DomainPass};
 use files_disk::Files;
 use list_replies::Task;
-use monitor_link::{Ears, Killer, Monitor};
+use monitor_link::Guests;
 use std::sync::Wait;
 use turn_cell::{CellOf, Turn, TurnCell};
 use virt_types::{NoMemory, Status};
@@ -28,22 +29,22 @@ pub enum StatusRead {
     Spent,
 }
 
-// The status, as the domain is in this turn.
-fn status_in<M: Monitor + Drop, E: Ears + Drop, Z: Killer + Drop>(
-    turn: &mut Turn<DomainCell<M, E, Z>>,
-) -> Result<Option<Status>, NoMemory>
+// The status, as the domain is in this turn, whose history is legal.
+fn status_in<G: Guests>(turn: &mut Turn<DomainCell<G>>) -> Result<Option<Status>, NoMemory>
+    ensures legal { IsLegalHistory (history_of turn.old.value) }
     ensures status { IfOk result (λ status. status ≡ boot_status (state_of (history_of turn.old.value))) }
     ensures same { turn.new ≡ turn.old }
 {
+    turn.value().holds();
     status_of(turn.value().state())
 }
 
 // Takes a turn of the domain, and reads the status in it.
-fn read_status<R: Wait, M: Monitor + Drop, E: Ears + Drop, Z: Killer + Drop>(
+fn read_status<R: Wait, G: Guests>(
     rt: &R,
-    cell: &TurnCell<DomainCell<M, E, Z>>,
-    pass: DomainPass<M, E, Z>,
-) -> (DomainPass<M, E, Z>, StatusRead)
+    cell: &TurnCell<DomainCell<G>>,
+    pass: DomainPass<G>,
+) -> (DomainPass<G>, StatusRead)
     requires { pass.cell ≡ cell.now }
     ensures read { HasReadStatus pass result.0 result.1 }
     ensures same { SamePass pass result.0 }
@@ -61,12 +62,12 @@ fn read_status<R: Wait, M: Monitor + Drop, E: Ears + Drop, Z: Killer + Drop>(
 }
 
 /// Reads the status of the domain's boot in a turn of the domain, where the task is a call.
-pub(crate) fn look<R: Wait, M: Monitor + Drop, E: Ears + Drop, Z: Killer + Drop>(
+pub(crate) fn look<R: Wait, G: Guests>(
     rt: &R,
-    domain: &DomainObj<M, E, Z>,
-    pass: DomainPass<M, E, Z>,
+    domain: &DomainObj<G>,
+    pass: DomainPass<G>,
     task: &Task,
-) -> (DomainPass<M, E, Z>, StatusRead)
+) -> (DomainPass<G>, StatusRead)
     requires { pass.cell ≡ domain.now }
     ensures looked { HasLooked task.now pass result.0 result.1 }
     ensures same { SamePass pass result.0 }

@@ -7,7 +7,8 @@ use boot_status::{Keeper, KeeperPass, Opening};
 use driver_cells::{DomainObj, DomainPass, Tasked, run_task};
 use files_disk::Files;
 use list_replies::Task;
-use row_desk::{Handed, Maker, RowDesk};
+use monitor_link::Guests;
+use row_desk::{Handed, RowDesk};
 use std::alloc::Global;
 use std::marker::Brand;
 use std::sync::Wait;
@@ -21,16 +22,16 @@ pub(crate) struct Means<F: Files + Drop, K: Opening, G> {
 }
 
 // By a desk that was handed this.
-fn serve_at<R: Wait, G: Maker, F: Files + Drop, K: Opening, P: Handed>(
+fn serve_at<R: Wait, G: Guests, F: Files + Drop, K: Opening, P: Handed>(
     rt: &R,
     alloc: Global,
     cell: &TurnCell<Keeper<F, K>>,
-    domain: &DomainObj<G::M, G::E, G::Z>,
+    domain: &DomainObj<G>,
     means: Means<F, K, G>,
-    pass: DomainPass<G::M, G::E, G::Z>,
+    pass: DomainPass<G>,
     who: Who,
     task: &Task,
-) -> (Means<F, K, G>, DomainPass<G::M, G::E, G::Z>, Tasked)
+) -> (Means<F, K, G>, DomainPass<G>, Tasked)
     requires store { means.store.cell ≡ cell.now }
     requires own { pass.cell ≡ domain.now }
     requires free { pass.share ≡ nothing_kept }
@@ -46,16 +47,16 @@ fn serve_at<R: Wait, G: Maker, F: Files + Drop, K: Opening, P: Handed>(
 }
 
 /// Runs the task in the domain. What it asks, the store, the maker and the guest's monitor answer.
-pub(crate) fn serve_with<R: Wait, G: Maker, F: Files + Drop, K: Opening>(
+pub(crate) fn serve_with<R: Wait, G: Guests, F: Files + Drop, K: Opening>(
     rt: &R,
     alloc: Global,
     cell: &TurnCell<Keeper<F, K>>,
-    domain: &DomainObj<G::M, G::E, G::Z>,
+    domain: &DomainObj<G>,
     means: Means<F, K, G>,
-    pass: DomainPass<G::M, G::E, G::Z>,
+    pass: DomainPass<G>,
     who: Who,
     task: &Task,
-) -> (Means<F, K, G>, DomainPass<G::M, G::E, G::Z>, Tasked)
+) -> (Means<F, K, G>, DomainPass<G>, Tasked)
     requires store { means.store.cell ≡ cell.now }
     requires own { pass.cell ≡ domain.now }
     requires free { pass.share ≡ nothing_kept }

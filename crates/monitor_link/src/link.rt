@@ -71,33 +71,36 @@ pub trait Killer {
     fn kill(&mut self);
 }
 
-/// The three parts of a link to one guest, which may go to different activities.
+/// The three parts of a link to one guest that this maker made, which may go to different activities.
 #[derive(Drop)]
-pub struct Link<M, E, Z> {
+pub struct Link<G: Guests> {
     /// What sends it commands.
-    pub monitor: M,
+    pub monitor: G::M,
     /// What hears its events.
-    pub ears: E,
+    pub ears: G::E,
     /// What ends it.
-    pub killer: Z,
+    pub killer: G::Z,
 }
 
-/// What makes guests.
+/// What makes guests. Whether the parts of their links may go to other threads is said where there are
+/// threads (`ThreadGuests`).
 pub trait Guests {
     /// The monitors of its guests.
-    type M: Monitor + Drop + Send;
+    type M: Monitor + Drop;
 
     /// Their ears.
-    type E: Ears + Drop + Send;
+    type E: Ears + Drop;
 
     /// What ends them.
-    type Z: Killer + Drop + Send;
+    type Z: Killer + Drop;
 
     // How often a guest could not be made.
     ghost faults: { Self → ℕ };
 
     /// Makes a guest of this definition, for the boot of this number.
-    fn make(&mut self, def: &DomainDef, boot: u64) -> Result<Link<Self::M, Self::E, Self::Z>, Fault>
+    fn make(&mut self, def: &DomainDef, boot: u64) -> Result<Link<Self>, Fault>
+    where
+        Self: Sized,
         ensures cause { IfErr result (λ fault. IsFaultCaused fault (faults self.old) (faults self.new)) }
         ensures faults { faults self.old ≤ faults self.new }
         ensures exchanges { IfOk result (λ link. HasNoExchange (Self.M.exchanges link.monitor)) };

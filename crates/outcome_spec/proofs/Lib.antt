@@ -1,4 +1,5 @@
 pub mod LawProofs
+pub mod Sequentially
 pub mod Staying
 pub mod Going
 pub mod Below

@@ -1,5 +1,7 @@
 -- Laws of outcomes, each of which a wrong body would break.
 use Rattle.std.specs.Prelude.{◌≡◌, ℕ, ◌<◌, false, length}
+use Rattle.domain_spec.specs.Fold.{at_base}
+use Rattle.domain_spec.specs.Legal.{IsLegal}
 use Rattle.domain_spec.specs.Read.{read}
 use Rattle.domain_spec.specs.declared.mark.Mark.{Mark}
 use Rattle.virt_types.specs.Front.{is_longer}
@@ -16,6 +18,7 @@ use Rattle.reply_texts.specs.Printed.{told}
 use Rattle.outcome_spec.specs.Read.{IsValue, state_of}
 use Rattle.outcome_spec.specs.Outcomes.{HasOutcome}
 use Rattle.outcome_spec.specs.Rows.{DomainPass, HasGone, KnownRow}
+use Rattle.outcome_spec.specs.Sequential.{IsSequential, standing_before}
 
 -- a call whose pass left no mark has no reply
 abbrev pub RepliesNeedMarks : Type 0
@@ -39,3 +42,9 @@ AnswersStayTrue = (before after later : KnownRow) (asked : Request) (o : Outcome
 abbrev pub ReadsAreOfNow : Type 0
 ReadsAreOfNow = (before after : DomainPass) (q : Query) (front : Front) (said : Reply) → IsValue before after q front said → front ≡ front_of after.seen
     → said ≡ told (read (state_of after.seen) q)
+
+-- a call's reply that rests on a mark of a legal history is the sequential driver's in the state there, with its commands
+abbrev pub RepliesAreSequential : Type 0
+RepliesAreSequential = (before after : DomainPass) (c : Call) (front : Front) (said : Reply) (done : IsDone before after c front said)
+    → IsLegal (at_base after.seen.base) after.seen.marks → front.chapter ≡ after.seen.chapter
+    → IsSequential (standing_before after.seen front.marks) done.mark done.said

@@ -4,6 +4,7 @@ pub mod Histories
 pub mod Asked
 pub mod Slots
 pub mod Done
+pub mod Sequential
 pub mod Read
 pub mod Shown
 pub mod Restored

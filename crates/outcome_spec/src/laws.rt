@@ -1,5 +1,5 @@
 // Laws of outcomes: each function's contract is one, and its body does nothing.
-ghost use Rattle.outcome_spec.specs.Laws.{AnswersStayTrue, MarksAreOfOneRequest, ReadsAreNotFromBefore, ReadsAreOfNow, RepliesNeedMarks};
+ghost use Rattle.outcome_spec.specs.Laws.{AnswersStayTrue, MarksAreOfOneRequest, ReadsAreNotFromBefore, ReadsAreOfNow, RepliesAreSequential, RepliesNeedMarks};
 
 /// A reply without a finished call is none.
 pub fn a_reply_needs_a_mark()
@@ -24,4 +24,9 @@ pub fn answers_stay_true()
 /// A read that came as far as the row has seen is of the state there.
 pub fn reads_are_of_now()
     ensures { ReadsAreOfNow }
+{}
+
+/// A reply is the sequential driver's where its mark stands, if the history that was seen is legal.
+pub fn replies_are_sequential()
+    ensures { RepliesAreSequential }
 {}

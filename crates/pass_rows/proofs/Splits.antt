@@ -70,7 +70,7 @@ module _ {TL BL ML SL TS BS MS SS TD BD MD SD G : Type 0} (L : Meaning TL BL ML 
   row_cut_off : (k : ℕ) (row now new : PassRow BL ML SL BS MS SS BD MD SD G) → now ≡ fewer_row k row → IsCutOffRow L S D now new → IsCutOffRow L S D row new
   row_cut_off k row now new is off =
       let at : IsCutOffRow L S D (fewer_row k row) new = subst (λ (r : PassRow BL ML SL BS MS SS BD MD SD G). IsCutOffRow L S D r new) is off in
-      record { list = cut_off L k row.list new.list at.list; store = cut_off S k row.store new.store at.store; domains = all_cut_off D k row.domains new.domains at.domains }
+      record { list = cut_off L k row.list new.list at.list; store = cut_off S k row.store new.store at.store; domains = all_cut_off D k row.domains new.domains at.domains; unkept = at.unkept }
 
   pub one_more_row : (k : ℕ) (row now new : PassRow BL ML SL BS MS SS BD MD SD G) (done left : List (PassRow BL ML SL BS MS SS BD MD SD G)) → now ≡ fewer_row k row → IsCutOffRow L S D now new → All (IsCutOffRow L S D row) done → left ≡ done ++ new ∷ [] → All (IsCutOffRow L S D row) left
   one_more_row k row now new done left is off all put =

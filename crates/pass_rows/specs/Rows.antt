@@ -1,5 +1,5 @@
--- What contracts see of a row of passes: one of the list, one of the store, and one for each slot of the list; and a maker
--- of guests.
+-- What contracts see of a row of passes: one of the list, one of the store, and one for each slot of the list; a maker of
+-- guests; and the count of the statuses of boots that its calls could not keep.
 use Rattle.std.specs.Prelude.{◌≡◌, ℕ, ◌+◌, ◌-◌, ◌≤◌, List, ◌++◌, ◌∷◌, [], length, map}
 use Rattle.std.specs.List.{All, AllZip}
 use Rattle.atomic_table.specs.Seated.{TableId}
@@ -8,12 +8,13 @@ use Rattle.turn_cell.specs.Passes.{Passed, IsCutOff}
 use Rattle.pass_rows.specs.Cutting.{cell_of, fewer, HasParts}
 use Rattle.pass_rows.specs.Resting.{IsIdle}
 
--- a row: a pass of the list, one of the store, one of the domain in each slot, and what makes guests
+-- a row: a pass of the list, one of the store, one of the domain in each slot, what makes guests, and how many statuses were not kept
 pub record RowView (L S D G : Type 0) : Type 0 where
   pub list : L
   pub store : S
   pub domains : List D
   pub guests : G
+  pub unkept : ℕ
 
 -- a row, where the chapters of the list begin with BL and its marks are ML, and so on
 abbrev pub PassRow : (BL ML SL BS MS SS BD MD SD G : Type 0) → Type 0
@@ -48,11 +49,12 @@ module _ {TL BL ML SL TS BS MS SS TD BD MD SD G : Type 0} (L : Meaning TL BL ML 
     pub domains : All (IsIdle D) row.domains
 
   -- a new row, each pass of which was cut off that of the row: it has seen as much, has another number, and nothing is
-  -- kept for it
+  -- kept for it; no status of the new row is counted
   pub record IsCutOffRow (row new : PassRow BL ML SL BS MS SS BD MD SD G) : Type 0 where
     pub list : IsCutOff L row.list new.list
     pub store : IsCutOff S row.store new.store
     pub domains : AllZip (IsCutOff D) row.domains new.domains
+    pub unkept : new.unkept ≡ 0
 
   -- a row became so many: new ones, and itself, which is the last of them
   pub record IsSplit (count : ℕ) (row : PassRow BL ML SL BS MS SS BD MD SD G) (rows : List (PassRow BL ML SL BS MS SS BD MD SD G)) : Type 0 where

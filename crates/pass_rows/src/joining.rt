@@ -81,6 +81,7 @@ fn join_row<L: Kept + Drop, S: Kept + Drop, D: Kept + Drop, C: CellOf<D>, G: Dro
         store: store_pass,
         domains: Passes { all },
         guests: _,
+        unkept: _,
     } = other;
     glue_on(&mut one.list, list_pass, list);
     glue_on(&mut one.store, store_pass, store);

@@ -97,6 +97,7 @@ fn cut_row<L: Kept + Drop, S: Kept + Drop, D: Kept + Drop, C: CellOf<D>, G>(
             all: cut_off_each(&mut row.domains.all, domains, passes),
         },
         guests,
+        unkept: 0,
     }
 }
 
@@ -127,8 +128,8 @@ fn cut_rows<L: Kept + Drop, S: Kept + Drop, D: Kept + Drop, C: CellOf<D>, G: Dro
 }
 
 impl<L: Kept + Drop, S: Kept + Drop, D: Kept + Drop, G: Guests + Drop> RowOf<L, S, D, G> {
-    /// Makes so many rows of this one: itself, and new ones, whose passes are cut off its own. Where there is no memory, or no
-    /// maker of guests for a new row, it comes back with the same passes.
+    /// Makes so many rows of this one: itself, and new ones, whose passes are cut off its own, and of which no status is
+    /// counted. Where there is no memory, or no maker of guests for a new row, it comes back with the same passes.
     pub fn split<C: CellOf<D>>(
         self,
         list: &TurnCell<L>,

@@ -80,31 +80,31 @@ not_lost e = cc
 no_memory_lost : {X : Type 0} → answer.NoMemory ≡ answer.Lost → X
 no_memory_lost e = cc
 
-module _ {M E Z : Type 0} where
-  made_not_ended : (there : Bool) (r : Result (Link M E Z) Fault) → is_ended_answer (made_answer there r) ≡ false
+module _ {G M E Z : Type 0} where
+  made_not_ended : (there : Bool) (r : Result (Link G M E Z) Fault) → is_ended_answer (made_answer there r) ≡ false
   made_not_ended there (Ok l) = refl
   made_not_ended true (Err fault.Failed) = refl
   made_not_ended false (Err fault.Failed) = refl
   made_not_ended there (Err fault.NoMemory) = refl
 
-  made_linked : (there : Bool) (r : Result (Link M E Z) Fault) → is_some (link_of r) ≡ is_ok_answer (made_answer there r)
+  made_linked : (there : Bool) (r : Result (Link G M E Z) Fault) → is_some (link_of r) ≡ is_ok_answer (made_answer there r)
   made_linked there (Ok l) = refl
   made_linked true (Err fault.Failed) = refl
   made_linked false (Err fault.Failed) = refl
   made_linked there (Err fault.NoMemory) = refl
 
-  made_counted : (ends faults : M → ℕ) (m : M) (r : Result (Link M E Z) Fault) → IsCounted ends faults (Some m) (made_answer true r)
+  made_counted : (ends faults : M → ℕ) (m : M) (r : Result (Link G M E Z) Fault) → IsCounted ends faults (Some m) (made_answer true r)
   made_counted ends faults m (Ok l) = tt
   made_counted ends faults m (Err fault.Failed) = tt
   made_counted ends faults m (Err fault.NoMemory) = tt
 
-  lost_by : (before now : ℕ) (there : Bool) (r : Result (Link M E Z) Fault) → made_answer there r ≡ answer.Lost → IfErr r (λ f. IsFaultCaused f before now) → Rose before now
+  lost_by : (before now : ℕ) (there : Bool) (r : Result (Link G M E Z) Fault) → made_answer there r ≡ answer.Lost → IfErr r (λ f. IsFaultCaused f before now) → Rose before now
   lost_by before now there (Ok l) e cause = not_lost e
   lost_by before now true (Err fault.Failed) e cause = no_memory_lost e
   lost_by before now false (Err fault.Failed) e cause = cause
   lost_by before now there (Err fault.NoMemory) e cause = no_memory_lost e
 
-  lost_of : (exchanges : M → Option (List Exchange)) (there : Bool) (before now : ℕ) (a : Answer) (link : Option (Link M E Z)) → a ≡ answer.Lost → IsMade exchanges there before now a link → Rose before now
+  lost_of : (exchanges : M → Option (List Exchange)) (there : Bool) (before now : ℕ) (a : Answer) (link : Option (Link G M E Z)) → a ≡ answer.Lost → IsMade exchanges there before now a link → Rose before now
   lost_of exchanges there before now a link lost made = lost_by before now there made.made (sym made.answer_is ∙ lost) made.cause
 
 -- an answer of the store needs no count
@@ -170,12 +170,12 @@ module _ {M : Type 0} (ends faults : M → ℕ) (exchanges : M → Option (List 
 
 module _ {M E Z G F : Type 0} (ends faults : M → ℕ) (exchanges : M → Option (List Exchange)) (unmade_count : G → ℕ) (disk : F → Told) (counts : F → ℕ) where
   -- one of them was asked
-  pub record Does (q : Ask) (before after : Option M) (old new : G) (from to : StorePass) (a : Answer) (link : Option (Link M E Z)) : Type 0 where
+  pub record Does (q : Ask) (before after : Option M) (old new : G) (from to : StorePass) (a : Answer) (link : Option (Link G M E Z)) : Type 0 where
     pub guest : SendsToGuest ends faults exchanges q before after a
     pub maker : AsksMaker exchanges unmade_count q (is_some before) old new a link
     pub store : AsksStore disk counts q from to a
 
-  pub fits : (q : Ask) (before after : Option M) (old new : G) (from to : StorePass) (a : Answer) (link : Option (Link M E Z)) → Does q before after old new from to a link → IsAnsweredAs (is_some before) q a
+  pub fits : (q : Ask) (before after : Option M) (old new : G) (from to : StorePass) (a : Answer) (link : Option (Link G M E Z)) → Does q before after old new from to a link → IsAnsweredAs (is_some before) q a
   fits (ask.Command c) None after old new from to a link h = unsent ends faults exchanges c after a h.guest
   fits (ask.Command c) (Some m) after old new from to a link h = tt
   fits (ask.Make d boot) None after old new from to a link h = ap is_ended_answer h.maker.answer_is ∙ made_not_ended false h.maker.made
@@ -189,7 +189,7 @@ module _ {M E Z G F : Type 0} (ends faults : M → ℕ) (exchanges : M → Optio
   fits (ask.WriteImage n k running d bytes) None after old new from to a link h = store_says disk counts (ask.WriteImage n k running d bytes) from to a tt h.store
   fits (ask.WriteImage n k running d bytes) (Some m) after old new from to a link h = store_says disk counts (ask.WriteImage n k running d bytes) from to a tt h.store
 
-  pub linked : (q : Ask) (before after : Option M) (old new : G) (from to : StorePass) (a : Answer) (link : Option (Link M E Z)) → Does q before after old new from to a link → is_some link ≡ comes q (is_ok_answer a)
+  pub linked : (q : Ask) (before after : Option M) (old new : G) (from to : StorePass) (a : Answer) (link : Option (Link G M E Z)) → Does q before after old new from to a link → is_some link ≡ comes q (is_ok_answer a)
   linked (ask.Make d boot) before after old new from to a link h =
       ap is_some h.maker.link_is ∙ (made_linked (is_some before) h.maker.made ∙ sym (ap is_ok_answer h.maker.answer_is))
   linked (ask.Command c) before after old new from to a link h = ap is_some h.maker.1
@@ -198,7 +198,7 @@ module _ {M E Z G F : Type 0} (ends faults : M → ℕ) (exchanges : M → Optio
   linked (ask.Lease network mac) before after old new from to a link h = ap is_some h.maker.1
   linked (ask.WriteImage n k running d bytes) before after old new from to a link h = ap is_some h.maker.1
 
-  pub monitor_stays : (q : Ask) (before after : Option M) (old new : G) (from to : StorePass) (a : Answer) (link : Option (Link M E Z)) → Does q before after old new from to a link → is_some after ≡ is_some before
+  pub monitor_stays : (q : Ask) (before after : Option M) (old new : G) (from to : StorePass) (a : Answer) (link : Option (Link G M E Z)) → Does q before after old new from to a link → is_some after ≡ is_some before
   monitor_stays (ask.Command c) before after old new from to a link h = sent_stays ends faults exchanges c before after a h.guest
   monitor_stays (ask.Make d boot) before after old new from to a link h = ap is_some h.guest
   monitor_stays (ask.Put d on) before after old new from to a link h = ap is_some h.guest
@@ -206,13 +206,13 @@ module _ {M E Z G F : Type 0} (ends faults : M → ℕ) (exchanges : M → Optio
   monitor_stays (ask.Lease network mac) before after old new from to a link h = ap is_some h.guest
   monitor_stays (ask.WriteImage n k running d bytes) before after old new from to a link h = ap is_some h.guest
 
-  make_counted : (after : Option M) (before : Option M) (a : Answer) (r : Result (Link M E Z) Fault) → after ≡ before → a ≡ made_answer (is_some before) r → IsCounted ends faults after a
+  make_counted : (after : Option M) (before : Option M) (a : Answer) (r : Result (Link G M E Z) Fault) → after ≡ before → a ≡ made_answer (is_some before) r → IsCounted ends faults after a
   make_counted None before a r same is = tt
   make_counted (Some n) before a r same is =
       let b : is_some before ≡ true = ap is_some (sym same) in
       subst (IsCounted ends faults (Some n)) (sym (is ∙ ap (λ (t : Bool). made_answer t r) b)) (made_counted ends faults n r)
 
-  pub counted : (q : Ask) (before after : Option M) (old new : G) (from to : StorePass) (a : Answer) (link : Option (Link M E Z)) → Does q before after old new from to a link → IsCounted ends faults after a
+  pub counted : (q : Ask) (before after : Option M) (old new : G) (from to : StorePass) (a : Answer) (link : Option (Link G M E Z)) → Does q before after old new from to a link → IsCounted ends faults after a
   counted (ask.Command c) before after old new from to a link h = command_counted ends faults exchanges c before after a h.guest
   counted (ask.Make d boot) before after old new from to a link h = make_counted after before a h.maker.made h.guest h.maker.answer_is
   counted (ask.Put d on) before after old new from to a link h = store_counted ends faults after a (store_says disk counts (ask.Put d on) from to a tt h.store)
@@ -221,7 +221,7 @@ module _ {M E Z G F : Type 0} (ends faults : M → ℕ) (exchanges : M → Optio
   counted (ask.WriteImage n k running d bytes) before after old new from to a link h = store_counted ends faults after a (store_says disk counts (ask.WriteImage n k running d bytes) from to a tt h.store)
 
   -- it is tied to the store as it was
-  pub serves : (q : Ask) (before after : Option M) (old new : G) (from to : StorePass) (a : Answer) (link : Option (Link M E Z)) (report : List (Ask × Answer)) (first : StorePass)
+  pub serves : (q : Ask) (before after : Option M) (old new : G) (from to : StorePass) (a : Answer) (link : Option (Link G M E Z)) (report : List (Ask × Answer)) (first : StorePass)
       → Does q before after old new from to a link → HasServed disk report first from → HasServed disk (report ++ told (q ∷ []) (a ∷ [])) first to
   serves (ask.Command c) before after old new from to a link report first h s = aside disk report (told (ask.Command c ∷ []) (a ∷ [])) first from to (command_aside c a) h.store s
   serves (ask.Make d boot) before after old new from to a link report first h s = aside disk report (told (ask.Make d boot ∷ []) (a ∷ [])) first from to (make_aside d boot a) h.store s
@@ -231,7 +231,7 @@ module _ {M E Z G F : Type 0} (ends faults : M → ℕ) (exchanges : M → Optio
   serves (ask.WriteImage n k running d bytes) before after old new from to a link report first h s = serves_store disk counts (ask.WriteImage n k running d bytes) a report first from to tt s h.store
 
   -- and to the maker
-  pub makes : (q : Ask) (before after : Option M) (old new : G) (from to : StorePass) (a : Answer) (link : Option (Link M E Z)) (report : List (Ask × Answer)) (first : ℕ)
+  pub makes : (q : Ask) (before after : Option M) (old new : G) (from to : StorePass) (a : Answer) (link : Option (Link G M E Z)) (report : List (Ask × Answer)) (first : ℕ)
       → Does q before after old new from to a link → HasMade report first (unmade_count old) → HasMade (report ++ told (q ∷ []) (a ∷ [])) first (unmade_count new)
   makes (ask.Make d boot) before after old new from to a link report first h s =
       makes_on (ask.Make d boot) a report first (unmade_count old) (unmade_count new) s h.maker.counts
@@ -248,7 +248,7 @@ module _ {M E Z G F : Type 0} (ends faults : M → ℕ) (exchanges : M → Optio
       makes_on (ask.WriteImage n k running d bytes) a report first (unmade_count old) (unmade_count new) s (same_count unmade_count old new h.maker.0) (λ x n e lost. cc)
 
   -- so is the report with this ask
-  pub keeps : (q : Ask) (before after : Option M) (old new : G) (from to : StorePass) (a : Answer) (link : Option (Link M E Z)) (report now : List (Ask × Answer)) (first : StorePass) (count : ℕ)
+  pub keeps : (q : Ask) (before after : Option M) (old new : G) (from to : StorePass) (a : Answer) (link : Option (Link G M E Z)) (report now : List (Ask × Answer)) (first : StorePass) (count : ℕ)
       → SendsToGuest ends faults exchanges q before after a → AsksMaker exchanges unmade_count q (is_some before) old new a link → AsksStore disk counts q from to a → now ≡ report ++ told (q ∷ []) (a ∷ [])
       → HasServed disk report first from × HasMade report count (unmade_count old) → HasServed disk now first to × HasMade now count (unmade_count new)
   keeps q before after old new from to a link report now first count guest maker store is was =

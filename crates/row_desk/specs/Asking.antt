@@ -39,21 +39,21 @@ unmade fault.Failed false = answer.Lost
 unmade fault.Failed true = answer.NoMemory
 unmade fault.NoMemory is_there = answer.NoMemory
 
-module _ {M E Z : Type 0} where
+module _ {G M E Z : Type 0} where
   -- what is answered of a guest that was to be made
-  abbrev pub made_answer : Bool → Result (Link M E Z) Fault → Answer
+  abbrev pub made_answer : Bool → Result (Link G M E Z) Fault → Answer
   made_answer is_there (Ok link) = answer.Ok given.Nothing
   made_answer is_there (Err f) = unmade f is_there
 
   -- and its link
-  abbrev pub link_of : Result (Link M E Z) Fault → Option (Link M E Z)
+  abbrev pub link_of : Result (Link G M E Z) Fault → Option (Link G M E Z)
   link_of (Ok link) = Some link
   link_of (Err f) = None
 
-module _ {M E Z : Type 0} (exchanges : M → Option (List Exchange)) where
+module _ {G M E Z : Type 0} (exchanges : M → Option (List Exchange)) where
   -- a guest was made, with a monitor that was sent nothing yet; or it could not be made, which was counted
-  pub record IsMade (is_there : Bool) (before now : ℕ) (a : Answer) (link : Option (Link M E Z)) : Type 0 where
-    pub made : Result (Link M E Z) Fault
+  pub record IsMade (is_there : Bool) (before now : ℕ) (a : Answer) (link : Option (Link G M E Z)) : Type 0 where
+    pub made : Result (Link G M E Z) Fault
     pub answer_is : a ≡ made_answer is_there made
     pub link_is : link ≡ link_of made
     pub counts : before ≤ now
@@ -61,7 +61,7 @@ module _ {M E Z : Type 0} (exchanges : M → Option (List Exchange)) where
     pub fresh : IfOk made (λ l. HasNoExchange (exchanges l.monitor))
 
   -- guests are made by the maker, and nothing else is
-  abbrev pub AsksMaker : {G : Type 0} → (G → ℕ) → Ask → Bool → G → G → Answer → Option (Link M E Z) → Type 0
+  abbrev pub AsksMaker : (G → ℕ) → Ask → Bool → G → G → Answer → Option (Link G M E Z) → Type 0
   AsksMaker faults (ask.Make d boot) is_there old new a link = IsMade is_there (faults old) (faults new) a link
   AsksMaker faults other is_there old new a link = (new ≡ old) × (link ≡ None)
 

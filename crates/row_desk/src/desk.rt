@@ -9,11 +9,10 @@ ghost use Rattle.domain_obj.specs.OfCells.{told};
 use crate::door::StoreDoor;
 use crate::guests::{make, send};
 use crate::handed::Handed;
-use crate::maker::Maker;
 use crate::report::Report;
 use def_keeper::{Keeper, KeeperPass, Opening};
 use files_disk::Files;
-use monitor_link::Link;
+use monitor_link::{Guests, Link};
 use std::alloc::Global;
 use std::marker::{Model, PhantomData};
 use std::sync::Wait;
@@ -22,14 +21,14 @@ use virt_types::{Answer, Ask};
 
 /// Who answers what a call of a row asks. It has the row's maker of guests and its pass of the store, and gives them back.
 /// At each moment what it was asked of the store since it was made is what the marks of the pass say.
-pub struct RowDesk<'a, R: Wait, G: Maker, F: Files + Drop, K: Opening, P: Handed> {
+pub struct RowDesk<'a, R: Wait, G: Guests, F: Files + Drop, K: Opening, P: Handed> {
     guests: G,
     store: StoreDoor<'a, R, F, K>,
     report: Report,
     of: PhantomData<P>,
 }
 
-impl<'a, R: Wait, G: Maker, F: Files + Drop, K: Opening, P: Handed> Model
+impl<'a, R: Wait, G: Guests, F: Files + Drop, K: Opening, P: Handed> Model
     for RowDesk<'a, R, G, F, K, P> {
     ghost use Rattle.row_desk.specs.Views.{DeskView};
     ghost use Rattle.row_desk.specs.Served.{HasMade, HasServed};
@@ -42,12 +41,12 @@ impl<'a, R: Wait, G: Maker, F: Files + Drop, K: Opening, P: Handed> Model
 }
 
 // Asks whom the ask is for.
-fn ask_whom<'a, R: Wait, G: Maker, F: Files + Drop, K: Opening>(
+fn ask_whom<'a, R: Wait, G: Guests, F: Files + Drop, K: Opening>(
     guests: &mut G,
     store: &mut StoreDoor<'a, R, F, K>,
     monitor: &mut Option<G::M>,
     asked: &Ask,
-) -> (Answer, Option<Link<G::M, G::E, G::Z>>)
+) -> (Answer, Option<Link<G>>)
     ensures guest { SendsToGuest G.M.ends G.M.faults G.M.exchanges asked.now monitor.old monitor.new result.0 }
     ensures maker { AsksMaker G.M.exchanges G.faults asked.now (is_some monitor.old) guests.old guests.new result.0 result.1 }
     ensures store { AsksStore F.told F.faults asked.now store.old store.new result.0 }
@@ -66,7 +65,7 @@ fn ask_whom<'a, R: Wait, G: Maker, F: Files + Drop, K: Opening>(
     }
 }
 
-impl<'a, R: Wait, G: Maker, F: Files + Drop, K: Opening, P: Handed> RowDesk<'a, R, G, F, K, P> {
+impl<'a, R: Wait, G: Guests, F: Files + Drop, K: Opening, P: Handed> RowDesk<'a, R, G, F, K, P> {
     /// A desk with this maker of guests and this pass of the store, which was asked nothing yet.
     pub fn new(
         rt: &'a R,
@@ -90,11 +89,7 @@ impl<'a, R: Wait, G: Maker, F: Files + Drop, K: Opening, P: Handed> RowDesk<'a, 
 
     /// Answers an ask: a command by this monitor, once; where there is none, since the guest has still to be made, Ok without
     /// a value. With the answer that a guest was made comes its link. It may wait for the guest and for the store.
-    pub fn answer(
-        &mut self,
-        monitor: &mut Option<G::M>,
-        asked: &Ask,
-    ) -> (Answer, Option<Link<G::M, G::E, G::Z>>)
+    pub fn answer(&mut self, monitor: &mut Option<G::M>, asked: &Ask) -> (Answer, Option<Link<G>>)
         ensures guest { SendsToGuest G.M.ends G.M.faults G.M.exchanges asked.now monitor.old monitor.new result.0 }
         ensures maker { AsksMaker G.M.exchanges G.faults asked.now (is_some monitor.old) self.old.guests self.new.guests result.0 result.1 }
         ensures store { AsksStore F.told F.faults asked.now self.old.store self.new.store result.0 }

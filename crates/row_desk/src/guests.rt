@@ -2,8 +2,7 @@
 ghost use Rattle.std.specs.Prelude.{◌≡◌};
 ghost use Rattle.row_desk.specs.Asking.{IsMade, IsSent, unmade};
 
-use crate::maker::Maker;
-use monitor_link::{Link, Monitor};
+use monitor_link::{Guests, Link, Monitor};
 use virt_types::{Answer, AnswerValue, Command, DomainDef, Fault};
 
 /// Sends a command to a guest's monitor. Where there is none yet, the command is not sent, and is answered Ok without a
@@ -19,12 +18,12 @@ pub(crate) fn send<M: Monitor>(monitor: &mut Option<M>, command: &Command) -> An
 
 /// Makes a guest, and answers with its link. Where it could not be made, the link was lost. That is no answer of a guest
 /// whose monitor is there already; of such a one it is answered that there is no memory.
-pub(crate) fn make<G: Maker>(
+pub(crate) fn make<G: Guests>(
     guests: &mut G,
     is_there: bool,
     definition: &DomainDef,
     boot: u64,
-) -> (Answer, Option<Link<G::M, G::E, G::Z>>)
+) -> (Answer, Option<Link<G>>)
     ensures { IsMade G.M.exchanges is_there (G.faults guests.old) (G.faults guests.new) result.0 result.1 }
 {
     match guests.make(definition, boot) {

@@ -8,11 +8,9 @@ mod door;
 mod guests;
 mod handed;
 mod laws;
-mod maker;
 mod report;
 
 pub use desk::RowDesk;
 pub use handed::Handed;
 pub use laws::store_asks_have_marks;
-pub use maker::{Maker, MakerOf};
 pub use report::Report;

@@ -1,5 +1,5 @@
 -- What a client took of its source: packets in order, of which it keeps the events.
-use Rattle.std.specs.Prelude.{◌≡◌, ◌+◌, ◌^◌, ◌⊎◌, ℕ, false, true, List, [], ◌∷◌, ◌++◌, length, Option, None, Some}
+use Rattle.std.specs.Prelude.{◌≡◌, ◌+◌, ◌^◌, ◌⊎◌, ℕ, Bool, false, true, List, [], ◌∷◌, ◌++◌, length, Option, None, Some}
 use Rattle.std.specs.Io.KnownBytes.{Consumes, IsAtEnd}
 use Rattle.std.specs.List.{AllByRecursion, filter}
 use Rattle.outside_spec.specs.Faults.{Rose}
@@ -20,6 +20,11 @@ pub record Inflow (S : Type 0) : Type 0 where
   pub rest : List ℕ
   pub taken : ℕ
   pub events : List Packet
+
+-- there are some
+abbrev pub is_there : List Packet → Bool
+is_there [] = false
+is_there (event ∷ events) = true
 
 -- the bytes that were taken and not looked at
 abbrev pub unread : {S : Type 0} → Inflow S → List ℕ

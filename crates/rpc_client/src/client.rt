@@ -3,6 +3,7 @@ ghost use Rattle.std.specs.Prelude.{◌≡◌, ◌≤◌, ◌+◌, IfOk, IfErr, 
 ghost use Rattle.procedure_spec.specs.Arguments.{HasArguments, arguments};
 ghost use Rattle.wire_spec.specs.declared.message.TheConstants.{HEADER_LENGTH, MOST_BYTES};
 ghost use Rattle.rpc_client.specs.Calling.{Answers, FailsOrNoMemory, fault_of, fresh};
+ghost use Rattle.rpc_client.specs.Inflow.{is_there};
 ghost use Rattle.rpc_client.specs.Notes.{GivesNoNote, GivesNote};
 
 use crate::ends::Ends;
@@ -99,6 +100,13 @@ impl<S: Source, K: Sink> Client<S, K> {
             self.fault = Some(*fault);
         }
         note
+    }
+
+    /// Whether an event has come whose note was not given yet.
+    pub fn has_event(&self) -> bool
+        ensures { result ≡ is_there self.now.inflow.events }
+    {
+        !self.ends.inlet.events.is_empty()
     }
 
     /// The two ends.

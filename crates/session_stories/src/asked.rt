@@ -2,7 +2,7 @@
 // payload, which is a text or the domain's name, identifier and number.
 
 /// What a client asks.
-#[derive(Clone, Copy, PartialEq, Eq)]
+#[derive(Clone, Copy)]
 pub(crate) enum Asked {
     /// That the domain be there.
     Define,
@@ -29,7 +29,7 @@ const SUSPEND: &[u8] = b"\0\0\0\x38\x20\0\x80\x86\0\0\0\x01\0\0\0\x22\0\0\0\0\0\
     \0\0\0\x01a\0\0\0\x11\x11\x11\x11\x22\x22\x43\x33\x84\x44\x55\x55\x55\x55\x55\x01\
     \xff\xff\xff\xff";
 
-const INFO: &[u8] = b"\0\0\0\x38\x20\0\x80\x86\0\0\0\x01\0\0\0\x10\0\0\0\0\0\0\0\x01\0\0\0\0\
+const READ_STATE: &[u8] = b"\0\0\0\x38\x20\0\x80\x86\0\0\0\x01\0\0\0\x10\0\0\0\0\0\0\0\x01\0\0\0\0\
     \0\0\0\x01a\0\0\0\x11\x11\x11\x11\x22\x22\x43\x33\x84\x44\x55\x55\x55\x55\x55\x01\
     \xff\xff\xff\xff";
 
@@ -37,23 +37,19 @@ const DESTROY: &[u8] = b"\0\0\0\x38\x20\0\x80\x86\0\0\0\x01\0\0\0\x0c\0\0\0\0\0\
     \0\0\0\x01a\0\0\0\x11\x11\x11\x11\x22\x22\x43\x33\x84\x44\x55\x55\x55\x55\x55\x01\
     \xff\xff\xff\xff";
 
-/// The numbers of the procedures, as packets have them.
-const PROCEDURES: [(u32, Asked); 5] = [
-    (11, Asked::Define),
-    (9, Asked::Start),
-    (34, Asked::Suspend),
-    (16, Asked::Info),
-    (12, Asked::Destroy),
-];
+/// The number of the procedure that reads a state.
+pub(crate) const INFO: u32 = 16;
 
-/// What a reply of this procedure answers.
-pub(crate) fn answered(procedure: u32) -> Option<Asked> {
-    for (number, asked) in PROCEDURES {
-        if number == procedure {
-            return Some(asked);
-        }
+/// The word of what a reply of this procedure answers.
+pub(crate) fn word_of(procedure: u32) -> &'static str {
+    match procedure {
+        11 => "define",
+        9 => "start",
+        34 => "suspend",
+        INFO => "info",
+        12 => "destroy",
+        _ => "another reply",
     }
-    None
 }
 
 impl Asked {
@@ -63,19 +59,8 @@ impl Asked {
             Asked::Define => DEFINE,
             Asked::Start => START,
             Asked::Suspend => SUSPEND,
-            Asked::Info => INFO,
+            Asked::Info => READ_STATE,
             Asked::Destroy => DESTROY,
-        }
-    }
-
-    /// Its word.
-    pub(crate) fn word(self) -> &'static str {
-        match self {
-            Asked::Define => "define",
-            Asked::Start => "start",
-            Asked::Suspend => "suspend",
-            Asked::Info => "info",
-            Asked::Destroy => "destroy",
         }
     }
 }

@@ -5,16 +5,13 @@ use std::sync::Wait;
 use story_guests::{SharedSignals, Signal};
 use types_base::Failed;
 
-/// How many steps a client takes at most from one call to the next.
-const MOST_STEPS: u32 = 100;
-
 /// How often a client repeats calls at most.
 const MOST_REPEATS: u32 = 10_000;
 
 /// What a client says that is done.
 const NOTHING: &[u8] = b"";
 
-/// What a client says, step by step. A step is taken once the reply to the call before it was put.
+/// What a client says, call by call. A call is made once the reply to the one before it was put.
 #[derive(Drop)]
 pub(crate) struct StorySource<H> {
     rt: H,
@@ -47,29 +44,26 @@ impl<H: Wait> StorySource<H> {
 
     // The next call. It is empty where the client is done.
     fn next_call(&mut self) -> &'static [u8] {
-        for _ in 0..MOST_STEPS {
-            let steps = self.steps;
-            let Some(step) = steps.get(self.taken) else {
-                return NOTHING;
-            };
-            let next = self.taken.saturating_add(1);
-            match *step {
-                Step::Call(asked) => {
-                    self.taken = next;
-                    return asked.packet();
-                }
-                Step::Repeat(asked, until) => {
-                    if !self.is_repeated(until) {
-                        self.taken = next;
-                    }
-                    return asked.packet();
-                }
-                Step::Wait(signal, times) => self.signals.wait_for(&self.rt, signal, times),
-                Step::Give(signal) => self.signals.give(signal),
+        let steps = self.steps;
+        match steps.get(self.taken) {
+            Some(Step::Call(asked)) => {
+                self.taken = self.taken.saturating_add(1);
+                asked.packet()
             }
-            self.taken = next;
+            Some(Step::Repeat(asked, until)) => {
+                if !self.is_repeated(*until) {
+                    self.taken = self.taken.saturating_add(1);
+                }
+                asked.packet()
+            }
+            Some(Step::CallAfter(given, awaited, times, asked)) => {
+                self.taken = self.taken.saturating_add(1);
+                self.signals.give(*given);
+                self.signals.wait_for(&self.rt, *awaited, *times);
+                asked.packet()
+            }
+            None => NOTHING,
         }
-        NOTHING
     }
 }
 

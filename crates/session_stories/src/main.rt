@@ -5,47 +5,25 @@
 mod asked;
 mod client;
 mod gate;
+mod lines;
 mod scene;
 mod stage;
 mod stories;
 mod told;
 mod words;
 
-use scene::Scene;
 use stage::play;
-use std::alloc::Global;
 use std::io;
-use std::sync::Wait;
-use std::thread::Threads;
-use stories::{STORIES, Story};
-use told::lines_of;
+use stories::STORIES;
 use types_base::NoMemory;
 
-fn print<R: Print>(rt: &R, title: &str, told: Result<String, NoMemory>) -> io::Result<()> {
-    match told {
-        Ok(told) => println!(rt; "{title}\n{}", told.as_str()),
-        Err(NoMemory) => println!(rt; "{title}\n  out of memory"),
-    }
-}
-
-// What is told of a story, which is played over a driver of its own.
-fn told_of<H: Threads + Wait + Copy + Send + Sync>(
-    rt: H,
-    alloc: Global,
-    story: &Story,
-) -> Result<String, NoMemory> {
-    let scene = Scene::new(rt, alloc, story.manner)?;
-    let sessions = scene.sessions(story.parts)?;
-    match play(&scene, sessions) {
-        Some(served) => lines_of(alloc, served.as_slice()),
-        None => Ok(String::from_str(alloc, "  not closed")?),
-    }
-}
-
 fn main(rt: HostRuntime) -> io::Result<()> {
-    let alloc = rt.alloc();
     for story in STORIES {
-        print(&rt, story.title, told_of(rt, alloc, &story))?;
+        match play(rt, rt.alloc(), story) {
+            Ok(Some(told)) => println!(rt; "{}\n{}", story.title, told.as_str())?,
+            Ok(None) => println!(rt; "{}\n  not closed", story.title)?,
+            Err(NoMemory) => println!(rt; "{}\n  out of memory", story.title)?,
+        }
     }
     Ok(())
 }

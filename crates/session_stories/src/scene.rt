@@ -3,7 +3,7 @@ use crate::client::StorySource;
 use crate::gate::StoryGate;
 use crate::stories::Part;
 use crate::words::CountedWords;
-use driver_sessions::{Served, Session};
+use driver_sessions::Session;
 use guest_model::SimGuests;
 use packet::memory::MemorySink;
 use std::alloc::Global;
@@ -14,14 +14,11 @@ use types_base::NoMemory;
 /// A session of a story.
 pub(crate) type StorySession<H> = Session<StorySource<H>, MemorySink, CountedWords, StoryGate<H>>;
 
-/// One that was served.
-pub(crate) type ServedSession<H> = Served<StorySource<H>, MemorySink, CountedWords, StoryGate<H>>;
-
 /// What is the same for all sessions of a story.
 #[derive(Drop)]
 pub(crate) struct Scene<H> {
-    pub(crate) rt: H,
-    pub(crate) alloc: Global,
+    rt: H,
+    alloc: Global,
     signals: SharedSignals,
     manner: Manner,
 }

@@ -1,52 +1,53 @@
 // The sessions of a story are served over a driver of their own.
-ghost use Rattle.std.specs.Prelude.{◌∷◌, [], IfSome};
-ghost use Rattle.driver_sessions.specs.OfDrivers.{IsReadyRow, IsRowOf, IsWhole};
-
-use crate::scene::{Scene, ServedSession, StorySession};
-use driver_sessions::{Driver, DriverRow, Left, MakerOf, serve_and_close};
+use crate::lines::Lines;
+use crate::scene::Scene;
+use crate::stories::Story;
+use crate::told::told;
+use driver_sessions::{Driver, Session, serve_and_close};
 use files_disk::MemFiles;
-use guest_model::SimGuests;
+use monitor_link::Guests;
+use packet::Source;
+use packet::memory::MemorySink;
 use std::alloc::Global;
 use std::marker::Brand;
 use std::sync::Wait;
 use std::thread::Threads;
-use story_guests::StoryGuests;
+use types_base::{Gate, NoMemory, Random, both};
 
-/// What makes the guests of a story.
-type Makers<H> = StoryGuests<H, SimGuests<H>>;
-
-// Opens a driver without domains. None where there is no memory.
-fn open<H: Wait + Copy + Send + Sync>(
+// What is told of the sessions, once each was served in a thread of its own over a driver without domains, with such guests, and
+// the driver was closed. None where it could not be opened or closed, or there was no memory.
+fn serve<G, S, N, T, H>(
+    rt: &H,
     alloc: Global,
-    guests: Makers<H>,
-) -> Option<
-    (
-        Driver<MemFiles, Brand, MakerOf<Makers<H>>>,
-        DriverRow<MemFiles, Brand, Makers<H>>,
-    ),
->
-    ensures own { IfSome result (λ made. IsRowOf made.0 made.1) }
-    ensures ready { IfSome result (λ made. IsReadyRow made.1) }
-    ensures whole { IfSome result (λ made. IsWhole (made.1 ∷ [])) }
+    guests: G,
+    sessions: Vec<Session<S, MemorySink, N, T>>,
+) -> Option<Lines>
+where
+    G: Guests + Drop + Send,
+    G::M: Send,
+    G::E: Send,
+    G::Z: Send,
+    S: Source + Drop + Send,
+    N: Random + Drop + Send,
+    T: Gate + Drop + Send,
+    H: Threads + Wait + Sync,
 {
-    match Driver::open(alloc, MemFiles::new(alloc), MakerOf { guests }) {
-        Ok(made) => Some(made),
+    match Driver::<MemFiles, Brand, G>::open(alloc, MemFiles::new(alloc), guests) {
+        Ok((driver, row)) => {
+            let left = serve_and_close(rt, alloc, driver, row, sessions)?;
+            Some(told(alloc, left.served.as_slice()))
+        }
         Err(_) => None,
     }
 }
 
-/// Serves the sessions, each in a thread of its own, and closes the driver. None where it could not be closed, or there was no
-/// memory.
+/// Plays a story: a session for each part. None where its driver could not be closed.
 pub(crate) fn play<H: Threads + Wait + Copy + Send + Sync>(
-    scene: &Scene<H>,
-    sessions: Vec<StorySession<H>>,
-) -> Option<Vec<ServedSession<H>>> {
-    let guests = scene.guests().ok()?;
-    let (driver, row) = open(scene.alloc, guests)?;
-    let Left {
-        served,
-        files: _,
-        books: _,
-    } = serve_and_close(&scene.rt, scene.alloc, driver, row, sessions)?;
-    Some(served)
+    rt: H,
+    alloc: Global,
+    story: &Story,
+) -> Result<Option<Lines>, NoMemory> {
+    let scene = Scene::new(rt, alloc, story.manner)?;
+    let (guests, sessions) = both(scene.guests(), scene.sessions(story.parts))?;
+    Ok(serve(&rt, alloc, guests, sessions))
 }

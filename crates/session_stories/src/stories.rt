@@ -3,20 +3,16 @@ use crate::asked::Asked;
 use story_guests::{Manner, Signal, Withheld};
 
 /// What a client does next.
-#[derive(Clone, Copy)]
 pub(crate) enum Step {
     /// It makes this call.
     Call(Asked),
     /// It makes this call once, and then again and again until this signal.
     Repeat(Asked, Signal),
-    /// It waits until this signal was given so often.
-    Wait(Signal, u64),
-    /// It gives this signal.
-    Give(Signal),
+    /// It gives the first signal, waits until the second one was given so often, and then makes this call.
+    CallAfter(Signal, Signal, u64, Asked),
 }
 
 /// What one client does, and where its session is held up.
-#[derive(Clone, Copy)]
 pub(crate) struct Part {
     pub(crate) steps: &'static [Step],
     /// What its session waits for before each call.
@@ -26,7 +22,6 @@ pub(crate) struct Part {
 }
 
 /// A story.
-#[derive(Clone, Copy)]
 pub(crate) struct Story {
     pub(crate) title: &'static str,
     /// Which answer the guest withholds.
@@ -34,7 +29,7 @@ pub(crate) struct Story {
     pub(crate) parts: &'static [Part],
 }
 
-pub(crate) const STORIES: [Story; 3] = [
+pub(crate) const STORIES: &[Story] = &[
     Story {
         title: "the answer to a suspend is withheld until an info was answered",
         manner: Manner::Withholds(Withheld::Stop, Signal::Told),
@@ -74,9 +69,7 @@ pub(crate) const STORIES: [Story; 3] = [
             Part {
                 steps: &[
                     Step::Repeat(Asked::Info, Signal::Told),
-                    Step::Give(Signal::Free),
-                    Step::Wait(Signal::Answered, 2),
-                    Step::Call(Asked::Info),
+                    Step::CallAfter(Signal::Free, Signal::Answered, 2, Asked::Info),
                 ],
                 before: Some(Signal::Held),
                 after: None,

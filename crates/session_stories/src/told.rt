@@ -1,80 +1,90 @@
 // What sessions were told, in words.
-use crate::asked::{Asked, answered};
-use crate::scene::ServedSession;
+use crate::asked::{INFO, word_of};
+use crate::lines::Lines;
+use driver_sessions::Served;
+use packet::memory::MemorySink;
 use packet::{Feed, OK, Packet};
 use remote_args::read_error;
 use std::alloc::Global;
-use types_base::NoMemory;
+use types_base::OrNoMemory;
 
 // What the payload of a reply says that something was done. The first word of an info is the state.
-fn done(alloc: Global, asked: Asked, payload: &[u8]) -> Result<String, NoMemory> {
+fn put_done(lines: &mut Lines, procedure: u32, payload: &[u8]) {
+    lines.put("Ok");
     match payload {
-        [0, 0, 0, state, ..] if asked == Asked::Info => {
-            Ok(format!(in alloc; "Ok, state {state}")?)
+        [0, 0, 0, state, ..] if procedure == INFO => {
+            lines.put(", state ");
+            lines.put_shown(*state);
         }
-        _ => Ok(String::from_str(alloc, "Ok")?),
+        _ => {}
     }
 }
 
 // What the payload of an error says.
-fn refused(alloc: Global, payload: &[u8]) -> Result<String, NoMemory> {
-    match &read_error(alloc, payload) {
+fn put_refused(lines: &mut Lines, alloc: Global, payload: &[u8]) {
+    match read_error(alloc, payload) {
         Ok(refusal) => {
-            let number = refusal.code.number();
-            Ok(format!(in alloc; "{number} {}", refusal.kept.as_str())?)
+            lines.put_shown(refusal.code.number());
+            lines.put(" ");
+            lines.put(refusal.kept.as_str());
         }
-        Err(_) => Ok(String::from_str(alloc, "refused, unread")?),
+        Err(OrNoMemory::Fault(_)) => lines.put("refused, unread"),
+        Err(OrNoMemory::NoMemory) => lines.lose(),
     }
 }
 
 // What a reply says.
-fn said(alloc: Global, reply: &Packet) -> Result<String, NoMemory> {
-    let Some(asked) = answered(reply.header.procedure) else {
-        return Ok(String::from_str(alloc, "another reply")?);
-    };
-    let word = asked.word();
-    let told = if reply.header.status == OK {
-        done(alloc, asked, reply.payload.as_slice())?
+fn put_reply(lines: &mut Lines, alloc: Global, reply: &Packet) {
+    let procedure = reply.header.procedure;
+    lines.put(word_of(procedure));
+    lines.put(" ");
+    if reply.header.status == OK {
+        put_done(lines, procedure, reply.payload.as_slice());
     } else {
-        refused(alloc, reply.payload.as_slice())?
-    };
-    Ok(format!(in alloc; "{word} {}", told.as_str())?)
+        put_refused(lines, alloc, reply.payload.as_slice());
+    }
 }
 
-// What the replies say, in order. One that says the same as the one before it is left out: how often a call is repeated
-// differs from run to run.
-fn all_said(alloc: Global, feed: &mut Feed) -> Result<String, NoMemory> {
-    let mut all = String::new(alloc);
-    let mut last = String::new(alloc);
+// What the replies say, in order. One that is the same as the one before it is left out: how often a call is repeated differs
+// from run to run.
+fn put_replies(lines: &mut Lines, alloc: Global, feed: &mut Feed) {
+    let mut last = Lines::new(alloc);
     while let Some(reply) = feed.next() {
-        let told = said(alloc, &reply)?;
-        if told.as_str() != last.as_str() {
-            all.push_str(told.as_str())?;
-            all.push_str("; ")?;
+        let mut said = Lines::new(alloc);
+        put_reply(&mut said, alloc, &reply);
+        if said.as_str() != last.as_str() {
+            lines.put(said.as_str());
+            lines.put("; ");
         }
-        last = told;
+        last = said;
     }
-    Ok(all)
 }
 
-// A line for a session: what each of its calls was told, and how it ended.
-fn line_of<H>(alloc: Global, served: &ServedSession<H>) -> Result<String, NoMemory> {
-    let number = served.session.number;
-    let end = served.end;
-    let mut feed = Feed::new(alloc)?;
-    if feed.feed(served.session.sink.bytes()).is_err() {
-        return Ok(format!(in alloc; "  session {number}: what it put is not read\n")?);
+// The replies that these bytes are.
+fn put_bytes(lines: &mut Lines, alloc: Global, bytes: &[u8]) {
+    match Feed::new(alloc) {
+        Ok(mut feed) => {
+            if feed.feed(bytes).is_ok() {
+                put_replies(lines, alloc, &mut feed);
+            } else {
+                lines.put("not read; ");
+            }
+        }
+        Err(_) => lines.lose(),
     }
-    let said = all_said(alloc, &mut feed)?;
-    Ok(format!(in alloc; "  session {number}: {}{end}\n", said.as_str())?)
 }
 
-/// The lines of all sessions.
-pub(crate) fn lines_of<H>(alloc: Global, all: &[ServedSession<H>]) -> Result<String, NoMemory> {
-    let mut lines = String::new(alloc);
+/// A line for each session: what each of its calls was told, and how it ended.
+pub(crate) fn told<S, N, T>(alloc: Global, all: &[Served<S, MemorySink, N, T>]) -> Lines {
+    let mut lines = Lines::new(alloc);
     for served in all {
-        lines.push_str(line_of(alloc, served)?.as_str())?;
+        lines.put("  session ");
+        lines.put_shown(served.session.number);
+        lines.put(": ");
+        put_bytes(&mut lines, alloc, served.session.sink.bytes());
+        lines.put_shown(served.end);
+        lines.put("\n");
     }
-    lines.push_str("  closed")?;
-    Ok(lines)
+    lines.put("  closed");
+    lines
 }

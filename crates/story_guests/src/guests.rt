@@ -31,6 +31,28 @@ pub enum Manner {
     TalksOn,
     /// Their monitors withhold the answer to this command until this signal.
     Withholds(Withheld, Signal),
+    /// Their ears always have one more event, and their monitors withhold the answer to this command until this signal.
+    TalksOnAndWithholds(Withheld, Signal),
+}
+
+impl Manner {
+    // Until which signal the answer to this command is withheld.
+    fn until(self, command: &Command) -> Option<Signal> {
+        match self {
+            Manner::Plain | Manner::TalksOn => None,
+            Manner::Withholds(withheld, until) | Manner::TalksOnAndWithholds(withheld, until) => {
+                if withheld.is(command) {
+                    Some(until)
+                } else {
+                    None
+                }
+            }
+        }
+    }
+
+    fn talks_on(self) -> bool {
+        matches!(self, Manner::TalksOn | Manner::TalksOnAndWithholds(..))
+    }
 }
 
 /// A monitor that may withhold an answer.
@@ -50,11 +72,8 @@ impl<H: Wait, M: Monitor> Monitor for StoryMonitor<H, M> {
     ghost exchanges = { λ m. M.exchanges m.monitor };
 
     fn ask(&mut self, command: &Command) -> Answer {
-        match self.manner {
-            Manner::Withholds(withheld, until) if withheld.is(command) => {
-                self.signals.hold(&self.rt, until);
-            }
-            _ => {}
+        if let Some(until) = self.manner.until(command) {
+            self.signals.hold(&self.rt, until);
         }
         self.monitor.ask(command)
     }
@@ -77,10 +96,10 @@ impl<E: Ears> Ears for StoryEars<E> {
     ghost unheard = { λ _. None };
 
     fn hear(&mut self) -> Heard {
-        match self.manner {
-            Manner::TalksOn => Heard::Event(GuestEvent::Resume),
-            _ => self.ears.hear(),
+        if self.manner.talks_on() {
+            return Heard::Event(GuestEvent::Resume);
         }
+        self.ears.hear()
     }
 }
 
@@ -128,11 +147,7 @@ impl<H: Wait + Copy + Send + Sync, G: Guests> Guests for StoryGuests<H, G> {
 
     ghost faults = { λ g. G.faults g.guests };
 
-    fn make(
-        &mut self,
-        def: &DomainDef,
-        boot: u64,
-    ) -> Result<Link<StoryMonitor<H, G::M>, StoryEars<G::E>, StoryKiller<G::Z>>, Fault> {
+    fn make(&mut self, def: &DomainDef, boot: u64) -> Result<Link<StoryGuests<H, G>>, Fault> {
         let for_monitor = Arc::try_clone(&self.signals)?;
         let for_killer = Arc::try_clone(&self.signals)?;
         let Link {

@@ -2,7 +2,6 @@
 ghost use Rattle.std.specs.Prelude.{◌≡◌, ◌≢◌};
 ghost use Rattle.def_keeper.specs.Opened.{IsSureAt};
 ghost use Rattle.service_spec.specs.Activities.{hand};
-ghost use Rattle.daemon.specs.Below.held_tasks.declared.MakerOf.{MakerOf};
 ghost use Rattle.virtd.specs.First as spec;
 ghost use Rattle.virtd.specs.Outside.{with_books};
 ghost use Rattle.virtd.specs.Serving.{Begins, HasRun};
@@ -99,7 +98,7 @@ fn begin<H: Wait, W: World, F: Files + Drop, K: Opening>(
     first: First,
     random: &mut W::R,
 ) -> (Daemon<F, K, W::G>, bool)
-    ensures begins { Begins F.told F.faults (λ maker. W.G.faults maker.guests) W.G.E.ends W.G.E.faults
+    ensures begins { Begins F.told F.faults W.G.faults W.G.E.ends W.G.E.faults
         W.G.E.unheard first daemon.driver.starts (hand daemon.row (W.R.drawn random.old))
         (hand result.0.row (W.R.drawn random.new)) result.1 }
     ensures given { W.given world.new ≡ W.given world.old }
@@ -136,7 +135,7 @@ fn run<H: Wait, W: World, F: Files + Drop, K: Opening>(
     sink: W::K,
     random: &mut W::R,
 ) -> Ended<F, W::K>
-    ensures run { HasRun F.told K.sound F.faults (λ maker. W.G.faults maker.guests) W.G.E.ends W.G.E.faults
+    ensures run { HasRun F.told K.sound F.faults W.G.faults W.G.E.ends W.G.E.faults
         W.G.E.unheard W.S.left W.S.faults W.K.held W.K.faults W.R.drawn first daemon.driver.starts daemon.row
         (record { source = source.old; sink = sink; random = random.old })
         (record { source = source.new; sink = result.sink; random = random.new }) result.end result.closed }
@@ -163,7 +162,7 @@ fn serve_daemon<H: Wait, W: World, F: Files + Drop, K: Opening>(
     first: First,
 ) -> Served<F>
     ensures code { result.status ≢ 2 }
-    ensures connects { Connects F.told K.sound F.faults (λ maker. W.G.faults maker.guests) W.G.E.ends W.G.E.faults
+    ensures connects { Connects F.told K.sound F.faults W.G.faults W.G.E.ends W.G.E.faults
         W.G.E.unheard W.S.left W.S.faults W.K.held W.K.faults W.R.drawn first daemon.driver.starts daemon.row
         (W.given world.old) (W.given world.new) result.status result.files }
 {
@@ -202,7 +201,7 @@ pub(crate) fn serve_files<H: Wait, W: World, F: Files + Drop, K: Opening>(
     requires sound { K.sound → IsSureAt (F.told files) }
     ensures code { result.status ≢ 2 }
     ensures serves { ServesFiles F.told K.sound F.faults
-        (λ (maker : MakerOf W.G W.G.M W.G.E W.G.Z). W.G.faults maker.guests) W.G.E.ends W.G.E.faults
+        W.G.faults W.G.E.ends W.G.E.faults
         W.G.E.unheard W.S.left W.S.faults W.K.held W.K.faults W.R.drawn first files
         (W.given world.old) (W.given world.new) result.status result.files }
 {

@@ -3,7 +3,6 @@ ghost use Rattle.std.specs.Prelude.{◌≡◌, ◌≢◌, ◌↔◌, ℕ, List, 
 ghost use Rattle.std.specs.String.{string_bytes};
 ghost use Rattle.daemon_words.specs.Commands.{Demo, Stdio};
 ghost use Rattle.def_keeper.specs.Opened.{IsSureAt};
-ghost use Rattle.daemon.specs.Below.held_tasks.declared.MakerOf.{MakerOf};
 ghost use Rattle.virtd.specs.Outside.{IsStarved, with_files};
 ghost use Rattle.virtd.specs.Top.{ServesDemo, ServesDirectory, ServesOpened};
 ghost use Rattle.virtd.specs.Words.{AsksFor, IsDaemon};
@@ -42,7 +41,7 @@ fn out_of_memory<W: World>(world: &mut W) -> u8
 fn serve_demo<H: Wait, W: World>(rt: &H, alloc: Global, world: &mut W) -> u8
     ensures code { result ≢ 2 }
     ensures serves { ServesDemo
-        (λ (maker : MakerOf W.G W.G.M W.G.E W.G.Z). W.G.faults maker.guests) W.G.E.ends W.G.E.faults W.G.E.unheard
+        W.G.faults W.G.E.ends W.G.E.faults W.G.E.unheard
         W.S.left W.S.faults W.K.held W.K.faults W.R.drawn (W.given world.old) (W.given world.new) result }
 {
     match define_request(alloc) {
@@ -69,7 +68,7 @@ fn serve_opened<H: Wait, W: World>(rt: &H, alloc: Global, world: &mut W, mut fil
     requires sound { W.O.sound → IsSureAt (W.F.told files) }
     ensures code { result ≢ 2 }
     ensures serves { ServesOpened W.F.told W.O.sound W.F.faults
-        (λ (maker : MakerOf W.G W.G.M W.G.E W.G.Z). W.G.faults maker.guests) W.G.E.ends
+        W.G.faults W.G.E.ends
         W.G.E.faults W.G.E.unheard W.S.left W.S.faults W.K.held W.K.faults W.R.drawn
         files (W.given world.old) (W.given world.new) result }
 {
@@ -97,7 +96,7 @@ fn serve_opened<H: Wait, W: World>(rt: &H, alloc: Global, world: &mut W, mut fil
 fn serve_directory<H: Wait, W: World>(rt: &H, alloc: Global, world: &mut W, directory: &str) -> u8
     ensures code { result ≢ 2 }
     ensures serves { ServesDirectory W.F.told W.O.sound W.F.faults
-        (λ (maker : MakerOf W.G W.G.M W.G.E W.G.Z). W.G.faults maker.guests) W.G.E.ends
+        W.G.faults W.G.E.ends
         W.G.E.faults W.G.E.unheard W.S.left W.S.faults W.K.held W.K.faults W.R.drawn
         directory.now (W.given world.old) (W.given world.new) result }
 {
@@ -122,11 +121,11 @@ pub fn virtd<H: Wait, W: World>(rt: &H, alloc: Global, words: &[String], world: 
     ensures nothing { result ≡ 2 → W.given world.new ≡ W.given world.old }
     ensures demo { AsksFor (map string_bytes words.now) Demo
         → ServesDemo
-        (λ (maker : MakerOf W.G W.G.M W.G.E W.G.Z). W.G.faults maker.guests) W.G.E.ends W.G.E.faults W.G.E.unheard
+        W.G.faults W.G.E.ends W.G.E.faults W.G.E.unheard
         W.S.left W.S.faults W.K.held W.K.faults W.R.drawn (W.given world.old) (W.given world.new) result }
     ensures stdio { (directory : List ℕ) → AsksFor (map string_bytes words.now) (Stdio directory)
         → ServesDirectory W.F.told W.O.sound W.F.faults
-        (λ (maker : MakerOf W.G W.G.M W.G.E W.G.Z). W.G.faults maker.guests) W.G.E.ends
+        W.G.faults W.G.E.ends
         W.G.E.faults W.G.E.unheard W.S.left W.S.faults W.K.held W.K.faults W.R.drawn
         directory (W.given world.old) (W.given world.new) result }
 {

@@ -30,8 +30,8 @@ pub trait World {
     /// What is taken for true of them.
     type O: Opening;
 
-    /// What makes guests.
-    type G: Guests + Drop;
+    /// What makes guests, whose links may go to other threads.
+    type G: Guests<M: Send, E: Send, Z: Send> + Drop;
 
     /// Where a session may be held up.
     type T: Gate + Drop;

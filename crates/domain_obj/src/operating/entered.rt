@@ -7,7 +7,7 @@ ghost use Rattle.domain_obj.specs.Entering.{Operates};
 use crate::operating::entering::{Entry, enter_in};
 use crate::{DomainPass, last_in, told_legal};
 use domain_core::DomainCell;
-use monitor_link::{Ears, Killer, Monitor};
+use monitor_link::Guests;
 use std::alloc::Global;
 use std::sync::Wait;
 use turn_cell::TurnCell;
@@ -16,15 +16,15 @@ use virt_types::{Call, Front, Who};
 /// Takes one more of so many turns, in which a long chapter ends and then the call looks whether its operation may begin, or
 /// be taken up; where it is excluded it gives up, if both its turns and its looks are enough. With the place of the
 /// chapter's last mark of some pass. A pass for which no ticket is left comes back as the error.
-pub fn enter_once<M: Monitor + Drop, E: Ears + Drop, Z: Killer + Drop, R: Wait>(
+pub fn enter_once<G: Guests, R: Wait>(
     rt: &R,
-    cell: &TurnCell<DomainCell<M, E, Z>>,
+    cell: &TurnCell<DomainCell<G>>,
     alloc: Global,
-    pass: DomainPass<M, E, Z>,
+    pass: DomainPass<G>,
     who: Who,
     call: &Call,
     turns: u32,
-) -> Result<(DomainPass<M, E, Z>, Entry, Front), DomainPass<M, E, Z>>
+) -> Result<(DomainPass<G>, Entry, Front), DomainPass<G>>
     requires own { pass.cell ≡ cell.now }
     requires ready { IsReadyToEnter who pass }
     requires operates { Operates call.now }

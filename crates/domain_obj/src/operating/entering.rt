@@ -1,14 +1,13 @@
 // What a call does in one turn that begins an operation or takes one up, until it is let in.
-ghost use Rattle.std.specs.Prelude.{◌≡◌, ◌<◌, ◌^◌, ℕ, is_some, true};
+ghost use Rattle.std.specs.Prelude.{◌≡◌, ◌<◌, ◌^◌, ℕ};
 ghost use Rattle.domain_obj.specs.Entering.{Enters, EntersAnew, LooksForIn, MayEnter, Operates};
-ghost use Rattle.domain_spec.specs.Call.{begins, takes_up};
 
 use crate::attempting::ENOUGH;
 use crate::{DomainTurn, end_long_chapter, give_up_in};
-use domain_core::{OperationLook, takes_up};
+use domain_core::OperationLook;
 use history_spec::Stamp;
 use job_rules::JobRecord;
-use monitor_link::{Ears, Killer, Monitor};
+use monitor_link::Guests;
 use std::alloc::Global;
 use virt_types::{Call, Reply, Who};
 
@@ -29,45 +28,26 @@ pub enum Entry {
     NoMemory,
 }
 
-// A call looks whether its operation may begin, under this number.
-#[tactic(auto, using(domain_core::proofs::Shares::free_begin))]
-fn begin_as<M: Monitor + Drop, E: Ears + Drop, Z: Killer + Drop>(
-    turn: &mut DomainTurn<M, E, Z>,
+// A call looks whether its operation may begin, or be taken up, under this number.
+fn look_as<G: Guests>(
+    turn: &mut DomainTurn<G>,
     alloc: Global,
     who: Who,
     call: &Call,
 ) -> OperationLook
     ghost number: { ℕ }
     requires may { MayEnter number who turn.old.value }
-    requires begins { is_some (begins call.now) ≡ true }
+    requires operates { Operates call.now }
     ensures looks { LooksForIn number who call.now turn.old.value turn.new.value result }
     ensures same { turn.new ≡ record turn.old { value = turn.new.value } }
 {
     let by = Stamp::named();
-    turn.value().begin_op(alloc, by, who, call)
+    turn.value().enter_op(alloc, by, who, call)
 }
 
-// A call looks whether it may take an operation up, under this number.
-#[tactic(auto, using(domain_core::proofs::Shares::free_take_up))]
-fn take_up_as<M: Monitor + Drop, E: Ears + Drop, Z: Killer + Drop>(
-    turn: &mut DomainTurn<M, E, Z>,
-    alloc: Global,
-    who: Who,
-    call: &Call,
-) -> OperationLook
-    ghost number: { ℕ }
-    requires may { MayEnter number who turn.old.value }
-    requires takes { is_some (takes_up call.now) ≡ true }
-    ensures looks { LooksForIn number who call.now turn.old.value turn.new.value result }
-    ensures same { turn.new ≡ record turn.old { value = turn.new.value } }
-{
-    let by = Stamp::named();
-    turn.value().take_up(alloc, by, who, call)
-}
-
-// A call looks whether its operation may begin, or be taken up, under the number of the pass that has the turn.
-fn look_for<M: Monitor + Drop, E: Ears + Drop, Z: Killer + Drop>(
-    turn: &mut DomainTurn<M, E, Z>,
+// The same under the number of the pass that has the turn.
+fn look_for<G: Guests>(
+    turn: &mut DomainTurn<G>,
     alloc: Global,
     who: Who,
     call: &Call,
@@ -77,15 +57,12 @@ fn look_for<M: Monitor + Drop, E: Ears + Drop, Z: Killer + Drop>(
     ensures looks { LooksForIn turn.old.pass.number who call.now turn.old.value turn.new.value result }
     ensures same { turn.new ≡ record turn.old { value = turn.new.value } }
 {
-    match takes_up(call) {
-        Some(_) => take_up_as(turn, alloc, who, call),
-        None => begin_as(turn, alloc, who, call),
-    }
+    look_as(turn, alloc, who, call)
 }
 
 // It looks, and where it is excluded, and both its turns, with this one, and its looks are enough, gives up.
-fn enter_or_give_up<M: Monitor + Drop, E: Ears + Drop, Z: Killer + Drop>(
-    turn: &mut DomainTurn<M, E, Z>,
+fn enter_or_give_up<G: Guests>(
+    turn: &mut DomainTurn<G>,
     alloc: Global,
     who: Who,
     call: &Call,
@@ -117,8 +94,8 @@ fn enter_or_give_up<M: Monitor + Drop, E: Ears + Drop, Z: Killer + Drop>(
 
 /// A long chapter ends, and then the call looks whether its operation may begin, or be taken up; where it is excluded it
 /// gives up, if both its turns, with this one, and its looks are enough.
-pub fn enter_in<M: Monitor + Drop, E: Ears + Drop, Z: Killer + Drop>(
-    turn: &mut DomainTurn<M, E, Z>,
+pub fn enter_in<G: Guests>(
+    turn: &mut DomainTurn<G>,
     alloc: Global,
     who: Who,
     call: &Call,

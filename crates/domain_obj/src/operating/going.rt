@@ -2,24 +2,19 @@
 ghost use Rattle.std.specs.Prelude.{◌≡◌, ◌<◌, ◌^◌, ℕ};
 ghost use Rattle.domain_spec.specs.CanTake.{WaitsAsNoOther};
 ghost use Rattle.domain_core.specs.Celled.{cell_in, standing_in};
-ghost use Rattle.domain_obj.specs.Going.{EndsIn, GoesOnIn, IsRenewedIfCan, MayEnd, MayGoOn, PhasesIn, RenewsAndGoesOn};
+ghost use Rattle.domain_obj.specs.Going.{EndsIn, IsRenewedIfCan, MayEnd, MayGoOn, PhasesIn, RenewsAndGoesOn};
 ghost use Rattle.domain_core.specs.OfTurns.{CanEnd};
 ghost use Rattle.domain_core.specs.OfTurns.{IsDue};
 
-use crate::operating::phasing::Phasing;
-use crate::{DomainTurn, end_long_chapter, next_in};
+use crate::{DomainTurn, end_long_chapter};
 use domain_core::PhaseLook;
 use history_spec::Stamp;
-use monitor_link::{Ears, Killer, Monitor};
+use monitor_link::Guests;
 use std::alloc::Global;
 use virt_types::{NoMemory, Reply, Who};
 
 // A long chapter ends, if there is memory for the next one; without it the chapter just goes on.
-fn end_chapter_if_can<M: Monitor + Drop, E: Ears + Drop, Z: Killer + Drop>(
-    turn: &mut DomainTurn<M, E, Z>,
-    alloc: Global,
-    who: Who,
-)
+fn end_chapter_if_can<G: Guests>(turn: &mut DomainTurn<G>, alloc: Global, who: Who)
     requires waits { WaitsAsNoOther (cell_in turn.old.value) turn.old.pass.number who }
     requires chapter { turn.old.value.core.turning.chapter < 2 ^ 62 }
     ensures renewed { IsRenewedIfCan turn.old.pass.number who turn.old.value turn.new.value }
@@ -32,11 +27,7 @@ fn end_chapter_if_can<M: Monitor + Drop, E: Ears + Drop, Z: Killer + Drop>(
 }
 
 // The due phase looks, under this number.
-fn phase_as<M: Monitor + Drop, E: Ears + Drop, Z: Killer + Drop>(
-    turn: &mut DomainTurn<M, E, Z>,
-    alloc: Global,
-    who: Who,
-) -> PhaseLook<M>
+fn phase_as<G: Guests>(turn: &mut DomainTurn<G>, alloc: Global, who: Who) -> PhaseLook<G>
     ghost number: { ℕ }
     requires due { IsDue (standing_in turn.old.value).operation number who }
     ensures phases { PhasesIn number who turn.old.value turn.new.value result }
@@ -46,31 +37,18 @@ fn phase_as<M: Monitor + Drop, E: Ears + Drop, Z: Killer + Drop>(
     turn.value().phase(alloc, by, who)
 }
 
-// The due phase looks, under the number of the pass that has the turn; where it is done, with what it led to.
-fn go_on<M: Monitor + Drop, E: Ears + Drop, Z: Killer + Drop>(
-    turn: &mut DomainTurn<M, E, Z>,
-    alloc: Global,
-    who: Who,
-) -> Phasing<M>
+// The same under the number of the pass that has the turn.
+fn go_on<G: Guests>(turn: &mut DomainTurn<G>, alloc: Global, who: Who) -> PhaseLook<G>
     requires due { IsDue (standing_in turn.old.value).operation turn.old.pass.number who }
-    ensures goes { GoesOnIn turn.old.pass.number who turn.old.value turn.new.value result }
+    ensures phases { PhasesIn turn.old.pass.number who turn.old.value turn.new.value result }
     ensures same { turn.new ≡ record turn.old { value = turn.new.value } }
 {
-    match phase_as(turn, alloc, who) {
-        PhaseLook::Away(ticket, asked) => Phasing::Away(ticket, asked),
-        PhaseLook::Phased(step) => Phasing::Phased(next_in(turn, alloc, step)),
-        PhaseLook::Excluded => Phasing::Excluded,
-        PhaseLook::NoMemory => Phasing::NoMemory,
-    }
+    phase_as(turn, alloc, who)
 }
 
 /// A long chapter ends, if there is memory for the next one, and then the due phase of the operation that the pass has
 /// open is let in where no normal job is open.
-pub fn phase_in<M: Monitor + Drop, E: Ears + Drop, Z: Killer + Drop>(
-    turn: &mut DomainTurn<M, E, Z>,
-    alloc: Global,
-    who: Who,
-) -> Phasing<M>
+pub fn phase_in<G: Guests>(turn: &mut DomainTurn<G>, alloc: Global, who: Who) -> PhaseLook<G>
     requires may { MayGoOn turn.old.pass.number who turn.old.value }
     requires chapter { turn.old.value.core.turning.chapter < 2 ^ 62 }
     ensures goes { RenewsAndGoesOn turn.old.pass.number who turn.old.value turn.new.value result }
@@ -81,11 +59,7 @@ pub fn phase_in<M: Monitor + Drop, E: Ears + Drop, Z: Killer + Drop>(
 }
 
 // The operation ends, under this number.
-fn end_as<M: Monitor + Drop, E: Ears + Drop, Z: Killer + Drop>(
-    turn: &mut DomainTurn<M, E, Z>,
-    alloc: Global,
-    who: Who,
-) -> Reply
+fn end_as<G: Guests>(turn: &mut DomainTurn<G>, alloc: Global, who: Who) -> Reply
     ghost number: { ℕ }
     requires over { CanEnd (standing_in turn.old.value).operation number who }
     ensures ends { EndsIn number who turn.old.value turn.new.value result }
@@ -97,11 +71,7 @@ fn end_as<M: Monitor + Drop, E: Ears + Drop, Z: Killer + Drop>(
 
 /// The operation that the pass has open, and that is over, ends with the reply of its last phase.
 #[tactic(auto, using(crate::proofs::Stepped::can_end))]
-pub fn end_in<M: Monitor + Drop, E: Ears + Drop, Z: Killer + Drop>(
-    turn: &mut DomainTurn<M, E, Z>,
-    alloc: Global,
-    who: Who,
-) -> Reply
+pub fn end_in<G: Guests>(turn: &mut DomainTurn<G>, alloc: Global, who: Who) -> Reply
     requires over { MayEnd turn.old.pass.number who turn.old.value }
     ensures ends { EndsIn turn.old.pass.number who turn.old.value turn.new.value result }
     ensures same { turn.new ≡ record turn.old { value = turn.new.value } }

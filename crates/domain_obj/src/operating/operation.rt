@@ -10,7 +10,7 @@ use crate::operating::phases::{Over, run_phases};
 use crate::{Desk, DomainPass};
 use domain_core::DomainCell;
 use job_rules::JobRecord;
-use monitor_link::{Ears, Killer, Monitor};
+use monitor_link::Guests;
 use refusals::ReplyRoom;
 use std::alloc::Global;
 use std::sync::Wait;
@@ -50,16 +50,16 @@ fn operated_as(over: Over) -> Operated
 }
 
 // It takes turns until it is let in or refused, with this room for a refusal; and then its operation goes on.
-fn operate_in<M: Monitor + Drop, E: Ears + Drop, Z: Killer + Drop, D: Desk<M, E, Z>, R: Wait>(
+fn operate_in<G: Guests, D: Desk<G>, R: Wait>(
     rt: &R,
-    cell: &TurnCell<DomainCell<M, E, Z>>,
+    cell: &TurnCell<DomainCell<G>>,
     alloc: Global,
-    pass: DomainPass<M, E, Z>,
+    pass: DomainPass<G>,
     who: Who,
     call: &Call,
     room: ReplyRoom,
     desk: &mut D,
-) -> (DomainPass<M, E, Z>, Operated)
+) -> (DomainPass<G>, Operated)
     requires own { pass.cell ≡ cell.now }
     requires ready { IsReady pass }
     requires operates { Operates call.now }
@@ -97,21 +97,15 @@ fn operate_in<M: Monitor + Drop, E: Ears + Drop, Z: Killer + Drop, D: Desk<M, E,
 /// looks again, and in the turn of its thirtieth look it gives up. Then its operation goes on phase after phase, until it
 /// ends or rests; a phase that is excluded rests and looks again, without a limit. The desk is asked while the pass has no
 /// turn. Before each look and each phase, in the same turn, a chapter ends that holds 4,096 marks.
-pub fn run_operation<
-    M: Monitor + Drop,
-    E: Ears + Drop,
-    Z: Killer + Drop,
-    D: Desk<M, E, Z>,
-    R: Wait,
->(
+pub fn run_operation<G: Guests, D: Desk<G>, R: Wait>(
     rt: &R,
-    cell: &TurnCell<DomainCell<M, E, Z>>,
+    cell: &TurnCell<DomainCell<G>>,
     alloc: Global,
-    pass: DomainPass<M, E, Z>,
+    pass: DomainPass<G>,
     who: Who,
     call: &Call,
     desk: &mut D,
-) -> (DomainPass<M, E, Z>, Operated)
+) -> (DomainPass<G>, Operated)
     requires own { pass.cell ≡ cell.now }
     requires ready { IsReady pass }
     requires operates { Operates call.now }

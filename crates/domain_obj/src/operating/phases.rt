@@ -5,10 +5,10 @@ ghost use Rattle.domain_obj.specs.Phases.{HasFinishedPhase, HasRunPhase, HasRunP
 ghost use Rattle.domain_obj.specs.Phasing.{IsDueFor};
 ghost use Rattle.domain_spec.specs.declared.open.OpenOperation.{OpenOperation};
 
-use crate::operating::phasing::{Phasing, end_once, phase_once};
+use crate::operating::phasing::{end_once, phase_once};
 use crate::{Desk, DomainPass, Finished, Next, finish};
-use domain_core::{DomainCell, Ticket};
-use monitor_link::{Ears, Killer, Monitor};
+use domain_core::{DomainCell, PhaseLook, Ticket};
+use monitor_link::Guests;
 use std::alloc::Global;
 use std::sync::Wait;
 use turn_cell::TurnCell;
@@ -35,15 +35,15 @@ pub enum Over {
 }
 
 // The phase that the pass has open asks until it is done.
-fn finish_phase<M: Monitor + Drop, E: Ears + Drop, Z: Killer + Drop, D: Desk<M, E, Z>, R: Wait>(
+fn finish_phase<G: Guests, D: Desk<G>, R: Wait>(
     rt: &R,
-    cell: &TurnCell<DomainCell<M, E, Z>>,
+    cell: &TurnCell<DomainCell<G>>,
     alloc: Global,
-    pass: DomainPass<M, E, Z>,
-    ticket: Ticket<M>,
+    pass: DomainPass<G>,
+    ticket: Ticket<G>,
     asked: Ask,
     desk: &mut D,
-) -> (DomainPass<M, E, Z>, OnePhase)
+) -> (DomainPass<G>, OnePhase)
     requires own { pass.cell ≡ cell.now }
     requires away { IsAway pass asked (is_some ticket.monitor) }
     requires phase { IsInPhase pass }
@@ -59,14 +59,14 @@ fn finish_phase<M: Monitor + Drop, E: Ears + Drop, Z: Killer + Drop, D: Desk<M, 
 
 // The due phase, until it is done: where a normal job is open it rests and looks again, without a limit; and where it asks,
 // the desk is asked while the pass has no turn.
-fn run_phase<M: Monitor + Drop, E: Ears + Drop, Z: Killer + Drop, D: Desk<M, E, Z>, R: Wait>(
+fn run_phase<G: Guests, D: Desk<G>, R: Wait>(
     rt: &R,
-    cell: &TurnCell<DomainCell<M, E, Z>>,
+    cell: &TurnCell<DomainCell<G>>,
     alloc: Global,
-    pass: DomainPass<M, E, Z>,
+    pass: DomainPass<G>,
     who: Who,
     desk: &mut D,
-) -> (DomainPass<M, E, Z>, OnePhase)
+) -> (DomainPass<G>, OnePhase)
     ghost operation: { OpenOperation }
     requires own { pass.cell ≡ cell.now }
     requires due { IsDueFor who operation pass }
@@ -76,11 +76,11 @@ fn run_phase<M: Monitor + Drop, E: Ears + Drop, Z: Killer + Drop, D: Desk<M, E, 
     for _ in rt.forever() {
         desk.between(&pass);
         match phase_once(rt, cell, alloc, pass, who) {
-            Ok((after, phasing, place)) => match phasing {
-                Phasing::Excluded => pass = cell.rest(rt, after),
-                Phasing::NoMemory => pass = cell.rest(rt, after),
-                Phasing::Phased(next) => return (after, OnePhase::Phased(next, place)),
-                Phasing::Away(ticket, asked) => {
+            Ok((after, looked, place)) => match looked {
+                PhaseLook::Excluded => pass = cell.rest(rt, after),
+                PhaseLook::NoMemory => pass = cell.rest(rt, after),
+                PhaseLook::Phased(next) => return (after, OnePhase::Phased(next, place)),
+                PhaseLook::Away(ticket, asked) => {
                     return finish_phase(rt, cell, alloc, after, ticket, asked, desk);
                 }
             },
@@ -91,14 +91,14 @@ fn run_phase<M: Monitor + Drop, E: Ears + Drop, Z: Killer + Drop, D: Desk<M, E, 
 }
 
 /// An operation of which a phase is due goes on, phase after phase, until it ends or rests.
-pub fn run_phases<M: Monitor + Drop, E: Ears + Drop, Z: Killer + Drop, D: Desk<M, E, Z>, R: Wait>(
+pub fn run_phases<G: Guests, D: Desk<G>, R: Wait>(
     rt: &R,
-    cell: &TurnCell<DomainCell<M, E, Z>>,
+    cell: &TurnCell<DomainCell<G>>,
     alloc: Global,
-    pass: DomainPass<M, E, Z>,
+    pass: DomainPass<G>,
     who: Who,
     desk: &mut D,
-) -> (DomainPass<M, E, Z>, Over)
+) -> (DomainPass<G>, Over)
     ghost operation: { OpenOperation }
     requires own { pass.cell ≡ cell.now }
     requires due { IsDueFor who operation pass }

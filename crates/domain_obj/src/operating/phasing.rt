@@ -5,37 +5,24 @@ ghost use Rattle.domain_obj.specs.Phasing.{HasEnded, HasStepped, IsDueFor, IsOve
 ghost use Rattle.domain_spec.specs.declared.open.OpenOperation.{OpenOperation};
 
 use crate::operating::going::{end_in, phase_in};
-use crate::{DomainPass, Next, last_in, told_legal};
-use domain_core::{DomainCell, Ticket};
-use monitor_link::{Ears, Killer, Monitor};
+use crate::{DomainPass, last_in, told_legal};
+use domain_core::{DomainCell, PhaseLook};
+use monitor_link::Guests;
 use std::alloc::Global;
 use std::sync::Wait;
 use turn_cell::TurnCell;
-use virt_types::{Ask, Front, Reply, Who};
-
-/// What became of the due phase of an operation in one turn.
-#[derive(Drop)]
-pub enum Phasing<M> {
-    /// It was let in, and asks this.
-    Away(Ticket<M>, Ask),
-    /// It is done, and leads on so.
-    Phased(Next),
-    /// A normal job is open: nothing changed.
-    Excluded,
-    /// There was no memory even for the answer that there is none: nothing changed.
-    NoMemory,
-}
+use virt_types::{Front, Reply, Who};
 
 /// Takes a turn, in which a long chapter ends, if there is memory for the next one, and then the due phase of the pass's
 /// operation is let in where no normal job is open. With the place of the chapter's last mark of some pass. A pass for which
 /// no ticket is left comes back as the error.
-pub fn phase_once<M: Monitor + Drop, E: Ears + Drop, Z: Killer + Drop, R: Wait>(
+pub fn phase_once<G: Guests, R: Wait>(
     rt: &R,
-    cell: &TurnCell<DomainCell<M, E, Z>>,
+    cell: &TurnCell<DomainCell<G>>,
     alloc: Global,
-    pass: DomainPass<M, E, Z>,
+    pass: DomainPass<G>,
     who: Who,
-) -> Result<(DomainPass<M, E, Z>, Phasing<M>, Front), DomainPass<M, E, Z>>
+) -> Result<(DomainPass<G>, PhaseLook<G>, Front), DomainPass<G>>
     ghost operation: { OpenOperation }
     requires own { pass.cell ≡ cell.now }
     requires due { IsDueFor who operation pass }
@@ -46,21 +33,21 @@ pub fn phase_once<M: Monitor + Drop, E: Ears + Drop, Z: Killer + Drop, R: Wait>(
         Ok(turn) => turn,
         Err((pass, _)) => return Err(pass),
     };
-    let phasing = phase_in(&mut turn, alloc, who);
+    let looked = phase_in(&mut turn, alloc, who);
     let place = last_in(&mut turn);
     told_legal(&mut turn);
-    Ok((cell.leave(turn), phasing, place))
+    Ok((cell.leave(turn), looked, place))
 }
 
 /// Takes a turn, in which the operation of the pass ends, which is over; with what its caller is told, and the place of its
 /// End. A pass for which no ticket is left comes back as the error.
-pub fn end_once<M: Monitor + Drop, E: Ears + Drop, Z: Killer + Drop, R: Wait>(
+pub fn end_once<G: Guests, R: Wait>(
     rt: &R,
-    cell: &TurnCell<DomainCell<M, E, Z>>,
+    cell: &TurnCell<DomainCell<G>>,
     alloc: Global,
-    pass: DomainPass<M, E, Z>,
+    pass: DomainPass<G>,
     who: Who,
-) -> Result<(DomainPass<M, E, Z>, Reply, Front), DomainPass<M, E, Z>>
+) -> Result<(DomainPass<G>, Reply, Front), DomainPass<G>>
     ghost operation: { OpenOperation }
     requires own { pass.cell ≡ cell.now }
     requires over { IsOverFor who operation pass }

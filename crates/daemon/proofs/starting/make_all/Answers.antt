@@ -5,7 +5,7 @@ use Rattle.daemon.proofs.starting.make_all.Goals as goal
 
 pub loop-request-preserved : goal.loop-request-preserved
 loop-request-preserved g c = record {
-  made = made_next g.F.Files.told g.F.Files.faults (λ maker. g.G.Guests.faults maker.guests) g.G.E.Ears.ends g.G.E.Ears.faults g.G.E.Ears.unheard
+  made = made_next g.F.Files.told g.F.Files.faults g.G.Guests.faults g.G.E.Ears.ends g.G.E.Ears.faults g.G.E.Ears.unheard
       c.args.requests.now c.loop-request.request-index c.len.result c.request-item.result c.loop-request.outcomes.items c.push_reserved.new.self.items c.call-then.result.1
       (hand c.args.row (g.R.Random.drawn c.args.random.now)) (hand c.loop-request.row (g.R.Random.drawn c.loop-request.random)) (hand c.call-then.result.0 (g.R.Random.drawn c.call-then.new.random))
       (omega arith) (omega arith) c.request-item.is c.loop-request.invariant.made

@@ -8,7 +8,7 @@ use Rattle.daemon.proofs.starting.make_all.Given as goal
 
 abbrev pub invariant-loop-request : goal.invariant-loop-request
 invariant-loop-request g l = record {
-  made : HasMade g.F.Files.told g.F.Files.faults (λ maker. g.G.Guests.faults maker.guests) g.G.E.Ears.ends g.G.E.Ears.faults g.G.E.Ears.unheard (first_call 0) (take l.request-index l.requests) l.outcomes.items
+  made : HasMade g.F.Files.told g.F.Files.faults g.G.Guests.faults g.G.E.Ears.ends g.G.E.Ears.faults g.G.E.Ears.unheard (first_call 0) (take l.request-index l.requests) l.outcomes.items
       (hand l.fn.row (g.R.Random.drawn l.fn.random)) (hand l.row (g.R.Random.drawn l.random));
   count : length l.outcomes.items ≡ l.request-index;
   room : length l.requests ≤ vec_capacity l.outcomes;

@@ -7,7 +7,7 @@ look_in-requires-clause-known g c = known_first c.args.first c.args.turn.now.val
 
 pub give_up_in-requires-clause-can : goal.give_up_in-requires-clause-can
 give_up_in-requires-clause-can g c =
-    can_give_up_then {M = g.row.M.Denot} c.args.who c.args.call.now c.args.first c.args.turn.now c.look_in.new.turn c.in-Excluded.held c.in-Excluded.boot c.in-Excluded.looks c.in-Excluded.ensures.looks c.if-looks-ge-ENOUGH.true
+    can_give_up_then {G = g.row.G.Denot} {M = g.row.G-M.Denot} {E = g.row.G-E.Denot} {Z = g.row.G-Z.Denot} c.args.who c.args.call.now c.args.first c.args.turn.now c.look_in.new.turn c.in-Excluded.held c.in-Excluded.boot c.in-Excluded.looks c.in-Excluded.ensures.looks c.if-looks-ge-ENOUGH.true
     c.look_in.ensures.same
 
 pub give_up_in-requires-clause-excluded : goal.give_up_in-requires-clause-excluded

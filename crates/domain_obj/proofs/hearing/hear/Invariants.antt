@@ -9,5 +9,5 @@ invariant-loop-before g l = record {
   own : l.pass.cell ≡ l.fn.cell;
   ready : IsReady l.pass;
   few : l.before < 64;
-  keeps : Keeps g.E.Ears.ends g.E.Ears.faults g.E.Ears.unheard l.before l.fn.pass l.pass;
+  keeps : Keeps g.G.E.Ears.ends g.G.E.Ears.faults g.G.E.Ears.unheard l.before l.fn.pass l.pass;
 }

@@ -11,7 +11,7 @@ use Rattle.domain_obj.proofs.once.hear_once.Goals as goal
 pub returns-in-Ok-tell_once : goal.returns-in-Ok-tell_once
 returns-in-Ok-tell_once g c =
     let after = c.in-Ok-tell_once.after in
-    subst (λ (o : Once). HasHeardOnce g.E.Ears.ends g.E.Ears.faults g.E.Ears.unheard c.args.pass after o) (sym c.after_hearing.ensures)
-    (heard_so g.E.Ears.ends g.E.Ears.faults g.E.Ears.unheard c.hear-heard.result c.in-Ears.boot c.args.pass c.in-Ok.between after c.in-Ears.ears c.hear-heard.new.self c.in-Ok-tell_once.seen c.requires.ready
-    (subst (λ (l : Lent g.row.E.Denot). HasLent c.args.pass c.in-Ok.between l) c.in-Ears.is c.in-Ok.ensures.ok) c.hear-heard.ensures.cause c.hear-heard.ensures.unheard
+    subst (λ (o : Once). HasHeardOnce g.G.E.Ears.ends g.G.E.Ears.faults g.G.E.Ears.unheard c.args.pass after o) (sym c.after_hearing.ensures)
+    (heard_so g.G.E.Ears.ends g.G.E.Ears.faults g.G.E.Ears.unheard c.hear-heard.result c.in-Ears.boot c.args.pass c.in-Ok.between after c.in-Ears.ears c.hear-heard.new.self c.in-Ok-tell_once.seen c.requires.ready
+    (subst (λ (l : Lent g.row.G-E.Denot). HasLent c.args.pass c.in-Ok.between l) c.in-Ears.is c.in-Ok.ensures.ok) c.hear-heard.ensures.cause c.hear-heard.ensures.unheard
     (subst (λ (t : Option Told). IsTold c.in-Ears.boot t c.in-Ok.between after) c.told_of.ensures c.in-Ok-tell_once.ensures.ok) c.in-Ok-tell_once.ensures.seen)

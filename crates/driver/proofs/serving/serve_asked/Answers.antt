@@ -6,7 +6,7 @@ use Rattle.driver.proofs.serving.serve_asked.Goals as goal
 
 pub returns-in-Task-clause-came : goal.returns-in-Task-clause-came
 returns-in-Task-clause-came g c =
-    subst (λ (a : Asked). CameTo g.F.Files.told g.G.Maker.faults g.G.E.Ears.ends g.G.E.Ears.faults g.G.E.Ears.unheard g.F.Files.faults c.args.who a c.args.row c.serve_held.result.0 c.serve_held.result.1)
+    subst (λ (a : Asked). CameTo g.F.Files.told g.G.Guests.faults g.G.E.Ears.ends g.G.E.Ears.faults g.G.E.Ears.unheard g.F.Files.faults c.args.who a c.args.row c.serve_held.result.0 c.serve_held.result.1)
     (sym c.in-Task.is) c.serve_held.ensures.course
 
 pub returns-in-Connection-clause-gone : goal.returns-in-Connection-clause-gone

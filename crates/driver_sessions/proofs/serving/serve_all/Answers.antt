@@ -17,7 +17,7 @@ pub unseat_all-requires-clause-rows : goal.unseat_all-requires-clause-rows
 unseat_all-requires-clause-rows g c =
     omega (
       arith,
-      AllZip-long (IsServed g.F.Files.told g.F.Files.faults (λ maker. g.G.Guests.faults maker.guests) g.G.E.Ears.ends g.G.E.Ears.faults g.G.E.Ears.unheard g.S.Source.left g.S.Source.faults g.O.Sink.held g.O.Sink.faults g.N.Random.drawn c.args.driver.now)
+      AllZip-long (IsServed g.F.Files.told g.F.Files.faults g.G.Guests.faults g.G.E.Ears.ends g.G.E.Ears.faults g.G.E.Ears.unheard g.S.Source.left g.S.Source.faults g.O.Sink.held g.O.Sink.faults g.N.Random.drawn c.args.driver.now)
           c.seat_all-rows.result.1.items c.in-Ok.over.items c.in-Ok.ensures,
       c.seat_all-rows.ensures.room,
       c.seat_all-rows.result.1.ok,
@@ -28,7 +28,7 @@ pub unseat_all-requires-clause-room : goal.unseat_all-requires-clause-room
 unseat_all-requires-clause-room g c =
     omega (
       arith,
-      AllZip-long (IsServed g.F.Files.told g.F.Files.faults (λ maker. g.G.Guests.faults maker.guests) g.G.E.Ears.ends g.G.E.Ears.faults g.G.E.Ears.unheard g.S.Source.left g.S.Source.faults g.O.Sink.held g.O.Sink.faults g.N.Random.drawn c.args.driver.now)
+      AllZip-long (IsServed g.F.Files.told g.F.Files.faults g.G.Guests.faults g.G.E.Ears.ends g.G.E.Ears.faults g.G.E.Ears.unheard g.S.Source.left g.S.Source.faults g.O.Sink.held g.O.Sink.faults g.N.Random.drawn c.args.driver.now)
           c.seat_all-rows.result.1.items c.in-Ok.over.items c.in-Ok.ensures,
       c.seat_all-rows.ensures.count,
       c.len-count.ensures,
@@ -50,14 +50,14 @@ returns-in-Ok-clause-served g c = record {
 
 pub returns-in-Ok-clause-parts : goal.returns-in-Ok-clause-parts
 returns-in-Ok-clause-parts g c =
-    rows_kept g.F.Files.told g.F.Files.faults (λ maker. g.G.Guests.faults maker.guests) g.G.E.Ears.ends g.G.E.Ears.faults g.G.E.Ears.unheard g.S.Source.left g.S.Source.faults g.O.Sink.held g.O.Sink.faults g.N.Random.drawn c.args.driver.now c.args.rows.list c.unseat_all.result.0.list c.seat_all-rows.result.1.items c.in-Ok.over.items c.seat_all-rows.ensures.rows c.in-Ok.ensures c.unseat_all.ensures.rows
+    rows_kept g.F.Files.told g.F.Files.faults g.G.Guests.faults g.G.E.Ears.ends g.G.E.Ears.faults g.G.E.Ears.unheard g.S.Source.left g.S.Source.faults g.O.Sink.held g.O.Sink.faults g.N.Random.drawn c.args.driver.now c.args.rows.list c.unseat_all.result.0.list c.seat_all-rows.result.1.items c.in-Ok.over.items c.seat_all-rows.ensures.rows c.in-Ok.ensures c.unseat_all.ensures.rows
 
 pub returns-in-Ok-clause-own : goal.returns-in-Ok-clause-own
 returns-in-Ok-clause-own g c =
-    rows_had g.F.Files.told g.F.Files.faults (λ maker. g.G.Guests.faults maker.guests) g.G.E.Ears.ends g.G.E.Ears.faults g.G.E.Ears.unheard g.S.Source.left g.S.Source.faults g.O.Sink.held g.O.Sink.faults g.N.Random.drawn c.args.driver.now c.args.rows.list c.unseat_all.result.0.list c.seat_all-rows.result.1.items c.in-Ok.over.items c.seat_all-rows.ensures.rows c.in-Ok.ensures c.unseat_all.ensures.rows
+    rows_had g.F.Files.told g.F.Files.faults g.G.Guests.faults g.G.E.Ears.ends g.G.E.Ears.faults g.G.E.Ears.unheard g.S.Source.left g.S.Source.faults g.O.Sink.held g.O.Sink.faults g.N.Random.drawn c.args.driver.now c.args.rows.list c.unseat_all.result.0.list c.seat_all-rows.result.1.items c.in-Ok.over.items c.seat_all-rows.ensures.rows c.in-Ok.ensures c.unseat_all.ensures.rows
     (IsRowOf c.args.driver.now) (λ six may. may.own) c.requires.own
 
 pub returns-in-Ok-clause-ready : goal.returns-in-Ok-clause-ready
 returns-in-Ok-clause-ready g c =
-    rows_had g.F.Files.told g.F.Files.faults (λ maker. g.G.Guests.faults maker.guests) g.G.E.Ears.ends g.G.E.Ears.faults g.G.E.Ears.unheard g.S.Source.left g.S.Source.faults g.O.Sink.held g.O.Sink.faults g.N.Random.drawn c.args.driver.now c.args.rows.list c.unseat_all.result.0.list c.seat_all-rows.result.1.items c.in-Ok.over.items c.seat_all-rows.ensures.rows c.in-Ok.ensures c.unseat_all.ensures.rows
+    rows_had g.F.Files.told g.F.Files.faults g.G.Guests.faults g.G.E.Ears.ends g.G.E.Ears.faults g.G.E.Ears.unheard g.S.Source.left g.S.Source.faults g.O.Sink.held g.O.Sink.faults g.N.Random.drawn c.args.driver.now c.args.rows.list c.unseat_all.result.0.list c.seat_all-rows.result.1.items c.in-Ok.over.items c.seat_all-rows.ensures.rows c.in-Ok.ensures c.unseat_all.ensures.rows
     IsReadyRow (λ six may. may.ready) c.requires.ready

@@ -11,7 +11,7 @@ serve-rows-requires g c = record { ready = subst (λ (one : Seat _ _). IsRowOf c
 
 pub returns : goal.returns
 returns g c =
-    as_seen (IsServed g.F.Files.told g.F.Files.faults g.G.Maker.faults g.G.E.Ears.ends g.G.E.Ears.faults g.G.E.Ears.unheard g.S.Source.left g.S.Source.faults g.O.Sink.held g.O.Sink.faults g.N.Random.drawn c.args.driver.now)
+    as_seen (IsServed g.F.Files.told g.F.Files.faults g.G.Guests.faults g.G.E.Ears.ends g.G.E.Ears.faults g.G.E.Ears.unheard g.S.Source.left g.S.Source.faults g.O.Sink.held g.O.Sink.faults g.N.Random.drawn c.args.driver.now)
     _ c.args.one _ c.one.view_is
     (record {
       served = c.serve-rows.ensures.served;

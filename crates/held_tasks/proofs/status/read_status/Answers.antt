@@ -12,12 +12,12 @@ leave-pass-requires-clause-others g c = (leaves_all c.args.pass c.in-Ok.turn c.s
 
 pub returns-in-Ok-status : goal.returns-in-Ok-status
 returns-in-Ok-status g c =
-    let looks = only_looks c.args.pass c.in-Ok.turn c.status_in-status.new.turn c.leave-pass.result c.in-Ok.ensures.turn c.status_in-status.ensures.same c.leave-pass.ensures in
+    let looks = only_looks c.args.pass c.in-Ok.turn c.status_in-status.new.turn c.leave-pass.result c.in-Ok.ensures.turn c.status_in-status.ensures.same c.leave-pass.ensures c.status_in-status.ensures.legal in
     let seen = status_seen c.args.pass c.in-Ok.turn c.status_in-status.new.turn c.leave-pass.result c.in-Ok.ensures.turn c.status_in-status.ensures.same c.leave-pass.ensures c.in-Ok-status.status c.status_in-status.result c.in-Ok-status.is
     c.status_in-status.ensures.status in
-    record { read = (looks, seen); same = looks.went.same }
+    record { read = (looks, seen); same = looks.goes.went.same }
 
 pub returns-in-Err-status : goal.returns-in-Err-status
 returns-in-Err-status g c =
-    let looks = only_looks c.args.pass c.in-Ok.turn c.status_in-status.new.turn c.leave-pass.result c.in-Ok.ensures.turn c.status_in-status.ensures.same c.leave-pass.ensures in
-    record { read = looks; same = looks.went.same }
+    let looks = only_looks c.args.pass c.in-Ok.turn c.status_in-status.new.turn c.leave-pass.result c.in-Ok.ensures.turn c.status_in-status.ensures.same c.leave-pass.ensures c.status_in-status.ensures.legal in
+    record { read = looks; same = looks.goes.went.same }

@@ -11,9 +11,9 @@ invariant_of-daemon g c = stands_still c.self.inside.driver c.self.inside.row c.
 
 pub returns-clause-made : goal.returns-clause-made
 returns-clause-made g c =
-    subst (λ (d : DaemonView _). HasMade g.F.Files.told g.F.Files.faults (λ maker. g.G.Guests.faults maker.guests) g.G.E.Ears.ends g.G.E.Ears.faults g.G.E.Ears.unheard (first_call 0) d.driver.starts c.make_all-row.result.1.items
+    subst (λ (d : DaemonView _). HasMade g.F.Files.told g.F.Files.faults g.G.Guests.faults g.G.E.Ears.ends g.G.E.Ears.faults g.G.E.Ears.unheard (first_call 0) d.driver.starts c.make_all-row.result.1.items
     (hand d.row (g.R.Random.drawn c.args.random.now)) (hand c.make_all-row.result.0 (g.R.Random.drawn c.make_all-row.new.random)))
     c.self.view_is
-    (subst (λ (requests : List Request). HasMade g.F.Files.told g.F.Files.faults (λ maker. g.G.Guests.faults maker.guests) g.G.E.Ears.ends g.G.E.Ears.faults g.G.E.Ears.unheard (first_call 0) requests c.make_all-row.result.1.items
+    (subst (λ (requests : List Request). HasMade g.F.Files.told g.F.Files.faults g.G.Guests.faults g.G.E.Ears.ends g.G.E.Ears.faults g.G.E.Ears.unheard (first_call 0) requests c.make_all-row.result.1.items
     (hand c.self.inside.row (g.R.Random.drawn c.args.random.now)) (hand c.make_all-row.result.0 (g.R.Random.drawn c.make_all-row.new.random)))
     (c.as_slice.ensures ∙ c.found-2.ensures) c.make_all-row.ensures.made)

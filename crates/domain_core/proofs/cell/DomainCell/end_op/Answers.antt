@@ -7,4 +7,4 @@ invariant_of-self g c =
     let a = c.args in
     let i = c.self.inside in
     let takes = c.end_op-reply.ensures.ends in
-    aside_kept i.turns.turning c.end_op-reply.new.self.turning (step.EndOp a.by.number a.who) takes.0 i.out c.made.result i.link c.keep.new.link tt takes.1 c.self.invariant c.made.ensures c.keep.ensures
+    aside_kept i.turns.turning c.end_op-reply.new.self.turning (step.EndOp a.by.number a.who) takes.0 i.out c.made.result i.link c.keep.new.link tt tt takes.1 c.self.invariant c.made.ensures c.keep.ensures

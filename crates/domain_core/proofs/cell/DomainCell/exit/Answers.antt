@@ -7,4 +7,4 @@ invariant_of-self g c =
     let a = c.args in
     let i = c.self.inside in
     let takes = c.exit.ensures.exits in
-    aside_kept i.turns.turning c.exit.new.self.turning (step.Exit a.boot a.why) takes.0 i.out c.made.result i.link c.keep.new.link tt takes.1 c.self.invariant c.made.ensures c.keep.ensures
+    aside_kept i.turns.turning c.exit.new.self.turning (step.Exit a.boot a.why) takes.0 i.out c.made.result i.link c.keep.new.link tt tt takes.1 c.self.invariant c.made.ensures c.keep.ensures

@@ -7,4 +7,4 @@ invariant_of-self g c =
     let a = c.args in
     let i = c.self.inside in
     let takes = c.unwatch.ensures.leaves in
-    aside_kept i.turns.turning c.unwatch.new.self.turning (step.Unwatch a.by.number a.client) takes.0 i.out c.made.result i.link c.keep.new.link tt takes.1 c.self.invariant c.made.ensures c.keep.ensures
+    aside_kept i.turns.turning c.unwatch.new.self.turning (step.Unwatch a.by.number a.client) takes.0 i.out c.made.result i.link c.keep.new.link tt tt takes.1 c.self.invariant c.made.ensures c.keep.ensures

@@ -7,4 +7,4 @@ invariant_of-self g c =
     let a = c.args in
     let i = c.self.inside in
     let takes = c.watch-watched.ensures.watches.turn in
-    aside_kept i.turns.turning c.watch-watched.new.self.turning (step.Watch a.by.number) takes.0 i.out c.made.result i.link c.keep.new.link tt takes.1 c.self.invariant c.made.ensures c.keep.ensures
+    aside_kept i.turns.turning c.watch-watched.new.self.turning (step.Watch a.by.number) takes.0 i.out c.made.result i.link c.keep.new.link tt tt takes.1 c.self.invariant c.made.ensures c.keep.ensures

@@ -23,20 +23,20 @@ pub back-left-requires-clause-may : goal.back-left-requires-clause-may
 back-left-requires-clause-may c =
     let a = c.args in
     let i = c.self.inside in
-    may_back a.self.now i.kept i.queue i.held.items i.ears i.excluded a.answer c.self.view_is c.is_away.ensures.waits c.requires.may
+    may_back a.self.now i.kept i.queue i.held.items i.ears i.excluded a.answer c.self.view_is c.facts.ensures.waits c.requires.may
 
 pub back-left-requires-clause-marks : goal.back-left-requires-clause-marks
 back-left-requires-clause-marks c =
     let a = c.args in
     let i = c.self.inside in
-    let may = may_back a.self.now i.kept i.queue i.held.items i.ears i.excluded a.answer c.self.view_is c.is_away.ensures.waits c.requires.may in
+    let may = may_back a.self.now i.kept i.queue i.held.items i.ears i.excluded a.answer c.self.view_is c.facts.ensures.waits c.requires.may in
     (back_room i.kept i.queue i.held.items i.ears i.excluded (vec_len i.rooms) (vec_capacity i.held) a.answer c.self.invariant may).0
 
 pub back-left-requires-clause-rooms : goal.back-left-requires-clause-rooms
 back-left-requires-clause-rooms c =
     let a = c.args in
     let i = c.self.inside in
-    let may = may_back a.self.now i.kept i.queue i.held.items i.ears i.excluded a.answer c.self.view_is c.is_away.ensures.waits c.requires.may in
+    let may = may_back a.self.now i.kept i.queue i.held.items i.ears i.excluded a.answer c.self.view_is c.facts.ensures.waits c.requires.may in
     subst (λ (hs : List HeldEvent). length hs + 1 ≤ vec_len i.rooms) (sym c.as_slice.ensures.value)
     (back_room i.kept i.queue i.held.items i.ears i.excluded (vec_len i.rooms) (vec_capacity i.held) a.answer c.self.invariant may).1
 
@@ -52,9 +52,9 @@ invariant_of-self c =
     let leaves = subst (λ (hs : List HeldEvent). LeavesRooms left hs rooms more) c.as_slice.ensures.value c.back-left.ensures.left in
     let can = subst (λ (v : Core). CanTake v.turning.cell (step.Back a.by.number a.answer)) (sym c.self.view_is) c.requires.can in
     let goes =
-    back_turn i.kept new i.queue i.held.items i.ears a.by.number a.answer left can c.state.ensures.lost c.is_away.ensures.waits c.is_away.ensures.room
-    c.state-2.ensures.lost c.is_away-2.ensures.waits answers in
-    let may = may_back a.self.now i.kept i.queue i.held.items i.ears i.excluded a.answer c.self.view_is c.is_away.ensures.waits c.requires.may in
+    back_turn i.kept new i.queue i.held.items i.ears a.by.number a.answer left can c.facts.ensures.lost c.facts.ensures.waits c.facts.ensures.room
+    c.facts-2.ensures.lost c.facts-2.ensures.waits answers in
+    let may = may_back a.self.now i.kept i.queue i.held.items i.ears i.excluded a.answer c.self.view_is c.facts.ensures.waits c.requires.may in
     let needs = marks_away (force_of i.kept) (force_of i.kept).job i.kept.course a.answer may in
     subst (λ (hs : List HeldEvent). IsWhole new i.queue hs i.ears None more (vec_capacity c.let_go.new.held)) (sym c.let_go.ensures.items)
     (subst (λ (n : ℕ). IsWhole new i.queue (held_after left i.held.items) i.ears None more n) (sym c.let_go.ensures.places)
@@ -70,7 +70,7 @@ returns-clause-back c =
     let answers = subst (λ (hs : List HeldEvent). Answers a.by.number i.kept.course a.answer hs i.kept new left) c.as_slice.ensures.value c.back-left.ensures.answers in
     subst (λ (hs : List HeldEvent). GoesBack a.by.number a.answer a.self.now.turning (turning new i.queue hs i.ears) left) (sym c.let_go.ensures.items)
     (back_goes a.self.now i.kept new i.queue i.held.items i.ears i.excluded a.by.number a.answer left c.self.view_is c.requires.can
-    c.state.ensures.lost c.is_away.ensures.waits c.is_away.ensures.room c.state-2.ensures.lost c.is_away-2.ensures.waits answers)
+    c.facts.ensures.lost c.facts.ensures.waits c.facts.ensures.room c.facts-2.ensures.lost c.facts-2.ensures.waits answers)
 
 pub returns-clause-others : goal.returns-clause-others
 returns-clause-others c =
@@ -78,4 +78,4 @@ returns-clause-others c =
     let i = c.self.inside in
     let own = back_numbered a.self.now i.kept i.queue i.held.items i.ears i.excluded a.by.number a.answer c.self.view_is c.requires.can in
     back_others a.self.now i.kept c.back-left.new.kept i.queue i.held.items c.let_go.new.held.items i.ears i.excluded a.by.number a.answer c.back-left.result c.self.view_is (returns-clause-back c) own
-    c.are_apart.ensures c.is_away.ensures.waits c.is_away-2.ensures.waits
+    c.facts.ensures.apart c.facts.ensures.waits c.facts-2.ensures.waits

@@ -31,7 +31,7 @@ invariant_of-self c =
     let over = subst (λ (s : Standing). CanEnd s.operation a.by.number a.who) (sym (force_shown a.self.now i.kept i.queue i.held.items i.ears i.excluded c.self.view_is)) c.requires.over in
     let ended =
     end_turn i.kept l.new.kept i.queue i.held.items i.ears i.excluded (vec_len i.rooms) (vec_capacity i.held) a.by.number a.who l.result c.self.invariant over
-    c.state.ensures.lost c.is_away.ensures.waits c.is_away.ensures.room c.state-2.ensures.lost c.is_away-2.ensures.waits l.ensures.ends in
+    c.facts.ensures.lost c.facts.ensures.waits c.facts.ensures.room c.facts-2.ensures.lost c.facts-2.ensures.waits l.ensures.ends in
     end_keeps i.kept l.new.kept i.queue i.held.items i.ears i.excluded (vec_len i.rooms) (vec_capacity i.held) a.by.number a.who l.result c.self.invariant ended l.ensures.ends
     (l.ensures.marks (vec_len i.rooms) c.self.invariant.ends)
 
@@ -43,7 +43,7 @@ returns-clause-ends c =
     let over = subst (λ (s : Standing). CanEnd s.operation a.by.number a.who) (sym (force_shown a.self.now i.kept i.queue i.held.items i.ears i.excluded c.self.view_is)) c.requires.over in
     subst (λ (v : Core). Ends a.by.number a.who v.turning (turning l.new.kept i.queue i.held.items i.ears) l.result) c.self.view_is
     (end_turn i.kept l.new.kept i.queue i.held.items i.ears i.excluded (vec_len i.rooms) (vec_capacity i.held) a.by.number a.who l.result c.self.invariant over
-    c.state.ensures.lost c.is_away.ensures.waits c.is_away.ensures.room c.state-2.ensures.lost c.is_away-2.ensures.waits l.ensures.ends)
+    c.facts.ensures.lost c.facts.ensures.waits c.facts.ensures.room c.facts-2.ensures.lost c.facts-2.ensures.waits l.ensures.ends)
 
 pub returns-clause-others : goal.returns-clause-others
 returns-clause-others c =
@@ -51,4 +51,4 @@ returns-clause-others c =
     let i = c.self.inside in
     let l = c.end_op-reply in
     takes_others a.self.now i.kept l.new.kept i.queue i.queue i.held.items i.held.items i.ears i.ears i.excluded a.by.number (step.EndOp a.by.number a.who) c.self.view_is (returns-clause-ends c) refl tt
-    c.are_apart.ensures c.is_away.ensures.waits c.is_away-2.ensures.waits l.ensures.ends.course
+    c.facts.ensures.apart c.facts.ensures.waits c.facts-2.ensures.waits l.ensures.ends.course

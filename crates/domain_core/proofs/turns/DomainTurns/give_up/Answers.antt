@@ -27,7 +27,7 @@ returns-clause-given_up c =
     let whole = subst (λ (x : Option Refusable). IsWhole i.kept i.queue i.held.items i.ears x (vec_len i.rooms) (vec_capacity i.held)) there c.self.invariant in
     let is = subst (λ (x : Option Refusable). core_of i.kept i.queue i.held.items i.ears x ≡ a.self.now) there c.self.view_is in
     give_goes a.self.now i.kept c.give_up.new.kept i.queue c.give_up.new.queue i.held.items i.ears z (vec_len i.rooms) (vec_capacity i.held) a.by.number a.who a.call.now is
-    c.requires.excluded whole c.requires.can c.state.ensures.lost c.is_away.ensures.waits c.state-2.ensures.lost c.is_away-2.ensures.waits c.give_up.ensures.given_up
+    c.requires.excluded whole c.requires.can c.facts.ensures.lost c.facts.ensures.waits c.facts-2.ensures.lost c.facts-2.ensures.waits c.give_up.ensures.given_up
 
 pub returns-clause-others : goal.returns-clause-others
 returns-clause-others c =
@@ -35,4 +35,4 @@ returns-clause-others c =
     let i = c.self.inside in
     let z = c.in-Some.refusable in
     takes_others a.self.now i.kept c.give_up.new.kept i.queue c.give_up.new.queue i.held.items i.held.items i.ears i.ears i.excluded a.by.number (step.GiveUp a.by.number a.who a.call.now) c.self.view_is
-    (returns-clause-given_up c) refl tt c.are_apart.ensures c.is_away.ensures.waits c.is_away-2.ensures.waits c.give_up.ensures.given_up.1.course
+    (returns-clause-given_up c) refl tt c.facts.ensures.apart c.facts.ensures.waits c.facts-2.ensures.waits c.give_up.ensures.given_up.1.course

@@ -11,14 +11,14 @@ pub look_on-looked-requires-clause-lawful : goal.look_on-looked-requires-clause-
 look_on-looked-requires-clause-lawful c =
     let a = c.args in
     let i = c.self.inside in
-    λ may. look_may a.self.now i.kept i.queue i.held.items i.ears i.excluded (vec_len i.rooms) (vec_capacity i.held) a.by.number a.who a.call.now a.first c.self.view_is c.self.invariant c.requires.can c.requires.known c.state.ensures.lost may
+    λ may. look_may a.self.now i.kept i.queue i.held.items i.ears i.excluded (vec_len i.rooms) (vec_capacity i.held) a.by.number a.who a.call.now a.first c.self.view_is c.self.invariant c.requires.can c.requires.known c.facts.ensures.lost may
 
 pub returns-clause-looks : goal.returns-clause-looks
 returns-clause-looks c =
     let a = c.args in
     let i = c.self.inside in
     look_goes a.self.now i.kept c.look_on-looked.new.kept i.queue c.look_on-looked.new.queue i.held.items i.ears i.excluded (vec_len i.rooms) (vec_capacity i.held) a.by.number a.who a.call.now a.first c.look_on-looked.result
-    c.self.view_is c.self.invariant c.requires.can c.requires.known c.state.ensures.lost c.is_away.ensures.waits c.is_away.ensures.room c.state-2.ensures.lost c.is_away-2.ensures.waits c.look_on-looked.ensures.looks
+    c.self.view_is c.self.invariant c.requires.can c.requires.known c.facts.ensures.lost c.facts.ensures.waits c.facts.ensures.room c.facts-2.ensures.lost c.facts-2.ensures.waits c.look_on-looked.ensures.looks
 
 pub returns-clause-others : goal.returns-clause-others
 returns-clause-others c =
@@ -26,7 +26,7 @@ returns-clause-others c =
     let i = c.self.inside in
     let l = c.look_on-looked in
     look_others a.self.now i.kept l.new.kept i.queue l.new.queue i.held.items i.ears i.excluded a.by.number a.who a.call.now a.first (boot_first a.first (live_boot (force_of i.kept).state)) l.result
-    c.self.view_is (returns-clause-looks c) l.ensures.looks c.are_apart.ensures c.is_away.ensures.waits c.is_away-2.ensures.waits
+    c.self.view_is (returns-clause-looks c) l.ensures.looks c.facts.ensures.apart c.facts.ensures.waits c.facts-2.ensures.waits
 
 pub returns-clause-queue : goal.returns-clause-queue
 returns-clause-queue c =

@@ -1,4 +1,4 @@
-use Rattle.std.proofs.Common.{◌≡◌, ap, ◌∙◌, Option}
+use Rattle.std.proofs.Common.{ap, ◌∙◌, Option}
 use Rattle.domain_spec.specs.Cell.{standing_of}
 use Rattle.domain_spec.specs.Reading.{live_boot}
 use Rattle.domain_spec.specs.Types.{State}

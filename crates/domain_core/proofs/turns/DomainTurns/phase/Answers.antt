@@ -23,7 +23,7 @@ returns-clause-phases c =
     let due = subst (λ (s : Standing). IsDue s.operation a.by.number a.who) (sym (force_shown a.self.now i.kept i.queue i.held.items i.ears i.excluded c.self.view_is)) c.requires.due in
     subst (λ (v : Core). Phases a.by.number a.who v.turning (turning l.new.kept i.queue i.held.items i.ears) l.result) c.self.view_is
     (phase_turn i.kept l.new.kept i.queue i.held.items i.ears i.excluded (vec_len i.rooms) (vec_capacity i.held) a.by.number a.who l.result c.self.invariant due
-    c.state.ensures.lost c.is_away.ensures.waits c.is_away.ensures.room c.state-2.ensures.lost c.is_away-2.ensures.waits l.ensures.phases)
+    c.facts.ensures.lost c.facts.ensures.waits c.facts.ensures.room c.facts-2.ensures.lost c.facts-2.ensures.waits l.ensures.phases)
 
 pub returns-clause-others : goal.returns-clause-others
 returns-clause-others c =
@@ -31,4 +31,4 @@ returns-clause-others c =
     let i = c.self.inside in
     let l = c.phase-looked in
     phase_others a.self.now i.kept l.new.kept i.queue i.held.items i.ears i.excluded a.by.number a.who l.result c.self.view_is (returns-clause-phases c) l.ensures.phases
-    c.are_apart.ensures c.is_away.ensures.waits c.is_away-2.ensures.waits
+    c.facts.ensures.apart c.facts.ensures.waits c.facts-2.ensures.waits

@@ -1,5 +1,4 @@
-use Rattle.std.proofs.Common.{Option, ap, subst}
-use Rattle.domain_spec.specs.declared.open.OpenOperation.{OpenOperation}
+use Rattle.std.proofs.Common.{subst}
 use Rattle.domain_spec.specs.declared.standing.Standing.{Standing}
 use Rattle.core_steps.specs.OfLedger.{IsToldAtEnd}
 use Rattle.domain_core.proofs.Shown.{force_shown}

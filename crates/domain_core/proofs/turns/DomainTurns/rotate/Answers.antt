@@ -30,7 +30,7 @@ returns-clause-ok c =
     let i = c.self.inside in
     let l = c.rotate-rotated in
     rotates_on a.self.now i.kept l.new.kept i.queue l.new.queue i.held.items i.ears i.excluded (vec_len i.rooms) (vec_capacity i.held) a.by.number a.who l.result c.self.view_is c.self.invariant c.requires.can
-    c.state.ensures.lost c.is_away.ensures.waits c.is_away.ensures.room l.ensures.rotates
+    c.facts.ensures.lost c.facts.ensures.waits c.facts.ensures.room l.ensures.rotates
 
 pub returns-clause-queue : goal.returns-clause-queue
 returns-clause-queue c =
@@ -45,4 +45,4 @@ returns-clause-others c =
     let i = c.self.inside in
     let l = c.rotate-rotated in
     rotate_others a.self.now i.kept l.new.kept i.queue l.new.queue i.held.items i.ears i.excluded a.by.number a.who l.result c.self.view_is (returns-clause-ok c) l.ensures.rotates
-    c.are_apart.ensures c.is_away.ensures.waits c.is_away-2.ensures.waits l.ensures.course
+    c.facts.ensures.apart c.facts.ensures.waits c.facts-2.ensures.waits l.ensures.course

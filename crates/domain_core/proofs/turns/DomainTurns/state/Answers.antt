@@ -1,4 +1,4 @@
-use Rattle.std.proofs.Common.{◌≡◌, ap, ◌∙◌}
+use Rattle.std.proofs.Common.{ap, ◌∙◌}
 use Rattle.domain_spec.specs.declared.standing.Standing.{Standing}
 use Rattle.domain_core.proofs.Shown.{force_shown}
 use Rattle.domain_core.proofs.turns.DomainTurns.state.Goals as goal

@@ -14,7 +14,7 @@ unwatch-requires c =
     let a = c.args in
     let i = c.self.inside in
     let can = subst (λ (v : Core). CanTake v.turning.cell (step.Unwatch a.by.number a.client)) (sym c.self.view_is) c.requires.can in
-    record { quiet = own_quiet i.kept i.queue i.held.items i.ears a.by.number a.client can c.has.ensures.apart }
+    record { quiet = own_quiet i.kept i.queue i.held.items i.ears a.by.number a.client can c.facts.ensures.apart }
 
 pub returns-clause-leaves : goal.returns-clause-leaves
 returns-clause-leaves c =
@@ -23,7 +23,7 @@ returns-clause-leaves c =
     let l = c.unwatch in
     subst (λ (v : Core). Takes v.turning (turning l.new.kept i.queue i.held.items i.ears) (step.Unwatch a.by.number a.client) (λ left. left ≡ mark.Unwatch a.by.number a.client ∷ [])) c.self.view_is
     (leave_turn i.kept l.new.kept i.queue i.held.items i.ears i.excluded (vec_len i.rooms) (vec_capacity i.held) a.by.number a.client c.self.invariant
-    c.state.ensures.lost c.is_away.ensures.waits c.is_away.ensures.room c.state-2.ensures.lost c.is_away-2.ensures.waits l.ensures.leaves)
+    c.facts.ensures.lost c.facts.ensures.waits c.facts.ensures.room c.facts-2.ensures.lost c.facts-2.ensures.waits l.ensures.leaves)
 
 pub invariant_of-self : goal.invariant_of-self
 invariant_of-self c =
@@ -38,4 +38,4 @@ returns-clause-others c =
     let i = c.self.inside in
     let l = c.unwatch in
     takes_others a.self.now i.kept l.new.kept i.queue i.queue i.held.items i.held.items i.ears i.ears i.excluded a.by.number (step.Unwatch a.by.number a.client) c.self.view_is (returns-clause-leaves c) refl tt
-    c.has.ensures.apart c.is_away.ensures.waits c.is_away-2.ensures.waits l.ensures.leaves.course
+    c.facts.ensures.apart c.facts.ensures.waits c.facts-2.ensures.waits l.ensures.leaves.course

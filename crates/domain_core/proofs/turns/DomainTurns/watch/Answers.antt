@@ -15,7 +15,7 @@ returns-clause-watches c =
     let l = c.watch-watched in
     subst (λ (v : Core). WatchesSo a.by.number v.turning (turning l.new.kept i.queue i.held.items i.ears) l.result) c.self.view_is
     (watch_turn i.kept l.new.kept i.queue i.held.items i.ears i.excluded (vec_len i.rooms) (vec_capacity i.held) a.by.number l.result c.self.invariant
-    c.state.ensures.lost c.is_away.ensures.waits c.is_away.ensures.room c.state-2.ensures.lost c.is_away-2.ensures.waits l.ensures.watches)
+    c.facts.ensures.lost c.facts.ensures.waits c.facts.ensures.room c.facts-2.ensures.lost c.facts-2.ensures.waits l.ensures.watches)
 
 pub returns-clause-others : goal.returns-clause-others
 returns-clause-others c =
@@ -23,4 +23,4 @@ returns-clause-others c =
     let i = c.self.inside in
     let l = c.watch-watched in
     takes_others a.self.now i.kept l.new.kept i.queue i.queue i.held.items i.held.items i.ears i.ears i.excluded a.by.number (step.Watch a.by.number) c.self.view_is (returns-clause-watches c).turn refl tt
-    c.are_apart.ensures c.is_away.ensures.waits c.is_away-2.ensures.waits l.ensures.course
+    c.facts.ensures.apart c.facts.ensures.waits c.facts-2.ensures.waits l.ensures.course

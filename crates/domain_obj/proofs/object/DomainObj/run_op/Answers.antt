@@ -22,6 +22,6 @@ returns g c = record {
   hears = c.hear-pass.ensures.heard;
   leaves = c.hear-pass.ensures.leaves;
   tells = c.told_of_operation-reply.ensures.reply;
-  is_at = at_then g.E.Ears.ends g.E.Ears.faults g.E.Ears.unheard c.run_operation-pass.result.0 c.hear-pass.result.0 c.hear-pass.result.1 (operated_at c.run_operation-pass.result.1) c.told_of_operation-reply.result.1 c.seen_by.result c.place_at.result c.hear-pass.ensures.heard
+  is_at = at_then g.G.E.Ears.ends g.G.E.Ears.faults g.G.E.Ears.unheard c.run_operation-pass.result.0 c.hear-pass.result.0 c.hear-pass.result.1 (operated_at c.run_operation-pass.result.1) c.told_of_operation-reply.result.1 c.seen_by.result c.place_at.result c.hear-pass.ensures.heard
       c.told_of_operation-reply.ensures.place c.seen_by.ensures c.place_at.ensures.place c.place_at.ensures.seen;
 }

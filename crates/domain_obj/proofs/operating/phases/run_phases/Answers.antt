@@ -1,12 +1,12 @@
 use Rattle.std.proofs.Common.{subst, ◌∙◌}
 use Rattle.domain_obj.specs.declared.operating.phases.OnePhase.{OnePhase}
 use Rattle.domain_obj.specs.declared.operating.phases.OnePhase.TheVariants as one
-use Rattle.domain_obj.specs.declared.next.Next.{Next}
+use Rattle.domain_core.specs.declared.next.Next.{Next}
 use Rattle.domain_obj.proofs.GoingOn.{RunsPhase, due_to_run, ended_so, goes_on_again, goes_on_first, lost_amid, lost_before_end, over_to_end, rests}
 use Rattle.domain_obj.proofs.operating.phases.run_phases.Goals as goal
 
 pub loop-init : goal.loop-init
-loop-init g c = (tt, tt, c.requires.1.1.1.1.1.0, goes_on_first c.args.who g.operation c.args.pass (g.D.Desk.report c.args.desk.now) c.requires.1.1.1.1.1.1)
+loop-init g c = (tt, tt, c.requires.1.1.1.1.1.1.0, goes_on_first c.args.who g.operation c.args.pass (g.D.Desk.report c.args.desk.now) c.requires.1.1.1.1.1.1.1)
 
 pub loop-preserved : goal.loop-preserved
 loop-preserved g c =

@@ -8,7 +8,7 @@ use Rattle.domain_obj.proofs.Stepped.{end_leaves, ended_once, may_end}
 use Rattle.domain_obj.proofs.operating.phasing.end_once.Goals as goal
 
 pub end_in-reply-requires : goal.end_in-reply-requires
-end_in-reply-requires g c = record { over = may_end c.args.who g.operation c.args.pass c.in-Ok.turn c.in-Ok.ensures.turn c.requires.1.1.1.1.1 }
+end_in-reply-requires g c = record { over = may_end c.args.who g.operation c.args.pass c.in-Ok.turn c.in-Ok.ensures.turn c.requires.1.1.1.1.1.1 }
 
 pub leave-requires-clause-goes_on : goal.leave-requires-clause-goes_on
 leave-requires-clause-goes_on g c =
@@ -27,7 +27,7 @@ leave-requires-clause-others g c =
 
 pub returns-clause-ok : goal.returns-clause-ok
 returns-clause-ok g c =
-    ended_once c.args.who g.operation c.args.pass c.leave.result c.in-Ok.turn c.end_in-reply.new.turn c.told_legal.new.turn c.last_in-place.result c.end_in-reply.result c.in-Ok.ensures.turn c.requires.1.1.1.1.1
+    ended_once c.args.who g.operation c.args.pass c.leave.result c.in-Ok.turn c.end_in-reply.new.turn c.told_legal.new.turn c.last_in-place.result c.end_in-reply.result c.in-Ok.ensures.turn c.requires.1.1.1.1.1.1
     c.end_in-reply.ensures.ends c.end_in-reply.ensures.same (c.told_legal.ensures.same ∙ c.last_in-place.ensures.same) c.last_in-place.ensures.place
     (subst (λ (t : DomainTurn). IsLegal (at_base (cell_in t.value).base) (cell_in t.value).marks) c.last_in-place.ensures.same c.told_legal.ensures.legal)
     (subst (λ (t : DomainTurn). IsCounted (at_base (cell_in t.value).base)) c.last_in-place.ensures.same c.told_legal.ensures.counted) c.leave.ensures

@@ -1,0 +1,31 @@
+use Rattle.std.proofs.Common.{◌∙◌, subst}
+use Rattle.domain_spec.specs.Fold.{at_base}
+use Rattle.domain_spec.specs.Legal.{IsLegal}
+use Rattle.domain_core.specs.Celled.{cell_in}
+use Rattle.domain_obj.specs.InTurn.{DomainTurn}
+use Rattle.domain_obj.proofs.WatchTurns.{watch_leave, watch_turn, watched_once}
+use Rattle.domain_obj.proofs.SilentTurns.{seen_at}
+use Rattle.domain_obj.proofs.clients.watch_once.Goals as goal
+
+pub leave-requires-clause-goes_on : goal.leave-requires-clause-goes_on
+leave-requires-clause-goes_on g c =
+    (watch_leave c.args.pass c.in-Ok.turn c.told_owed.new.turn c.watch_in-watched.new.turn c.told_legal.new.turn c.watch_in-watched.result c.in-Ok.ensures.turn c.told_owed.ensures.same c.watch_in-watched.ensures.watches c.watch_in-watched.ensures.same (c.told_legal.ensures.same ∙ c.seen_in-seen.ensures.same)).goes_on
+
+pub leave-requires-clause-marks : goal.leave-requires-clause-marks
+leave-requires-clause-marks g c =
+    (watch_leave c.args.pass c.in-Ok.turn c.told_owed.new.turn c.watch_in-watched.new.turn c.told_legal.new.turn c.watch_in-watched.result c.in-Ok.ensures.turn c.told_owed.ensures.same c.watch_in-watched.ensures.watches c.watch_in-watched.ensures.same (c.told_legal.ensures.same ∙ c.seen_in-seen.ensures.same)).marks
+
+pub leave-requires-clause-others : goal.leave-requires-clause-others
+leave-requires-clause-others g c =
+    (watch_leave c.args.pass c.in-Ok.turn c.told_owed.new.turn c.watch_in-watched.new.turn c.told_legal.new.turn c.watch_in-watched.result c.in-Ok.ensures.turn c.told_owed.ensures.same c.watch_in-watched.ensures.watches c.watch_in-watched.ensures.same (c.told_legal.ensures.same ∙ c.seen_in-seen.ensures.same)).others
+
+pub returns-clause-ok : goal.returns-clause-ok
+returns-clause-ok g c =
+    watched_once c.args.pass c.leave.result c.in-Ok.turn c.told_owed.new.turn c.watch_in-watched.new.turn c.told_legal.new.turn c.watch_in-watched.result c.in-Ok.ensures.turn c.told_owed.ensures.same c.told_owed.ensures.owed c.told_owed.ensures.listeners c.watch_in-watched.ensures.watches c.watch_in-watched.ensures.same (c.told_legal.ensures.same ∙ c.seen_in-seen.ensures.same)
+    (subst (λ (t : DomainTurn). IsLegal (at_base (cell_in t.value).base) (cell_in t.value).marks) c.seen_in-seen.ensures.same c.told_legal.ensures.legal) c.leave.ensures
+
+pub returns-clause-seen : goal.returns-clause-seen
+returns-clause-seen g c =
+    seen_at c.seen_in-seen.result c.leave.result c.watch_in-watched.new.turn.value c.seen_in-seen.ensures.chapter c.seen_in-seen.ensures.marks c.seen_in-seen.ensures.occupied
+    (watch_turn c.args.pass c.leave.result c.in-Ok.turn c.told_owed.new.turn c.watch_in-watched.new.turn c.told_legal.new.turn c.watch_in-watched.result c.in-Ok.ensures.turn c.told_owed.ensures.same c.watch_in-watched.ensures.watches c.watch_in-watched.ensures.same (c.told_legal.ensures.same ∙ c.seen_in-seen.ensures.same)
+    (subst (λ (t : DomainTurn). IsLegal (at_base (cell_in t.value).base) (cell_in t.value).marks) c.seen_in-seen.ensures.same c.told_legal.ensures.legal) c.leave.ensures).saw

@@ -1,4 +1,0 @@
-use Rattle.domain_obj.proofs.operating.entering.take_up_as.Given as goal
-
-abbrev pub ghost-named : goal.ghost-named
-ghost-named g a = g.number

@@ -1,5 +1,0 @@
-use Rattle.std.proofs.Common.{length}
-use Rattle.session_stories.proofs.told.all_said.Given as goal
-
-abbrev pub decreases-loop-reply : goal.decreases-loop-reply
-decreases-loop-reply l = length l.feed.ready
