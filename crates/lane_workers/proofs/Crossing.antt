@@ -9,8 +9,8 @@ use Rattle.lanes.proofs.lane.Lane.TheSendSync as lane
 use Rattle.packet.specs.declared.outside.Sink as sink
 use Rattle.sink_turns.proofs.mark.Noted.TheSendSync.Send.{send}
 use Rattle.sink_turns.specs.contracts.mark.Noted
-use Rattle.sink_turns.specs.contracts.out.Out
-use Rattle.sink_turns.specs.contracts.out.Out.TheInside as out
+use Rattle.sink_turns.specs.contracts.spoken.Out
+use Rattle.sink_turns.specs.contracts.spoken.Out.TheInside as out
 use Rattle.turn_cell.proofs.turn.Pass.TheSendSync as pass
 use Rattle.lane_workers.proofs.worker.Stop.TheSendSync as stop
 use Rattle.lane_workers.specs.contracts.worker.Stop

@@ -9,7 +9,7 @@ use Rattle.sink_turns.specs.declared.mark.Deed.{Deed}
 use Rattle.sink_turns.specs.declared.mark.Deed.TheVariants.{Said, Put, Cut}
 use Rattle.sink_turns.specs.declared.mark.Mark.{Mark}
 use Rattle.sink_turns.specs.declared.message.Message.{Message}
-use Rattle.sink_turns.specs.declared.out.Unsaid.TheVariants as unsaid
+use Rattle.sink_turns.specs.declared.spoken.Unsaid.TheVariants as unsaid
 use Rattle.sink_turns.specs.declared.turns.NotSaid.{NotSaid}
 use Rattle.sink_turns.specs.declared.turns.NotSaid.TheVariants as not
 use Rattle.sink_turns.specs.Keeping.{OutPass, meaning, no_mark_lowers}

@@ -5,7 +5,7 @@ use Rattle.std.specs.Option.{is_some}
 use Rattle.atomic_table.specs.Seated.{TableId}
 use Rattle.lanes.specs.Ends.{End, has_taken}
 use Rattle.sink_turns.specs.declared.message.Message.{Message}
-use Rattle.sink_turns.specs.declared.out.Unsaid.TheVariants as unsaid
+use Rattle.sink_turns.specs.declared.spoken.Unsaid.TheVariants as unsaid
 use Rattle.sink_turns.specs.declared.turns.NotSaid.{NotSaid}
 use Rattle.sink_turns.specs.declared.turns.NotSaid.TheVariants as not
 use Rattle.sink_turns.specs.Keeping.{OutPass}

@@ -6,7 +6,7 @@ use Rattle.history_spec.specs.Chapter.{tagged}
 use Rattle.turn_cell.specs.Turning.{SamePass, Went}
 use Rattle.sink_turns.specs.declared.mark.Deed.{Deed}
 use Rattle.sink_turns.specs.declared.message.Message.{Message}
-use Rattle.sink_turns.specs.declared.out.Unsaid.TheVariants as unsaid
+use Rattle.sink_turns.specs.declared.spoken.Unsaid.TheVariants as unsaid
 use Rattle.sink_turns.specs.declared.turns.NotSaid.{NotSaid}
 use Rattle.sink_turns.specs.declared.turns.NotSaid.TheVariants as not
 use Rattle.sink_turns.specs.Keeping.{OutPass, meaning}

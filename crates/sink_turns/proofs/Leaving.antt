@@ -7,7 +7,7 @@ use Rattle.sink_turns.specs.declared.mark.Deed.TheVariants.{Said, Put, Cut}
 use Rattle.sink_turns.specs.declared.mark.Mark.{Mark}
 use Rattle.sink_turns.specs.declared.mark.Start.{Start}
 use Rattle.sink_turns.specs.declared.message.Message.{Message}
-use Rattle.sink_turns.specs.declared.out.TheConstants.{MOST_WAITING}
+use Rattle.sink_turns.specs.declared.spoken.TheConstants.{MOST_WAITING}
 use Rattle.sink_turns.specs.Marks.{marks_by}
 use Rattle.sink_turns.specs.Saying.{Adds, Keeps, Spoken}
 use Rattle.sink_turns.specs.Text.{text}

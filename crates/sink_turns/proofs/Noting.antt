@@ -10,7 +10,7 @@ use Rattle.sink_turns.specs.declared.mark.Mark.{Mark}
 use Rattle.sink_turns.specs.declared.mark.Noted.{Noted}
 use Rattle.sink_turns.specs.declared.mark.Start.{Start}
 use Rattle.sink_turns.specs.declared.message.Message.{Message}
-use Rattle.sink_turns.specs.declared.out.TheConstants.{MOST_WAITING}
+use Rattle.sink_turns.specs.declared.spoken.TheConstants.{MOST_WAITING}
 use Rattle.sink_turns.specs.Keeping.{marks_of}
 use Rattle.sink_turns.specs.Marks.{mark, marks_by}
 use Rattle.sink_turns.specs.Saying.{IsSpoken, Keeps, Spoken}

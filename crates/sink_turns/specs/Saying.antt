@@ -7,9 +7,9 @@ use Rattle.sink_turns.specs.declared.mark.Deed.TheVariants.{Said, Put, Cut}
 use Rattle.sink_turns.specs.declared.mark.Mark.{Mark}
 use Rattle.sink_turns.specs.declared.mark.Start.{Start}
 use Rattle.sink_turns.specs.declared.message.Message.{Message}
-use Rattle.sink_turns.specs.declared.out.Unsaid.{Unsaid}
-use Rattle.sink_turns.specs.declared.out.Unsaid.TheVariants.{SinkFault, NoMemory}
-use Rattle.sink_turns.specs.declared.out.TheConstants.{MOST_WAITING}
+use Rattle.sink_turns.specs.declared.spoken.Unsaid.{Unsaid}
+use Rattle.sink_turns.specs.declared.spoken.Unsaid.TheVariants.{SinkFault, NoMemory}
+use Rattle.sink_turns.specs.declared.spoken.TheConstants.{MOST_WAITING}
 use Rattle.sink_turns.specs.Marks.{marks_by}
 use Rattle.sink_turns.specs.Text.{AreLawful, Text, nothing, text}
 

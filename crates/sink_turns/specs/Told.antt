@@ -5,7 +5,7 @@ use Rattle.turn_cell.specs.Turning.{Went}
 use Rattle.sink_turns.specs.declared.mark.Deed.{Deed}
 use Rattle.sink_turns.specs.declared.mark.Mark.{Mark}
 use Rattle.sink_turns.specs.declared.message.Message.{Message}
-use Rattle.sink_turns.specs.declared.out.Unsaid.{Unsaid}
+use Rattle.sink_turns.specs.declared.spoken.Unsaid.{Unsaid}
 use Rattle.sink_turns.specs.declared.turns.NotSaid.{NotSaid}
 use Rattle.sink_turns.specs.declared.turns.NotSaid.TheVariants.{Spent, Fault}
 use Rattle.sink_turns.specs.Keeping.{OutPass, meaning}

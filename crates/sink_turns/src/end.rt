@@ -1,7 +1,7 @@
 ghost use Rattle.std.specs.Prelude.{◌≡◌, ◌^◌};
 ghost use Rattle.sink_turns.specs.Closing.{HasClosed};
 
-use crate::out::Out;
+use crate::spoken::Out;
 use crate::turns::OutPass;
 use packet::Sink;
 use turn_cell::TurnCell;

@@ -1,5 +1,5 @@
 use crate::mark::{Mark, Start};
-use crate::out::Out;
+use crate::spoken::Out;
 use packet::Sink;
 use turn_cell::Kept;
 

@@ -7,8 +7,8 @@ mod kept;
 mod laws;
 mod mark;
 mod message;
-mod out;
 mod put;
+mod spoken;
 #[cfg(test)]
 mod tests;
 mod turns;
@@ -17,5 +17,5 @@ pub use end::close;
 pub use laws::{a_fault_is_the_end, messages_add_up};
 pub use mark::{Deed, Mark, Start};
 pub use message::{Message, Place};
-pub use out::{MOST_WAITING, Out, Unsaid};
+pub use spoken::{MOST_WAITING, Out, Unsaid};
 pub use turns::{NotSaid, OutPass, flush_once, open, say_once};

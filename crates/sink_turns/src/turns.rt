@@ -6,7 +6,7 @@ ghost use Rattle.sink_turns.specs.Saying.{Flushes, Says, opened};
 ghost use Rattle.sink_turns.specs.Told.{IsFlushed, IsSaid};
 
 use crate::message::Message;
-use crate::out::{Out, Unsaid};
+use crate::spoken::{Out, Unsaid};
 use packet::Sink;
 use std::alloc::Global;
 use std::sync::Wait;

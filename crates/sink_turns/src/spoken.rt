@@ -3,8 +3,8 @@ ghost use Rattle.sink_turns.specs.Closing.{Ends};
 ghost use Rattle.sink_turns.specs.Saying.{Adds, Flushes, Puts, Says, opened};
 ghost use Rattle.sink_turns.specs.Text.{text};
 ghost use Rattle.sink_turns.specs.declared.mark.Deed.TheVariants.{Said};
-ghost use Rattle.sink_turns.specs.declared.out.TheConstants.{MOST_WAITING};
-ghost use Rattle.sink_turns.specs.declared.out.Unsaid.TheVariants as unsaid;
+ghost use Rattle.sink_turns.specs.declared.spoken.TheConstants.{MOST_WAITING};
+ghost use Rattle.sink_turns.specs.declared.spoken.Unsaid.TheVariants as unsaid;
 
 use crate::mark::{Noted, note_cut, note_put, note_said};
 use crate::message::Message;
