@@ -77,6 +77,10 @@ module _ (o : Spoken) (waits : List ℕ) (cut : Bool) (was : Keeps o waits cut) 
         );
       }
 
+-- the same of what its caller sees
+pub ends_seen : (o now : Spoken) (k : Option (List ℕ)) (f : ℕ) (r : Result (Unit {0}) Failed) → o ≡ now → Ends o k f r → Ends now k f r
+ends_seen o now k f r view ends = subst (λ (s : Spoken). Ends s k f r) view ends
+
 have_own : (o : Spoken) (es : List (Ended Mark)) → HasEnded meaning o es → HaveOwn o.marks es
 have_own o [] has = tt
 have_own o (e ∷ es) has = (has.0, have_own o es has.2)

@@ -29,6 +29,13 @@ noted_two ss one new s p m n e f is it =
     ∙ (ap (λ (l : List Mark). l ++ n ∷ []) (noted_one ss one s m e is)
     ∙ append_assoc (marks_of ss) (m ∷ []) (n ∷ []))
 
+-- the same, once there was room for them
+pub noted_first : (ss room new : List Noted) (s : Noted) (m : Mark) → room ≡ ss → new ≡ room ++ s ∷ [] → s.mark ≡ m → marks_of new ≡ marks_of ss ++ m ∷ []
+noted_first ss room new s m r e is = noted_one ss new s m (e ∙ ap (λ (l : List Noted). l ++ s ∷ []) r) is
+
+pub noted_both : (ss room one new : List Noted) (s p : Noted) (m n : Mark) → room ≡ ss → one ≡ room ++ s ∷ [] → new ≡ one ++ p ∷ [] → s.mark ≡ m → p.mark ≡ n → marks_of new ≡ marks_of ss ++ m ∷ n ∷ []
+noted_both ss room one new s p m n r e f is it = noted_two ss one new s p m n (e ∙ ap (λ (l : List Noted). l ++ s ∷ []) r) f is it
+
 -- a count that rose since later has risen since before
 pub rose_before : (a b n : ℕ) → a ≤ b → Rose b n → Rose a n
 rose_before a b n le rose = omega (arith, le, rose)

@@ -1,6 +1,6 @@
 ghost use Rattle.std.specs.Prelude.{◌≡◌, ◌≤◌, ◌++◌, ◌∷◌, [], false, ℕ, length, IfOk, IfErr, OnErr, OnOk};
 ghost use Rattle.sink_turns.specs.Closing.{Ends};
-ghost use Rattle.sink_turns.specs.Saying.{Adds, Flushes, Puts, Says, opened};
+ghost use Rattle.sink_turns.specs.Saying.{Adds, Flushes, Puts, Says, does_wait, opened};
 ghost use Rattle.sink_turns.specs.Text.{text};
 ghost use Rattle.sink_turns.specs.declared.mark.Deed.TheVariants.{Said};
 ghost use Rattle.sink_turns.specs.declared.spoken.TheConstants.{MOST_WAITING};
@@ -76,7 +76,7 @@ impl<K: Sink + Drop> Out<K> {
         if self.has_failed() {
             return Err(Unsaid::SinkFault);
         }
-        if more && message.bytes.len() <= MOST_WAITING - self.waits.len() {
+        if self.does_wait(message, more) {
             return self.leave(message);
         }
         self.put(message)
@@ -86,6 +86,14 @@ impl<K: Sink + Drop> Out<K> {
         ensures { result ≡ (text self.now.marks).cut }
     {
         self.is_cut
+    }
+
+    // Whether a message waits: its sender has more to say, and there is room.
+    fn does_wait(&self, message: &Message, more: bool) -> bool
+        requires { (text self.now.marks).cut ≡ false }
+        ensures { result ≡ does_wait (text self.now.marks) message.now more }
+    {
+        more && message.bytes.len() <= MOST_WAITING - self.waits.len()
     }
 
     // Leaves a message behind those that wait.
@@ -111,7 +119,7 @@ impl<K: Sink + Drop> Out<K> {
     // Puts what waits and then the message.
     fn put(&mut self, message: &Message) -> Result<(), Unsaid>
         ghost number: { ℕ }
-        requires sound { (text self.old.marks).cut ≡ false }
+        requires { (text self.old.marks).cut ≡ false }
         ensures { Puts number message.now result self.old self.new }
     {
         let Ok(()) = self.marks.reserve(2) else {

@@ -1,0 +1,12 @@
+use Rattle.sink_turns.specs.declared.mark.Deed.TheVariants.{Said, Put, Cut}
+use Rattle.sink_turns.specs.Marks.{mark}
+use Rattle.sink_turns.proofs.spoken.Out.put.Given as goal
+
+abbrev pub ghost-note_said : goal.ghost-note_said
+ghost-note_said g a = mark g.number (Said a._message.now)
+
+abbrev pub ghost-note_put : goal.ghost-note_put
+ghost-note_put g a = mark g.number Put
+
+abbrev pub ghost-note_cut : goal.ghost-note_cut
+ghost-note_cut g a = mark g.number (Cut a._count)
