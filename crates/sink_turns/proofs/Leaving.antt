@@ -1,20 +1,16 @@
 -- What a message or a flush leaves, as its caller sees it.
-use Rattle.std.proofs.Common.{◌≡◌, ◌⊎◌, ◌<◌, ◌≤◌, ◌-◌, ◌++◌, ℕ, Bool, true, false, true≢false, nat_le, List, [], ◌∷◌, length, take, Option, Result, Ok, Err, OnOk, OnErr, IfErr, inl, inr, ⊎_elim, refl, sym, ap, ◌∙◌, subst, append-nil, length-append, if◌then◌else◌, arith}
-use Rattle.std.proofs.lemmas.Bool.{le-leb, leb-true, lt-leb}
-use Rattle.std.proofs.lemmas.Bool.Decides.{leb_tells}
+use Rattle.std.proofs.Common.{◌≡◌, ◌<◌, ◌≤◌, ◌++◌, ℕ, Bool, true, false, List, [], ◌∷◌, length, take, Result, Ok, Err, OnOk, OnErr, IfErr, inl, inr, refl, sym, ap, ◌∙◌, subst, append-nil, if◌then◌else◌, arith}
 use Rattle.std.specs.Io.KnownBytes.{Appends}
 use Rattle.outside_spec.specs.Faults.{Rose}
 use Rattle.sink_turns.specs.declared.mark.Deed.{Deed}
 use Rattle.sink_turns.specs.declared.mark.Deed.TheVariants.{Said, Put, Cut}
-use Rattle.sink_turns.specs.declared.mark.Mark.{Mark}
-use Rattle.sink_turns.specs.declared.mark.Start.{Start}
 use Rattle.sink_turns.specs.declared.message.Message.{Message}
 use Rattle.sink_turns.specs.declared.spoken.TheConstants.{MOST_WAITING}
 use Rattle.sink_turns.specs.Marks.{marks_by}
 use Rattle.sink_turns.specs.declared.spoken.Unsaid.{Unsaid}
 use Rattle.sink_turns.specs.declared.spoken.Unsaid.TheVariants.{SinkFault, NoMemory}
 use Rattle.sink_turns.specs.Saying.{Adds, Keeps, Puts, Says, Spoken, does_wait}
-use Rattle.sink_turns.specs.Text.{Text, text}
+use Rattle.sink_turns.specs.Text.{text}
 use Rattle.sink_turns.proofs.Noting.{keeps_cut, keeps_failed, keeps_flushed, keeps_put, keeps_said}
 
 -- it has not failed
@@ -62,15 +58,6 @@ module _ (by : ℕ) (o now new : Spoken) (waits : List ℕ) (cut : Bool) (was : 
   pub failed : (left : List ℕ) (n : ℕ) → new.marks ≡ o.marks ++ marks_by by (Cut n ∷ []) → n < length waits → Appends o.held new.held (take n waits) → o.faults ≤ new.faults → Rose o.faults new.faults → length left ≤ MOST_WAITING → Keeps new left true
   failed left n marks lt took later rose within = keeps_failed by o new waits cut was start left n is_sound marks lt took later rose within
 
--- what a test of the room says
-pub fits : (l bytes : List ℕ) → length l ≤ MOST_WAITING → nat_le (length bytes) (MOST_WAITING - length l) ≡ nat_le (length (l ++ bytes)) MOST_WAITING
-fits l bytes within =
-    let most : ℕ = MOST_WAITING in
-    ⊎_elim
-    (λ (x : (nat_le (length bytes) (most - length l) ≡ true) × (length bytes ≤ most - length l)). x.0 ∙ sym (le-leb (length (l ++ bytes)) most (omega (arith, length-append l bytes, within, x.1))))
-    (λ (x : (nat_le (length bytes) (most - length l) ≡ false) × (most - length l < length bytes)). x.0 ∙ sym (lt-leb (length (l ++ bytes)) most (omega (arith, length-append l bytes, within, x.1))))
-    (leb_tells (length bytes) (most - length l))
-
 adds_nothing : (by : ℕ) (old new : Spoken) → new ≡ old → Adds by [] old new
 adds_nothing by old new same = record {
   start = ap (λ (s : Spoken). s.start) same;
@@ -88,15 +75,6 @@ said_left by m more (Err SinkFault) old new calm waits ok why same = let e : Sin
 said_left by m more (Err NoMemory) old new calm waits ok why same = ([], adds_nothing by old new same, refl)
 
 pub said_put : (by : ℕ) (m : Message) (more : Bool) (r : Result (Unit {0}) Unsaid) (old new : Spoken) → (text old.marks).cut ≡ false → does_wait (text old.marks) m more ≡ false → Puts by m r old new → Says by m more r old new
-said_put by m more (Ok u) old new calm no put = (put.0, put.1, (calm, put.2 ∙ ap (λ (x : Bool). Said m ∷ (if x then [] else Put ∷ [])) (sym no)))
-said_put by m more (Err SinkFault) old new calm no put = (put.0, put.1, inr (put.2.0, calm, put.2.1, put.2.2))
-said_put by m more (Err NoMemory) old new calm no put = (put.0, put.1, put.2)
-
--- where it waits, there is room
-pub room_for : (t : Text) (m : Message) (more : Bool) → does_wait t m more ≡ true → length (t.waits ++ m.bytes) ≤ MOST_WAITING
-room_for t m true e = leb-true (length (t.waits ++ m.bytes)) MOST_WAITING e
-room_for t m false e = absurd (true≢false (sym e))
-
--- whether a message waits, by what is kept
-pub waits_so : (o now : Spoken) (waits : List ℕ) (cut : Bool) (m : Message) → Keeps o waits cut → o ≡ now → (text now.marks).cut ≡ false → nat_le (length m.bytes) (MOST_WAITING - length waits) ≡ does_wait (text now.marks) m true
-waits_so o now waits cut m was view calm = fits waits m.bytes was.within ∙ ap (λ (l : List ℕ). nat_le (length (l ++ m.bytes)) MOST_WAITING) (these_wait o now waits cut was view calm)
+said_put by m more (Ok u) old new calm other put = (put.0, put.1, (calm, put.2 ∙ ap (λ (x : Bool). Said m ∷ (if x then [] else Put ∷ [])) (sym other)))
+said_put by m more (Err SinkFault) old new calm other put = (put.0, put.1, inr (put.2.0, calm, put.2.1, put.2.2))
+said_put by m more (Err NoMemory) old new calm other put = (put.0, put.1, put.2)

@@ -1,5 +1,5 @@
 -- A sink that took bytes, with the marks that say so.
-use Rattle.std.proofs.Common.{◌≡◌, ◌<◌, ◌≤◌, ◌+◌, ◌++◌, ℕ, Bool, true, false, true≢false, List, [], ◌∷◌, length, take, map, Option, refl, sym, ap, ◌∙◌, subst, append_assoc, append-nil, arith}
+use Rattle.std.proofs.Common.{◌≡◌, ◌<◌, ◌≤◌, ◌++◌, ℕ, Bool, true, false, true≢false, List, [], ◌∷◌, length, take, Option, refl, sym, ap, ◌∙◌, subst, append_assoc, append-nil, arith}
 use Rattle.std.proofs.lemmas.List.{map-append}
 use Rattle.std.specs.Io.KnownBytes.{Appends}
 use Rattle.outside_spec.specs.Faults.{Rose}
@@ -12,7 +12,7 @@ use Rattle.sink_turns.specs.declared.mark.Start.{Start}
 use Rattle.sink_turns.specs.declared.message.Message.{Message}
 use Rattle.sink_turns.specs.declared.spoken.TheConstants.{MOST_WAITING}
 use Rattle.sink_turns.specs.Keeping.{marks_of}
-use Rattle.sink_turns.specs.Marks.{mark, marks_by}
+use Rattle.sink_turns.specs.Marks.{marks_by}
 use Rattle.sink_turns.specs.Saying.{IsSpoken, Keeps, Spoken}
 use Rattle.sink_turns.specs.Text.{AreLawful, Text, text, text_after, nothing}
 use Rattle.sink_turns.proofs.Texts.{lawful_more, text_more}

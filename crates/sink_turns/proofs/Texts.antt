@@ -1,5 +1,5 @@
 -- The text after marks: what was said is what was put and what waits, and nothing follows a fault.
-use Rattle.std.proofs.Common.{◌≡◌, ◌≢◌, ◌<◌, ◌++◌, ℕ, Bool, true, false, true≢false, List, [], ◌∷◌, length, take, drop, refl, sym, ap, ◌∙◌, subst, append_assoc, append-nil, arith}
+use Rattle.std.proofs.Common.{◌≡◌, ◌<◌, ◌++◌, ℕ, true, false, true≢false, List, [], ◌∷◌, length, take, drop, refl, sym, ap, ◌∙◌, append_assoc, append-nil, arith}
 use Rattle.std.proofs.lemmas.Grind.{flat_map-append}
 use Rattle.std.proofs.lemmas.List.{length-drop, take-append-drop}
 use Rattle.sink_turns.specs.declared.mark.Deed.{Deed}
@@ -8,7 +8,7 @@ use Rattle.sink_turns.specs.declared.mark.Mark.{Mark}
 use Rattle.sink_turns.specs.declared.message.Message.{Message}
 use Rattle.sink_turns.specs.Laws.{FaultsStay, MessagesAddUp}
 use Rattle.sink_turns.specs.Marks.{bytes_of, messages, said}
-use Rattle.sink_turns.specs.Text.{AreLawful, MayFollow, Text, after, nothing, text, text_after}
+use Rattle.sink_turns.specs.Text.{AreLawful, MayFollow, Text, after, nothing, text_after}
 
 pub text_more : (t : Text) (xs ys : List Mark) → text_after t (xs ++ ys) ≡ text_after (text_after t xs) ys
 text_more t [] ys = refl

@@ -1,11 +1,11 @@
 -- A turn in which deeds were added, and what the pass knows after it.
-use Rattle.std.proofs.Common.{◌≡◌, ◌<◌, ◌++◌, ◌⊎◌, ℕ, true, false, true≢false, List, [], ◌∷◌, inl, inr, ⊎_elim, refl, sym, ap, ◌∙◌, subst, append_assoc, arith}
+use Rattle.std.proofs.Common.{◌≡◌, ◌++◌, ℕ, List, [], ◌∷◌, inl, ⊎_elim, refl, sym, ap, ◌∙◌, subst, arith}
 use Rattle.history_spec.specs.declared.history.History.{History}
 use Rattle.history_spec.specs.Begins.{IsPrefix, LaterChapter, SameChapter}
 use Rattle.history_spec.specs.Chapter.{tagged}
 use Rattle.history_spec.proofs.Marks.{added-more}
 use Rattle.turn_cell.specs.Known.{IsBegun}
-use Rattle.turn_cell.specs.Passes.{Enters, Passed, Turned, left_by}
+use Rattle.turn_cell.specs.Passes.{Enters, Turned, left_by}
 use Rattle.turn_cell.specs.Turning.{AreBy, Changes, Went}
 use Rattle.turn_cell.proofs.Turning.{changes_by, turn_tells}
 use Rattle.sink_turns.specs.declared.mark.Deed.{Deed}

@@ -1,5 +1,5 @@
 -- What a sink holds once no more is said, and what is known of the passes that said it.
-use Rattle.std.specs.Prelude.{◌≡◌, ◌<◌, ◌≤◌, ℕ, List, [], ◌∷◌, length, map, take, Option, Result, Ok, Err}
+use Rattle.std.specs.Prelude.{◌≡◌, ◌<◌, ◌≤◌, ℕ, List, [], ◌∷◌, length, take, Option, Result, Ok, Err}
 use Rattle.std.specs.Io.KnownBytes.{Appends}
 use Rattle.history_spec.specs.Begins.{IsPrefix}
 use Rattle.history_spec.specs.Chapter.{in_chapter}

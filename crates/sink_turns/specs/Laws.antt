@@ -1,5 +1,5 @@
 -- Laws of the marks of a sink: each is on a function of `src/laws.rt`.
-use Rattle.std.specs.Prelude.{◌≡◌, ◌++◌, ℕ, true, List, []}
+use Rattle.std.specs.Prelude.{◌≡◌, ◌++◌, true, List, []}
 use Rattle.sink_turns.specs.declared.mark.Mark.{Mark}
 use Rattle.sink_turns.specs.Marks.{bytes_of, messages}
 use Rattle.sink_turns.specs.Text.{AreLawful, nothing, text}

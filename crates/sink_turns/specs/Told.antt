@@ -1,11 +1,10 @@
 -- What a pass knows of a message that it said, and of a flush.
-use Rattle.std.specs.Prelude.{◌≡◌, ◌++◌, ℕ, Bool, true, false, List, [], Result, Ok, Err}
+use Rattle.std.specs.Prelude.{◌≡◌, ◌++◌, Bool, true, false, List, Result, Ok, Err}
 use Rattle.history_spec.specs.Chapter.{tagged}
 use Rattle.turn_cell.specs.Turning.{Went}
 use Rattle.sink_turns.specs.declared.mark.Deed.{Deed}
 use Rattle.sink_turns.specs.declared.mark.Mark.{Mark}
 use Rattle.sink_turns.specs.declared.message.Message.{Message}
-use Rattle.sink_turns.specs.declared.spoken.Unsaid.{Unsaid}
 use Rattle.sink_turns.specs.declared.turns.NotSaid.{NotSaid}
 use Rattle.sink_turns.specs.declared.turns.NotSaid.TheVariants.{Spent, Fault}
 use Rattle.sink_turns.specs.Keeping.{OutPass, meaning}

@@ -1,4 +1,3 @@
-use Rattle.std.proofs.Common.{rules}
 use Rattle.sink_turns.proofs.Putting.{takes_both, takes_front}
 use Rattle.sink_turns.proofs.put.put_both.Goals as goal
 

@@ -1,12 +1,9 @@
 use Rattle.std.proofs.Common.{sym, ◌∙◌}
-use Rattle.sink_turns.proofs.Leaving.{room_for, said_failed, said_left, said_put}
+use Rattle.sink_turns.proofs.Leaving.{said_failed, said_left, said_put}
 use Rattle.sink_turns.proofs.spoken.Out.say.Goals as goal
 
 pub returns-then-has_failed : goal.returns-then-has_failed
 returns-then-has_failed g c = said_failed g.number c.args.message.now c.args.more c.args.self.now (sym c.has_failed.ensures ∙ c.if-has_failed.true)
-
-pub leave-requires-clause-room : goal.leave-requires-clause-room
-leave-requires-clause-room g c = room_for _ c.args.message.now c.args.more (sym c.does_wait.ensures ∙ c.if-does_wait.true)
 
 pub returns-then-does_wait : goal.returns-then-does_wait
 returns-then-does_wait g c =
