@@ -168,6 +168,25 @@ def not_told_of(place: Place) -> None:
     check("", place.run("stdio", place.directory).stderr, "what is said by the next")
 
 
+@case("kills", "A guest that was started again after it was paused is told of by its last boot")
+def told_of_last_boot(place: Place) -> None:
+    domain = named("a", 1)
+    session = Session(place)
+    session.call("DOMAIN_DEFINE_XML", definition(domain))
+    session.call("DOMAIN_CREATE", domain)
+    session.call("DOMAIN_SUSPEND", domain)
+    status = place.directory / f"run-{domain.identifier}.sta"
+    paused = b"run 1 boot=1 state=3 op=0 phase=0 name=a\n"
+    check(paused, status.read_bytes(), "the status file of a paused guest")
+    session.call("DOMAIN_DESTROY", domain)
+    check(False, status.exists(), "whether a status file is there of a domain without a guest")
+    session.call("DOMAIN_CREATE", domain)
+    session.kill()
+    ended = place.run("check", place.directory)
+    lines = f"domain a {domain.identifier} ok\nwas running a boot 2\n"
+    check(lines, ended.unread.decode(), "the lines of `virtd check`")
+
+
 @dataclass
 class Guest:
     """A guest that runs in its first boot: by each of its calls whether it is paused then."""
