@@ -12,7 +12,7 @@ use Rattle.domain_obj.specs.Below.domain_core.contracts.turns.DomainTurns.TheIns
 use Rattle.event_queue.proofs.listeners.Listeners.TheSendSync as listeners
 use Rattle.job_rules.proofs.queue.Queue.TheSendSync as queue
 use Rattle.monitor_link.specs.declared.link.Ears as ears
-use Rattle.monitor_link.specs.declared.link.Guests as guests
+use Rattle.monitor_link.specs.declared.guests.Guests as guests
 use Rattle.monitor_link.specs.declared.link.Monitor as monitor
 use Rattle.domain_obj.specs.Below.core_log.contracts.record.Record
 use Rattle.domain_obj.specs.Below.core_log.contracts.record.Record.TheInside as kept

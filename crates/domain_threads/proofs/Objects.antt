@@ -13,7 +13,7 @@ use Rattle.domain_spec.specs.contracts.mark.Mark
 use Rattle.domain_spec.specs.contracts.standing.Base
 use Rattle.domain_threads.proofs.Cells.{cell_send}
 use Rattle.monitor_link.specs.declared.link.Ears as ears
-use Rattle.monitor_link.specs.declared.link.Guests as guests
+use Rattle.monitor_link.specs.declared.guests.Guests as guests
 use Rattle.monitor_link.specs.declared.link.Killer as killer
 use Rattle.monitor_link.specs.declared.link.Monitor as monitor
 use Rattle.turn_cell.proofs.cell.TurnCell.TheSendSync as cell

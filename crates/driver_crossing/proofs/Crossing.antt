@@ -26,7 +26,7 @@ use Rattle.driver_service.specs.Below.driver_cells.contracts.cells.Cells
 use Rattle.driver_crossing.proofs.Shared.{room_sync}
 use Rattle.files_disk.specs.declared.files.Files as files
 use Rattle.monitor_link.specs.declared.link.Ears as ears
-use Rattle.monitor_link.specs.declared.link.Guests as guests
+use Rattle.monitor_link.specs.declared.guests.Guests as guests
 use Rattle.monitor_link.specs.declared.link.Killer as killer
 use Rattle.monitor_link.specs.declared.link.Monitor as monitor
 use Rattle.object_list.proofs.list.ObjectList.TheSendSync as object_list

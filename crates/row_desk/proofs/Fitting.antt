@@ -19,7 +19,7 @@ use Rattle.def_keeper.specs.declared.mark.StoreFault.TheVariants as store
 use Rattle.def_keeper.specs.Keeper.{Keeping}
 use Rattle.domain_obj.specs.OfCells.{IsAnsweredAs, IsCounted, comes}
 use Rattle.monitor_link.specs.declared.exchange.Exchange.{Exchange}
-use Rattle.monitor_link.specs.declared.link.Link.{Link}
+use Rattle.monitor_link.specs.declared.guests.Link.{Link}
 use Rattle.monitor_link.specs.Causes.{IsFaultCaused}
 use Rattle.store_asks.specs.Answers.{HasAnswered as KeeperAnswers}
 use Rattle.store_asks.specs.Asks.{change_answer, image_answer, no_network}

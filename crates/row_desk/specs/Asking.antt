@@ -8,7 +8,7 @@ use Rattle.domain_spec.specs.Types.ask
 use Rattle.domain_spec.specs.Types.given
 use Rattle.files_disk.specs.Telling.{Told}
 use Rattle.monitor_link.specs.declared.exchange.Exchange.{Exchange}
-use Rattle.monitor_link.specs.declared.link.Link.{Link}
+use Rattle.monitor_link.specs.declared.guests.Link.{Link}
 use Rattle.monitor_link.specs.Causes.{IsAnswerCaused, IsFaultCaused}
 use Rattle.monitor_link.specs.Exchanges.{HasNoExchange, Reports}
 use Rattle.store_asks.specs.Turning.{HasAsked}
