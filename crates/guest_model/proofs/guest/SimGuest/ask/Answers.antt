@@ -1,7 +1,7 @@
 -- The machine's answer was counted.
 use Rattle.std.proofs.Common.{◌∙◌, inl}
 use Rattle.monitor_link.specs.Counting.{after_answer}
-use Rattle.guest_model.proofs.guest.SimGuestMonitor.ask.Goals as goal
+use Rattle.guest_model.proofs.guest.SimGuest.ask.Goals as goal
 
 pub returns-in-Ok-clause-machine : goal.returns-in-Ok-clause-machine
 returns-in-Ok-clause-machine c =
