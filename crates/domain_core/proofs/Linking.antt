@@ -228,7 +228,7 @@ pub asks_job : (s : Standing) (o : Option OpenJob) (answers : List Answer) (n : 
 asks_job s None answers n x h = absurd h
 asks_job s (Some j) answers n x h = (j, refl, asks_if s j answers n x (j.number == n) refl h)
 
--- a call that is let in finds no monitor out
+-- a call that is admitted finds no monitor out
 
 let_in_alone : (old new : Turning) (t : CoreStep ℕ) (left : List (Mark ℕ)) (n : ℕ) (x : Ask) (out : Option ℕ) → HasTurned old new t left → NotOwn t (standing_of old.cell).job
     → ((j : OpenJob) → (standing_of old.cell).job ≡ Some j → j.number ≡ n → ⊥) → AsksLast (share_of new.cell n).call x → IsOutWith (standing_of old.cell) out → out ≡ None

@@ -62,7 +62,7 @@ cell_share c n = record {
 abbrev pub KeepsOtherShares : ℕ → Celled → Celled → Type 0
 KeepsOtherShares n c d = (m : ℕ) → m ≢ n → cell_share d m ≡ cell_share c m
 
--- the link after a turn in which it was only let go where its guest is not there any more
+-- the link after a turn in which it was only dropped where its guest is not there any more
 abbrev pub link_kept : Celled → Celled → Option Linked
 link_kept old new = kept_link (made_boot (standing_in new)) old.link
 

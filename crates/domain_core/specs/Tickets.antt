@@ -129,4 +129,4 @@ IsLinkAsked other made = Unit {0}
 pub record IsMadeAsAsked (c : Cell) (made : Option LinkView) : Type 0 where
   pub last : Ask
   pub asks : AsksThis c (standing_of c).job last
-  pub made : IsLinkAsked last made
+  pub is_its : IsLinkAsked last made

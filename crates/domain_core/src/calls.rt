@@ -27,7 +27,7 @@ use std::alloc::Global;
 use virt_types::{Answer, Call, Reply, Who};
 
 impl<G: Guests> DomainCell<G> {
-    /// A call looks: it is let in, and is done at once or asks somebody; or it is excluded and waits; or it
+    /// A call looks: it is admitted, and is done at once or asks somebody; or it is excluded and waits; or it
     /// may not wait, since 32 others do. It neither begins an operation nor takes one up. Where it asks it gets the
     /// monitor of the guest that is there. Where there is no memory nothing is left of it.
     pub fn look(&mut self, alloc: Global, by: Stamp, who: Who, call: &Call, first: First) -> Look<G>

@@ -64,7 +64,7 @@ impl<G: Guests> DomainCell<G> {
         taken
     }
 
-    /// Lets go of all that pends for a client, and then of a loss that is due. It takes no memory.
+    /// Drops all that pends for a client, and then a loss that is due. It takes no memory.
     pub fn drop_events(&mut self, by: Stamp, client: u32)
         requires can { CanTake (cell_in self.old) (step.Take by.number client) }
         ensures drops { IsDropping by.number client self.old.core.turning self.new.core.turning }

@@ -113,7 +113,7 @@ impl<G: Guests> DomainCell<G> {
         }
     }
 
-    /// Takes the ears back, which were lent to the pass of this stamp; they are let go where their boot is not live
+    /// Takes the ears back, which were lent to the pass of this stamp; they are dropped where their boot is not live
     /// any more. It leaves no mark.
     pub fn return_ears(&mut self, by: Stamp, boot: u64, ears: G::E)
         requires own { HasOut by.number boot (cell_in self.old).ears }

@@ -39,7 +39,7 @@ impl<G: Guests> DomainCell<G> {
         looked
     }
 
-    /// The due phase of the operation that this caller has open: it is let in where no normal job is open, and else
+    /// The due phase of the operation that this caller has open: it is admitted where no normal job is open, and else
     /// is excluded and leaves nothing. Where it asks it gets the monitor of the guest that is there.
     pub fn phase(&mut self, alloc: Global, by: Stamp, who: Who) -> PhaseLook<G>
         requires due { IsDue (standing_in self.old).operation by.number who }

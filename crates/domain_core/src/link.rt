@@ -50,7 +50,7 @@ impl<G: Guests> Here<G> {
     }
 }
 
-/// The link is let go unless its guest is the one that is there.
+/// The link is dropped unless its guest is the one that is there.
 pub fn keep<G: Guests>(link: &mut Option<Here<G>>, made: Option<u64>)
     ensures { link.new ≡ kept_link made link.old }
 {

@@ -63,7 +63,7 @@ asks_there before first turn asked made last entered begun is =
     record {
       last = asked;
       asks = asks_in c (standing_of c).job turn.pass.number asked (subst (λ (s : Share). AsksLast s.call asked) (kept_found before turn enters) last);
-      made = is;
+      is_its = is;
     }
 
 back_waits : (n : ℕ) (x : Answer) (old new : Turning) (r : CoreBack) (o : Option OpenCall) → GoesBack n x old new r → o ≡ (share_of new.cell n).call → BackWaits r o

@@ -52,7 +52,7 @@ waits_on who d before now after count more k le w = record {
 pub waits_again : (who : Who) (d : Call) (before now after rested : DomainPass) (count more : ℕ) → Enters who d before now count → more ≤ count + 1 → IsWaiting who now after → rested ≡ after → Enters who d before rested more
 waits_again who d before now after rested count more k le w same = subst (λ (p : DomainPass). Enters who d before p more) (sym same) (waits_on who d before now after count more k le w)
 
--- it was let in and refused
+-- it was admitted and refused
 pub refused_done : (who : Who) (d : Call) (before now after : DomainPass) (count : ℕ) (report report_now : List (Ask × Answer)) (r : Reply) (place : Front) → Enters who d before now count → report_now ≡ report → IsDoneNow who d now after r place
     → IsRefusedDone who d before after report report_now r place
 refused_done who d before now after count report report_now r place k same h =

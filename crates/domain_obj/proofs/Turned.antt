@@ -1,4 +1,4 @@
--- What one turn leaves of the pass of a call that is not let in yet.
+-- What one turn leaves of the pass of a call that is not admitted yet.
 use Rattle.std.proofs.Common.{◌≡◌, inl, inr, ◌<◌, ◌≤◌, ◌^◌, ℕ, suc, ◌++◌, List, [], ◌∷◌, length, is_some, false, Option, None, Some, slice_get, refl, sym, ap, ◌∙◌, subst, arith}
 use Rattle.virt_types.specs.Below.types_base.declared.caller.Front.{Front}
 use Rattle.history_spec.specs.Begins.{Begins}

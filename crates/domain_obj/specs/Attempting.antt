@@ -1,4 +1,4 @@
--- What a call does in one turn until it is let in.
+-- What a call does in one turn until it is admitted.
 use Rattle.std.specs.Prelude.{◌≡◌, ◌⊎◌, ◌<◌, ◌≤◌, ◌==◌, ℕ, Option, if◌then◌else◌}
 use Rattle.domain_spec.specs.Types.{Call, Who}
 use Rattle.domain_spec.specs.Types.call

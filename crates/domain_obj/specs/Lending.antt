@@ -47,7 +47,7 @@ pub record IsStill (found : Celled) (before after : DomainPass) : Type 0 where
   pub saw : after.seen ≡ history_of found
   pub share : after.share ≡ before.share
 
--- a turn in which no ears were to be had
+-- a turn in which no ears were available
 pub record IsUnheard (before after : DomainPass) : Type 0 where
   pub found : Celled
   pub still : IsStill found before after

@@ -1,4 +1,4 @@
-// What a call does in one turn until it is let in.
+// What a call does in one turn until it is admitted.
 ghost use Rattle.std.specs.Prelude.{◌≡◌, ◌<◌, ◌^◌, None, Some};
 ghost use Rattle.domain_core.specs.Celled.{cell_in};
 ghost use Rattle.domain_obj.specs.Attempting.{Attempts, Tries, killed_at_first};
@@ -20,9 +20,9 @@ pub const ENOUGH: u32 = 30;
 /// What became of a call in a turn in which it looked.
 #[derive(Drop)]
 pub enum Attempt<G: Guests> {
-    /// It was let in, and is done; its caller is told this.
+    /// It was admitted, and is done; its caller is told this.
     Done(Reply),
-    /// It was let in, and asks this.
+    /// It was admitted, and asks this.
     Away(Ticket<G>, Ask),
     /// Its job is excluded, and it waits; this boot is live.
     Waits(Option<u64>),

@@ -17,7 +17,7 @@ use virt_types::NoMemory;
 pub enum Lent<E> {
     /// The ears of this boot.
     Ears(u64, E),
-    /// Nothing: no ears are to be had.
+    /// Nothing: no ears are available.
     Nobody,
     /// Nothing: there was no memory.
     NoMemory,

@@ -1,5 +1,5 @@
 // Links to modelled guests. The parts of a link share one guest under a lock, so each may go to a thread
-// of its own; where one is let go, the others still work.
+// of its own; where one is dropped, the others still work.
 ghost use Rattle.std.specs.Prelude.{◌≡◌, ◌+◌, ℕ, IfErr};
 
 use crate::guest::SimGuest;
