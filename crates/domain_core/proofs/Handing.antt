@@ -1,5 +1,5 @@
 -- What the parts of a turn leave of the link, joined.
-use Rattle.std.proofs.Common.{◌≡◌, ℕ, List, [], OnErr, OnOk, Result, Ok, Err, is_some, Bool, true, false, Option, None, Some, refl, sym, ap, ◌∙◌, subst, inl, inr}
+use Rattle.std.proofs.Common.{◌≡◌, ℕ, List, [], OnErr, OnOk, Result, Ok, Err, is_some, option_map, Bool, true, false, Option, None, Some, refl, sym, ap, ◌∙◌, subst, inl, inr}
 use Rattle.domain_spec.specs.Types.{Answer, Ask, Call, Who}
 use Rattle.domain_spec.specs.Types.ask
 use Rattle.domain_spec.specs.declared.core_step.CoreStep.{CoreStep}
@@ -126,6 +126,12 @@ handed old new t left was_out was turned none held away out out_now made link be
           (subst (λ (l : Option Linked). IsLinked new (out_by away (made_boot (standing_of new.cell)) out) l) (sym (g ∙ ap (λ (l : Option Linked). link_by away l) f)) h.linked));
       monitor = λ is. ap (λ (l : Option Linked). is_some (monitor_in l)) f ∙ h.monitor is ∙ ap is_some (sym to);
     }
+
+-- seen as anything else, it is there or not as it is
+
+pub some_mapped : {A B : Type 0} (f : A → B) (o : Option A) → is_some (option_map f o) ≡ is_some o
+some_mapped f None = refl
+some_mapped f (Some x) = refl
 
 pub ticket_has : {G M E Z : Type 0} (t : Option (Ticket G M E Z)) (has out : Bool) → HasMonitor has t → (is_some t ≡ true → has ≡ out) → HasMonitor out t
 ticket_has None has out h e = tt

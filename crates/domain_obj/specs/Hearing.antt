@@ -59,9 +59,9 @@ pub record RunsOut (before after : DomainPass) : Type 0 where
 module _ {E : Type 0} (ends faults : E → ℕ) (unheard : E → Option (List GuestEvent)) where
   -- ears that a cell showed so
   pub record AreEars (its : EarsView) (was : E) : Type 0 where
-    pub ends : its.ends ≡ ends was
-    pub faults : its.faults ≡ faults was
-    pub unheard : its.unheard ≡ unheard was
+    pub same_ends : its.ends ≡ ends was
+    pub same_faults : its.faults ≡ faults was
+    pub same_unheard : its.unheard ≡ unheard was
 
   -- this was heard: the ears of the cell were lent in one turn, said it, and in the next turn it was told and they were given back
   pub record HearsOne (h : Heard) (before after : DomainPass) : Type 0 where

@@ -127,7 +127,7 @@ impl Listeners {
         }
     }
 
-    /// Lets go of all that pends for a client, and then a loss that is due. It takes no memory.
+    /// Lets go of all that pends for a client, and then of a loss that is due. It takes no memory.
     pub fn drop_events(&mut self, client: u32)
         ensures listeners { self.new.listeners ≡ dropped_by self.old.listeners client }
         ensures due { self.new.due ≡ self.old.due }

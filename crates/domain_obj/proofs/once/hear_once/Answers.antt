@@ -14,5 +14,5 @@ returns-in-Ok-tell_once g c =
     let after = c.in-Ok-tell_once.after in
     subst (λ (o : Once). HasHeardOnce g.G.E.Ears.ends g.G.E.Ears.faults g.G.E.Ears.unheard c.args.pass after o) (sym c.after_hearing.ensures)
     (heard_so g.G.E.Ears.ends g.G.E.Ears.faults g.G.E.Ears.unheard c.hear-heard.result c.in-Ears.boot (ears_view g.G.E.Ears c.in-Ears.ears) c.args.pass c.in-Ok.between after c.in-Ears.ears c.hear-heard.new.self c.in-Ok-tell_once.seen c.requires.ready
-    (subst (λ (l : Lent g.row.G-E.Denot). HasLent g.G.E.Ears c.args.pass c.in-Ok.between l) c.in-Ears.is c.in-Ok.ensures.ok) (record { ends = refl; faults = refl; unheard = refl }) c.hear-heard.ensures.cause c.hear-heard.ensures.unheard
+    (subst (λ (l : Lent g.row.G-E.Denot). HasLent g.G.E.Ears c.args.pass c.in-Ok.between l) c.in-Ears.is c.in-Ok.ensures.ok) (record { same_ends = refl; same_faults = refl; same_unheard = refl }) c.hear-heard.ensures.cause c.hear-heard.ensures.unheard
     (subst (λ (t : Option Told). IsTold c.in-Ears.boot t c.in-Ok.between after) c.told_of.ensures c.in-Ok-tell_once.ensures.ok) c.in-Ok-tell_once.ensures.seen)
