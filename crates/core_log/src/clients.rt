@@ -80,7 +80,7 @@ pub fn take(
     listeners.take(alloc, client)
 }
 
-/// Lets go of all that pends for a client, and then a loss that is due.
+/// Lets go of all that pends for a client, and then of a loss that is due.
 pub fn drop_events(ledger: &Ledger, listeners: &mut Listeners, client: u32)
     requires held { IsHeld ledger.now listeners.old.listeners }
     ensures listeners { listeners.new.listeners ≡ dropped_by listeners.old.listeners client }

@@ -270,7 +270,7 @@ impl Record {
         clients::take(&self.ledger, &mut self.listeners, alloc, client)
     }
 
-    /// Lets go of all that pends for a client, and then a loss that is due. It takes no memory.
+    /// Lets go of all that pends for a client, and then of a loss that is due. It takes no memory.
     pub fn drop_events(&mut self, client: u32)
         ensures listeners { self.new ≡ record self.old { listeners = dropped_by self.old.listeners client } }
         ensures registrations { registrations self.new.listeners ≡ registrations_taken (registrations_taken (registrations self.old.listeners) client) client }

@@ -22,7 +22,7 @@ pub fn take_events(kept: &mut Record, alloc: Global, client: u32) -> Result<Take
     kept.take_events(alloc, client)
 }
 
-/// Lets go of all that pends for a client, and then a loss that is due. It takes no memory.
+/// Lets go of all that pends for a client, and then of a loss that is due. It takes no memory.
 pub fn drop_events(kept: &mut Record, client: u32)
     ensures dropped { kept.new ≡ record kept.old { listeners = dropped_by kept.old.listeners client } }
     ensures kept { (held : List HeldEvent) → (ears : Option LentEars) → (rooms : ℕ) → IsKept kept.old held ears rooms → IsKept kept.new held ears rooms }
