@@ -165,7 +165,7 @@ back_handed old new n x sent fresh m left r out out_now made heard link home bef
     let turned = back_turned n x old new left goes in
     handed old new (step.Back n x) turned.0 out link turned.1 tt h (is_some (back_ticket r)) None out_now made (link_made fresh (boot_heard new.cell.ears) (made_boot (standing_of new.cell)) (with_monitor out m link)) before now
     (back_hands old new n x sent fresh m r out link has answered h.linked (subst (λ (b : CoreBack). GoesBack n x old new b) (sym same) goes)) e
-    (g ∙ ap (λ (l : Option Linked). link_made fresh heard made l) in_home ∙ ap (λ (b : Option ℕ). link_made fresh b made (with_monitor out m link)) told ∙ ap (λ (m : Option ℕ). link_made fresh (boot_heard new.cell.ears) m (with_monitor out m link)) e)
+    (g ∙ ap (λ (l : Option Linked). link_made fresh heard made l) in_home ∙ ap (λ (b : Option ℕ). link_made fresh b made (with_monitor out m link)) told ∙ ap (λ (made : Option ℕ). link_made fresh (boot_heard new.cell.ears) made (with_monitor out m link)) e)
     k l
 
 -- what is answered without a monitor was not sent; with one the guest was made
