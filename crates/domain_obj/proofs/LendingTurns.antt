@@ -49,7 +49,7 @@ still found left before after t e out = record {
 
 module _ {E : Type 0} (g : ears.Ghosts E) where
   same_history : (n : ℕ) (old new : Celled) (r : Lent E) → LendsBy g n old new r → history_of new ≡ history_of old
-  same_history n old new (lent.Ears boot ears) h = ap history_at h.1.0
+  same_history n old new (lent.Ears boot ears) h = ap history_at h.1
   same_history n old new lent.Nobody h = ap history_at h.1
   same_history n old new lent.NoMemory h = ap history_at h
 
@@ -66,10 +66,10 @@ module _ {E : Type 0} (g : ears.Ghosts E) where
     left = left;
     turn = t;
     can = h.by.0;
-    are_its = h.by.1.1;
+    are_its = h.by.2;
     share =
         t.share_is
-        ∙ ears_share found left before.number (Some (out_for before.number boot)) (h.by.1.0 ∙ ap (λ (k : ℕ). with_ears found.core.turning (Some (out_for k boot))) number) h.out
+        ∙ ears_share found left before.number (Some (out_for before.number boot)) (h.by.1 ∙ ap (λ (k : ℕ). with_ears found.core.turning (Some (out_for k boot))) number) h.out
         ∙ ap (λ (x : Option LentEars). with_out (cell_share found before.number) x) (own_ears before.number boot)
         ∙ ap (λ (s : CellShare). with_out s (Some (out_for before.number boot))) t.share_was;
   }

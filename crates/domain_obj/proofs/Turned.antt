@@ -1,5 +1,5 @@
 -- What one turn leaves of the pass of a call that is not admitted yet.
-use Rattle.std.proofs.Common.{◌≡◌, inl, inr, ◌<◌, ◌≤◌, ◌^◌, ℕ, suc, ◌++◌, List, [], ◌∷◌, length, is_some, false, Option, None, Some, slice_get, refl, sym, ap, ◌∙◌, subst, arith}
+use Rattle.std.proofs.Common.{◌≡◌, inl, inr, ◌<◌, ◌≤◌, ◌^◌, ℕ, suc, ◌==◌, ◌++◌, List, [], ◌∷◌, length, is_some, Bool, true, false, if◌then◌else◌, Option, None, Some, slice_get, refl, sym, ap, ◌∙◌, subst, arith}
 use Rattle.virt_types.specs.Below.types_base.declared.caller.Front.{Front}
 use Rattle.history_spec.specs.Begins.{Begins}
 use Rattle.history_spec.specs.Chapter.{tagged}
@@ -317,11 +317,11 @@ given_up_leaves n who d f old mid new held boot looks h g = given_up_after n who
 
 killed_looks : {G M E Z : Type 0} (n : ℕ) (who : Who) (e : Call) (f : First) (d : Call) (held : JobRecord) (boot : Option ℕ) (looks : ℕ) (old mid : Celled) → LooksIn {G = G} {M = M} {E = E} {Z = Z} n who e f old mid (look.Excluded held boot looks)
     → LooksIn {G = G} {M = M} {E = E} {Z = Z} n who e f old (killed_at_first d looks mid) (look.Excluded held boot looks)
-killed_looks n who e f call.Destroy held boot looks old mid h = by (looks == 1) where
-  by : (t : Bool) → LooksIn n who e f old (if t then record mid { link = killed_link mid.link } else mid) (look.Excluded held boot looks)
+killed_looks {G} {M} {E} {Z} n who e f call.Destroy held boot looks old mid h = by (looks == 1) where
+  by : (t : Bool) → LooksIn {G = G} {M = M} {E = E} {Z = Z} n who e f old (if t then record mid { link = killed_link mid.link } else mid) (look.Excluded held boot looks)
   by true = record { looks = h.looks; queue = h.queue; excluded = h.excluded; out = h.out; ticket = h.ticket; others = h.others }
   by false = h
-killed_looks n who e f d held boot looks old mid h = h
+killed_looks {G} {M} {E} {Z} n who e f d held boot looks old mid h = h
 
 looked_then : {G M E Z : Type 0} {n : ℕ} {who : Who} {d : Call} {f : First} {turns : ℕ} {boot : Option ℕ} {old new : Celled} (w : WaitsIn G M E Z n who d f turns boot old new)
     → LooksIn {G = G} {M = M} {E = E} {Z = Z} n who d f old new (look.Excluded w.held boot w.looks)
