@@ -1,5 +1,5 @@
 -- The turn of an answer.
-use Rattle.std.proofs.Common.{◌≡◌, ℕ, ◌==◌, ◌++◌, List, [], ◌∷◌, is_some, Bool, true, false, Option, None, Some, if◌then◌else◌, refl, sym, ap, ◌∙◌, subst}
+use Rattle.std.proofs.Common.{◌≡◌, ℕ, ◌==◌, ◌++◌, List, [], ◌∷◌, Bool, true, false, Option, None, Some, if◌then◌else◌, refl, sym, ap, ◌∙◌, subst}
 use Rattle.history_spec.specs.Chapter.{tagged}
 use Rattle.history_spec.specs.Pass.{AreOf, own}
 use Rattle.domain_spec.specs.Types.{Answer, Ask}

@@ -16,7 +16,6 @@ use Rattle.domain_obj.specs.Finishing.{IsPhased, IsStillAway}
 use Rattle.domain_obj.specs.InTurn.{DomainPass}
 use Rattle.domain_obj.specs.Placing.{IsPlaced}
 use Rattle.domain_obj.specs.Running.{Goes, IsSpent}
-use Rattle.domain_core.specs.declared.next.Next.{Next}
 use Rattle.domain_core.specs.Celled.{CellShare}
 use Rattle.domain_core.specs.OfTurns.{IsToldAtEnd}
 use Rattle.domain_obj.specs.Phasing.{IsPhaseDone, PhaseDone, marks_of, phase_let_in, phase_mark}
