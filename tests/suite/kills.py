@@ -182,36 +182,6 @@ def told_of_last_boot(place: Place) -> None:
     check(lines, ended.unread.decode(), "the lines of `virtd check`")
 
 
-@case("kills", "Of four domains that are paused and resumed a kill leaves the last status, or none")
-def among_suspends(place: Place) -> None:
-    chance = random.Random(49)
-    domains = [named(f"web{number}", number) for number in range(4)]
-    for _ in range(40):
-        session = Session(place)
-        for domain in domains:
-            session.call("DOMAIN_CREATE_XML", definition(domain), 0)
-        states = {domain: 1 for domain in domains}
-        for _ in range(chance.randrange(12)):
-            domain = chance.choice(domains)
-            is_paused = states[domain] == 3
-            session.call("DOMAIN_RESUME" if is_paused else "DOMAIN_SUSPEND", domain)
-            states[domain] = 1 if is_paused else 3
-        # One more is under way as the daemon is killed: its status may be the one of before or of after it.
-        last = chance.choice(domains)
-        session.begin("DOMAIN_RESUME" if states[last] == 3 else "DOMAIN_SUSPEND", last)
-        session.kill()
-        for domain in domains:
-            told = place.directory / f"run-{domain.identifier}.sta"
-            may = {states[domain]} | ({1, 3} if domain == last else set())
-            wanted = {f"run 1 boot=1 state={state} op=0 phase=0 name={domain.name}\n" for state in may}
-            if told.exists() and told.read_text() not in wanted:
-                raise Failed(f"{domain.name} was told as {told.read_text()!r}, wanted one of {wanted}")
-            if not told.exists() and domain != last:
-                raise Failed(f"{domain.name} has no status file, though nothing was asked of it")
-            told.unlink(missing_ok=True)
-        check("", place.run("stdio", place.directory).stderr, "what the next daemon says")
-
-
 @case("kills", "An image that was acknowledged is restored by the next daemon")
 def saved(place: Place) -> None:
     domain = named("a", 1)
