@@ -21,6 +21,6 @@ pub not_named : (draft name content : List ℕ) (old written removed new : Told)
 not_named draft name content old written removed new is gone how =
     let so_far : removed ≡ more (more old (op.Write draft content)) (op.Remove name) = gone ∙ ap (λ (t : Told). more t (op.Remove name)) is in
     inl (⊎_elim
-        (λ done. (3, done ∙ ap (λ (t : Told). more t (op.Rename draft name)) so_far))
-        (λ none. (2, none ∙ so_far))
-        how)
+    (λ done. (3, done ∙ ap (λ (t : Told). more t (op.Rename draft name)) so_far))
+    (λ none. (2, none ∙ so_far))
+    how)
