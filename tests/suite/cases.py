@@ -20,12 +20,16 @@ EXPECTED = (Failed, Hang, NoReply, Malformed)
 
 @dataclass(frozen=True)
 class Case:
-    """One case: what it is about, what it shows in one sentence, and the function that runs it."""
+    """One case: what it is about, what it shows in one sentence, and the function that runs it.
+
+    One with `client` runs the client, and not the daemon.
+    """
 
     subject: str
     shows: str
     run: Callable[[Place], None]
     long: bool = False
+    client: bool = False
 
     @property
     def name(self) -> str:
@@ -44,11 +48,11 @@ def register(new: Case) -> None:
     CASES.append(new)
 
 
-def case(subject: str, shows: str, long: bool = False) -> Callable:
+def case(subject: str, shows: str, long: bool = False, client: bool = False) -> Callable:
     """Register the function under it as a case; with `long` it runs only behind `--long`."""
 
     def registered(function: Callable[[Place], None]) -> Callable[[Place], None]:
-        register(Case(subject, shows, function, long))
+        register(Case(subject, shows, function, long, client))
         return function
 
     return registered

@@ -1,0 +1,39 @@
+// What is said on standard error.
+ghost use Rattle.std.specs.Prelude.{◌≡◌};
+
+use crate::dial::Dial;
+
+/// The words are those of no command.
+pub(crate) fn say_usage<D: Dial>(dial: &mut D)
+    ensures { D.given dial.new ≡ D.given dial.old }
+{
+    dial.err(b"virsh: usage\n");
+}
+
+/// The file has no text that may be sent.
+pub(crate) fn say_bad_file<D: Dial>(dial: &mut D)
+    ensures { D.given dial.new ≡ D.given dial.old }
+{
+    dial.err(b"virsh: bad file\n");
+}
+
+/// The file can't be read.
+pub(crate) fn say_file<D: Dial>(dial: &mut D)
+    ensures { D.given dial.new ≡ D.given dial.old }
+{
+    dial.err(b"virsh: file\n");
+}
+
+/// The connection or standard output failed, or what came is no answer.
+pub(crate) fn say_link<D: Dial>(dial: &mut D)
+    ensures { D.given dial.new ≡ D.given dial.old }
+{
+    dial.err(b"virsh: link\n");
+}
+
+/// There was no memory.
+pub(crate) fn say_out_of_memory<D: Dial>(dial: &mut D)
+    ensures { D.given dial.new ≡ D.given dial.old }
+{
+    dial.err(b"virsh: out of memory\n");
+}
