@@ -6,7 +6,7 @@ use Rattle.virt_types.specs.declared.value.Note.{Note}
 use Rattle.virt_types.specs.declared.value.Value.{Value}
 use Rattle.virt_types.specs.declared.value.Value.TheVariants as value
 use Rattle.command_spec.specs.Output.{Prints}
-use Rattle.command_spec.specs.Printed.{notes_text}
+use Rattle.command_spec.specs.Printed.{error_text, notes_text}
 use Rattle.command_spec.specs.declared.command.Command.{Command}
 use Rattle.command_spec.specs.declared.command.Command.TheVariants as command
 use Rattle.command_spec.specs.declared.command.Job.{Job}
@@ -15,9 +15,11 @@ use Rattle.command_spec.specs.declared.form.NumberVerb.TheVariants as number
 use Rattle.packet.proofs.Known.{Appends-none, Appends-then}
 use Rattle.rpc_client.specs.Calling.{Connection}
 use Rattle.virsh.specs.Calls.{IsAsked, StopsOrNoMemory}
-use Rattle.virsh.specs.Ends.{Ends, HasEnough, HasRun, HasTold, HearsOf, IsCutShort, IsStatusOf, Tells}
+use Rattle.virsh.specs.Ends.{Ends, HasEnough, HasRun, HasTold, HearsOf, IsCutShort, IsOutOfMemory, SaysEnd, Tells}
 use Rattle.virsh.specs.Listening.{HasListened, heard_of}
+use Rattle.virsh.specs.Outside.{Outside, with_said}
 use Rattle.virsh.specs.Printing.{IsCutOff, IsPut}
+use Rattle.virsh.specs.Said.{link_line, memory_line}
 use Rattle.virsh.specs.declared.stop.Stop.{Stop}
 use Rattle.virsh.specs.declared.stop.Stop.TheVariants as stop
 use Rattle.virsh.proofs.InTurn.{heard_none}
@@ -110,15 +112,24 @@ module _ {S K O : Type 0} (left : S → Option (List ℕ)) (source_faults : S �
   -- a call was not
   pub stopped : (job : Job) (xml : List ℕ) (old new : Connection S K) (out : O) (why : Stop) → StopsOrNoMemory left source_faults held sink_faults job xml old new why
       → HasRun left source_faults held sink_faults shown out_faults job xml old new out out (Err why)
-  stopped job xml old new out (stop.Refused why) stops = record { why = why; stops = stops; same = refl }
+  stopped job xml old new out (stop.Refused why) stops = (stops, refl)
   stopped job xml old new out stop.Link stops = inl (record { stops = stops; same = refl })
   stopped job xml old new out stop.NoMemory stops = nothing_more out
 
-  -- what the outside printed by then is not forgotten where there is no memory for the line of a refusal
-  pub ends : (job : Job) (xml : List ℕ) (old new : Connection S K) (out after : O) (r : Result (Unit {0}) Stop) (code : ℕ) → HasRun left source_faults held sink_faults shown out_faults job xml old new out after r → IsStatusOf r code
-      → Ends left source_faults held sink_faults shown out_faults job xml old new out after code
-  ends job xml old new out after (Ok done) code run is = inl (is, run)
-  ends job xml old new out after (Err (stop.Refused why)) code run (inl is) = inr (inl (is, run))
-  ends job xml old new out after (Err (stop.Refused why)) code run (inr is) = inr (inr (inr (is, subst (λ (o : O). (text : List ℕ) × Appends (shown out) (shown o) text) (sym run.same) (nothing_more out))))
-  ends job xml old new out after (Err stop.Link) code run is = inr (inr (inl (is, run)))
-  ends job xml old new out after (Err stop.NoMemory) code run is = inr (inr (inr (is, run)))
+  -- how a job ends, with the line that is said
+  pub record HasEnded (job : Job) (xml : List ℕ) (old new : Connection S K) (out after : O) (was is : Outside S K O) (code : ℕ) : Type 0 where
+    pub said : Option (List ℕ)
+    pub ends : Ends left source_faults held sink_faults shown out_faults job xml old new out after said code
+    pub outside : is ≡ with_said said was
+
+  -- what was printed by then is not forgotten where there is no memory for the line of a refusal
+  pub has_ended : (job : Job) (xml : List ℕ) (old new : Connection S K) (out after : O) (was is : Outside S K O) (r : Result (Unit {0}) Stop) (code : ℕ)
+      → HasRun left source_faults held sink_faults shown out_faults job xml old new out after r → SaysEnd r was is code → HasEnded job xml old new out after was is code
+  has_ended job xml old new out after was is (Ok done) code run says = record { said = None; ends = inl (says.0, (refl, run)); outside = says.1 }
+  has_ended job xml old new out after was is (Err (stop.Refused why)) code run (inl says) =
+      record { said = Some (error_text why); ends = inr (inl (says.0, record { why = why; said_is = refl; stops = run.0; same = run.1 })); outside = says.1 }
+  has_ended job xml old new out after was is (Err (stop.Refused why)) code run (inr says) =
+      let printed : IsOutOfMemory left source_faults held sink_faults shown out_faults out after = subst (λ (o : O). (text : List ℕ) × Appends (shown out) (shown o) text) (sym run.1) (nothing_more out) in
+      record { said = Some memory_line; ends = inr (inr (inr (says.0, (refl, printed)))); outside = says.1 }
+  has_ended job xml old new out after was is (Err stop.Link) code run says = record { said = Some link_line; ends = inr (inr (inl (says.0, (refl, run)))); outside = says.1 }
+  has_ended job xml old new out after was is (Err stop.NoMemory) code run says = record { said = Some memory_line; ends = inr (inr (inr (says.0, (refl, run)))); outside = says.1 }

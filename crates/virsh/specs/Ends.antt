@@ -1,4 +1,4 @@
--- How a job ends over a connection: what is on standard output, and the status.
+-- How a job ends over a connection: what is on standard output, what is said on standard error, and the status.
 use Rattle.std.specs.Prelude.{◌≡◌, ◌⊎◌, ◌<◌, ℕ, List, [], ◌++◌, Option, None, Some, Result, Ok, Err}
 use Rattle.std.specs.Io.KnownBytes.{Appends}
 use Rattle.virt_types.specs.Below.types_base.declared.refusal.Refusal.{Refusal}
@@ -6,11 +6,14 @@ use Rattle.virt_types.specs.declared.reference.DomainRef.{DomainRef}
 use Rattle.virt_types.specs.declared.value.Note.{Note}
 use Rattle.virt_types.specs.declared.value.Value.{Value}
 use Rattle.command_spec.specs.Output.{Prints}
+use Rattle.command_spec.specs.Printed.{error_text}
 use Rattle.command_spec.specs.declared.command.Job.{Job}
 use Rattle.rpc_client.specs.Calling.{Connection}
 use Rattle.virsh.specs.Calls.{IsAsked, Stops}
 use Rattle.virsh.specs.Listening.{Hears, IsUnheard, heard_of, still_wanted}
+use Rattle.virsh.specs.Outside.{Outside, with_line}
 use Rattle.virsh.specs.Printing.{IsCutOff, IsPut}
+use Rattle.virsh.specs.Said.{link_line, memory_line}
 use Rattle.virsh.specs.declared.stop.Stop.{Stop}
 use Rattle.virsh.specs.declared.stop.Stop.TheVariants as stop
 
@@ -18,12 +21,16 @@ use Rattle.virsh.specs.declared.stop.Stop.TheVariants as stop
 abbrev pub IsPrintable : Job → List Value → Type 0
 IsPrintable job values = (text : List ℕ) × Prints job.command job.option values [] text
 
--- the statuses that a stop may have: a refusal for whose line there is no memory is that
-abbrev pub IsStatusOf : Result (Unit {0}) Stop → ℕ → Type 0
-IsStatusOf (Ok done) code = code ≡ 0
-IsStatusOf (Err (stop.Refused why)) code = (code ≡ 1) ⊎ (code ≡ 12)
-IsStatusOf (Err stop.Link) code = code ≡ 5
-IsStatusOf (Err stop.NoMemory) code = code ≡ 12
+-- the status, and the line that is said with it
+abbrev pub SaysLine : {S K O : Type 0} → List ℕ → ℕ → Outside S K O → Outside S K O → ℕ → Type 0
+SaysLine line status was is code = (code ≡ status) × (is ≡ with_line line was)
+
+-- those of a stop: a refusal for whose line there is no memory is that
+abbrev pub SaysEnd : {S K O : Type 0} → Result (Unit {0}) Stop → Outside S K O → Outside S K O → ℕ → Type 0
+SaysEnd (Ok done) was is code = (code ≡ 0) × (is ≡ was)
+SaysEnd (Err (stop.Refused why)) was is code = SaysLine (error_text why) 1 was is code ⊎ SaysLine memory_line 12 was is code
+SaysEnd (Err stop.Link) was is code = SaysLine link_line 5 was is code
+SaysEnd (Err stop.NoMemory) was is code = SaysLine memory_line 12 was is code
 
 module _ {S K O : Type 0} (left : S → Option (List ℕ)) (source_faults : S → ℕ) (held : K → Option (List ℕ)) (sink_faults : K → ℕ)
     (shown : O → Option (List ℕ)) (out_faults : O → ℕ) where
@@ -87,9 +94,10 @@ module _ {S K O : Type 0} (left : S → Option (List ℕ)) (source_faults : S �
     pub stops : Stops left source_faults held sink_faults job xml old new stop.Link
     pub same : after ≡ out
 
-  -- 1: the daemon refused a call, and nothing is printed
-  pub record IsRefusal (job : Job) (xml : List ℕ) (old new : Connection S K) (out after : O) : Type 0 where
+  -- 1: the daemon refused a call, which is said, and nothing is printed
+  pub record IsRefusal (job : Job) (xml : List ℕ) (old new : Connection S K) (out after : O) (said : Option (List ℕ)) : Type 0 where
     pub why : Refusal
+    pub said_is : said ≡ Some (error_text why)
     pub stops : Stops left source_faults held sink_faults job xml old new (stop.Refused why)
     pub same : after ≡ out
 
@@ -111,14 +119,14 @@ module _ {S K O : Type 0} (left : S → Option (List ℕ)) (source_faults : S �
   -- what became of a job
   abbrev pub HasRun : Job → List ℕ → Connection S K → Connection S K → O → O → Result (Unit {0}) Stop → Type 0
   HasRun job xml old new out after (Ok done) = IsDone job xml old new out after
-  HasRun job xml old new out after (Err (stop.Refused why)) = IsRefusal job xml old new out after
+  HasRun job xml old new out after (Err (stop.Refused why)) = Stops left source_faults held sink_faults job xml old new (stop.Refused why) × (after ≡ out)
   HasRun job xml old new out after (Err stop.Link) = IsLinkFault job xml old new out after
   HasRun job xml old new out after (Err stop.NoMemory) = IsOutOfMemory out after
 
-  -- how a job ends, by its status
-  abbrev pub Ends : Job → List ℕ → Connection S K → Connection S K → O → O → ℕ → Type 0
-  Ends job xml old new out after code =
-      ((code ≡ 0) × IsDone job xml old new out after)
-      ⊎ ((code ≡ 1) × IsRefusal job xml old new out after)
-      ⊎ ((code ≡ 5) × IsLinkFault job xml old new out after)
-      ⊎ ((code ≡ 12) × IsOutOfMemory out after)
+  -- how a job ends, by its status, and the line that is said with it, if any
+  abbrev pub Ends : Job → List ℕ → Connection S K → Connection S K → O → O → Option (List ℕ) → ℕ → Type 0
+  Ends job xml old new out after said code =
+      ((code ≡ 0) × (said ≡ None) × IsDone job xml old new out after)
+      ⊎ ((code ≡ 1) × IsRefusal job xml old new out after said)
+      ⊎ ((code ≡ 5) × (said ≡ Some link_line) × IsLinkFault job xml old new out after)
+      ⊎ ((code ≡ 12) × (said ≡ Some memory_line) × IsOutOfMemory out after)

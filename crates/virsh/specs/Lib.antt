@@ -1,4 +1,5 @@
 pub mod Handed
+pub mod Said
 pub mod Outside
 pub mod Printing
 pub mod Calls

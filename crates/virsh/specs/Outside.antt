@@ -1,5 +1,5 @@
 -- What the outside gave the client, and what it got.
-use Rattle.std.specs.Prelude.{◌≡◌, ℕ, List, Result, Ok, Err}
+use Rattle.std.specs.Prelude.{◌≡◌, ℕ, List, Option, None, Some, Result, Ok, Err}
 use Rattle.outside_spec.specs.Faults.{Rose}
 use Rattle.virt_types.specs.Below.types_base.declared.memory.Failed.{Failed}
 use Rattle.virt_types.specs.Below.types_base.declared.memory.Fault.{Fault}
@@ -15,8 +15,9 @@ pub record Outside (S K O : Type 0) : Type 0 where
   pub names : Handed (List ℕ)
   pub contents : Handed (List ℕ)
   pub made_before : ℕ
-  -- standard output
+  -- standard output, and the lines on standard error
   pub out : O
+  pub lines : Handed (List ℕ)
   -- how often nobody answered at an address, and how often a file could not be read
   pub dial_faults : ℕ
   pub file_faults : ℕ
@@ -36,6 +37,15 @@ with_read name content w = record w { names = one_more w.names name; contents = 
 -- standard output is this by now
 abbrev pub with_out : {S K O : Type 0} → O → Outside S K O → Outside S K O
 with_out out w = record w { out = out }
+
+-- this line was said on standard error
+abbrev pub with_line : {S K O : Type 0} → List ℕ → Outside S K O → Outside S K O
+with_line line w = record w { lines = one_more w.lines line }
+
+-- it was, where there is one
+abbrev pub with_said : {S K O : Type 0} → Option (List ℕ) → Outside S K O → Outside S K O
+with_said None w = w
+with_said (Some line) w = with_line line w
 
 -- nobody answered, which was counted, and nothing else was done
 pub record IsUnanswered {S K O : Type 0} (was is : Outside S K O) : Type 0 where

@@ -11,7 +11,8 @@ use Rattle.command_spec.specs.declared.form.Flag.TheVariants as flag
 use Rattle.virt_types.specs.Limits.{most_text_bytes}
 use Rattle.rpc_client.specs.Calling.{Connection, fresh}
 use Rattle.virsh.specs.Ends.{Ends}
-use Rattle.virsh.specs.Outside.{IsUnanswered, IsUnread, Outside, with_back, with_made, with_out, with_read}
+use Rattle.virsh.specs.Outside.{IsUnanswered, IsUnread, Outside, with_back, with_line, with_made, with_out, with_read, with_said}
+use Rattle.virsh.specs.Said.{bad_file_line, file_line, link_line, memory_line}
 
 -- `events` and `--verbose` are not served yet
 abbrev pub IsServedCommand : Command → Type 0
@@ -49,7 +50,7 @@ IsBadFile content = (IsUtf8 content → ⊥) ⊎ (most_text_bytes < length conte
 
 -- 12 before anything was dialed
 abbrev pub IsStarved : {S K O : Type 0} → Outside S K O → Outside S K O → ℕ → Type 0
-IsStarved was is code = (code ≡ 12) × (is ≡ was)
+IsStarved was is code = (code ≡ 12) × (is ≡ with_line memory_line was)
 
 module _ {S K O : Type 0} (left : S → Option (List ℕ)) (source_faults : S → ℕ) (held : K → Option (List ℕ)) (sink_faults : K → ℕ)
     (shown : O → Option (List ℕ)) (out_faults : O → ℕ) where
@@ -57,12 +58,13 @@ module _ {S K O : Type 0} (left : S → Option (List ℕ)) (source_faults : S �
   pub record IsConnected (job : Job) (xml : List ℕ) (ends : S × K) (was is : Outside S K O) (code : ℕ) : Type 0 where
     pub client : Connection S K
     pub after : O
-    pub ended : Ends left source_faults held sink_faults shown out_faults job xml (fresh ends.0 ends.1) client was.out after code
-    pub outside : is ≡ with_back (client.inflow.source, client.sink) (with_out after was)
+    pub said : Option (List ℕ)
+    pub ended : Ends left source_faults held sink_faults shown out_faults job xml (fresh ends.0 ends.1) client was.out after said code
+    pub outside : is ≡ with_back (client.inflow.source, client.sink) (with_said said (with_out after was))
 
   -- or nothing goes over them, for want of memory
   abbrev pub UsesEnds : Job → List ℕ → S × K → Outside S K O → Outside S K O → ℕ → Type 0
-  UsesEnds job xml ends was is code = IsConnected job xml ends was is code ⊎ ((code ≡ 12) × (is ≡ with_back ends was))
+  UsesEnds job xml ends was is code = IsConnected job xml ends was is code ⊎ ((code ≡ 12) × (is ≡ with_back ends (with_line memory_line was)))
 
   -- a connection is made with the daemon, and used
   pub record Dialed (job : Job) (xml : List ℕ) (was is : Outside S K O) (code : ℕ) : Type 0 where
@@ -71,7 +73,9 @@ module _ {S K O : Type 0} (left : S → Option (List ℕ)) (source_faults : S �
 
   -- 5: nobody answers at the address
   pub record IsAlone (was is : Outside S K O) (code : ℕ) : Type 0 where
-    pub unanswered : IsUnanswered was is
+    pub then : Outside S K O
+    pub unanswered : IsUnanswered was then
+    pub said : is ≡ with_line link_line then
     pub code_is : code ≡ 5
 
   -- the job is done with this text, or why not
@@ -81,12 +85,14 @@ module _ {S K O : Type 0} (left : S → Option (List ℕ)) (source_faults : S �
 
   -- 4: the file could not be read, and nothing is dialed
   pub record HasNoFile (was is : Outside S K O) (code : ℕ) : Type 0 where
-    pub unread : IsUnread was is
+    pub then : Outside S K O
+    pub unread : IsUnread was then
+    pub said : is ≡ with_line file_line then
     pub code_is : code ≡ 4
 
   -- the text of a file is sent; or the file has none (3), and nothing is dialed
   abbrev pub DoesContent : Job → List ℕ → Outside S K O → Outside S K O → ℕ → Type 0
-  DoesContent job content was is code = (IsBadFile content × (code ≡ 3) × (is ≡ was)) ⊎ DoesWith job content was is code
+  DoesContent job content was is code = (IsBadFile content × (code ≡ 3) × (is ≡ with_line bad_file_line was)) ⊎ DoesWith job content was is code
 
   -- the file was read, and then its text is sent
   pub record HasFile (job : Job) (name : List ℕ) (was is : Outside S K O) (code : ℕ) : Type 0 where

@@ -2,7 +2,7 @@
 ghost use Rattle.std.specs.Prelude.{◌≡◌, ◌≤◌, IfOk, None, length, option_map};
 ghost use Rattle.command_spec.specs.declared.limits.TheConstants.{MOST_WORD_BYTES};
 ghost use Rattle.virsh_plan.specs.Within.{IsWithin};
-ghost use Rattle.virsh.specs.Ends.{HasRun, HasTold, IsPrintable, IsStatusOf};
+ghost use Rattle.virsh.specs.Ends.{HasRun, HasTold, IsPrintable, SaysEnd};
 ghost use Rattle.virsh.specs.Listening.{heard_of as heard_of_command};
 ghost use Rattle.virsh.specs.Outside.{with_out};
 ghost use Rattle.virsh.specs.Top.{DoesWith, IsServedCommand, UsesEnds, address_of as address_of_job};
@@ -101,8 +101,7 @@ fn run<D: Dial>(
 
 // Says why a job is not done, where it is not, and answers its status.
 fn say_end<D: Dial>(alloc: Global, dial: &mut D, done: &Result<(), Stop>) -> u8
-    ensures status { IsStatusOf done.now result }
-    ensures given { D.given dial.new ≡ D.given dial.old }
+    ensures { SaysEnd done.now (D.given dial.old) (D.given dial.new) result }
 {
     let Err(stop) = done else {
         return DONE;

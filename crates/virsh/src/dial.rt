@@ -1,7 +1,7 @@
 // What the client is given of the outside.
 ghost use Rattle.std.specs.Prelude.{◌≡◌};
 ghost use Rattle.std.specs.Borrow.{Lends, sem};
-ghost use Rattle.virsh.specs.Outside.{Dials, Outside, Reads, with_back, with_out};
+ghost use Rattle.virsh.specs.Outside.{Dials, Outside, Reads, with_back, with_line, with_out};
 
 use packet::{Sink, Source};
 use virt_types::{Bytes, Failed, Fault, Text};
@@ -38,7 +38,7 @@ pub trait Dial {
 
     /// Writes a line, which ends with a line feed, on standard error. Its faults are passed over.
     fn err(&mut self, line: &[u8])
-        ensures { given self.new ≡ given self.old };
+        ensures { given self.new ≡ with_line line.now (given self.old) };
 
     /// Standard output.
     fn out(&mut self) -> &mut Self::O

@@ -1,5 +1,5 @@
 // What the outside gave, or got.
-ghost use Rattle.std.specs.Prelude.{◌≡◌};
+ghost use Rattle.std.specs.Prelude.{◌≡◌, ℕ, List, Option, None, Some};
 ghost use Rattle.virsh.specs.Handed.{none_handed, one_more};
 
 use std::marker::Model;
@@ -45,5 +45,62 @@ impl<T> HandedOver<T> {
         ensures { result ≡ self.now.count }
     {
         self.count
+    }
+}
+
+// A line as clauses see it, or none. It has no bytes.
+#[derive(Drop)]
+struct LastLine {
+    ghost line: { Option (List ℕ) },
+}
+
+impl LastLine {
+    fn none() -> LastLine
+        ensures { result.line ≡ None }
+    {
+        LastLine {}
+    }
+
+    fn of(line: &[u8]) -> LastLine
+        ensures { result.line ≡ Some line.now }
+    {
+        let _ = line;
+        LastLine {}
+    }
+}
+
+/// How many lines were said, and the last of them, which contracts alone see.
+#[derive(Drop)]
+pub(crate) struct SaidLines {
+    count: u64,
+    last: LastLine,
+}
+
+impl Model for SaidLines {
+    ghost use Rattle.std.specs.Prelude.{ℕ, List};
+    ghost use Rattle.virsh.specs.Handed.{Handed};
+
+    ghost Value = { Handed (List ℕ) };
+
+    ghost view = { λ s. record { count = s.count; last = s.last.line } };
+}
+
+impl SaidLines {
+    /// None so far.
+    pub(crate) fn none() -> SaidLines
+        ensures { result ≡ none_handed }
+    {
+        SaidLines {
+            count: 0,
+            last: LastLine::none(),
+        }
+    }
+
+    /// This one more.
+    pub(crate) fn add(&mut self, line: &[u8])
+        ensures { self.new ≡ one_more self.old line.now }
+    {
+        self.count = self.count.saturating_add(1);
+        self.last = LastLine::of(line);
     }
 }

@@ -3,7 +3,7 @@
 ghost use Rattle.std.specs.Prelude.{◌≡◌, refl};
 
 use crate::dial::Dial;
-use crate::handed::HandedOver;
+use crate::handed::{HandedOver, SaidLines};
 use crate::status::OUT_OF_MEMORY;
 use packet::{Sink, Source};
 use std::io::{ErrorKind, Read, Write};
@@ -101,6 +101,7 @@ pub(crate) struct Process<'a> {
     names: HandedOver<Text>,
     contents: HandedOver<Bytes>,
     made_before: u64,
+    lines: SaidLines,
     dial_faults: u64,
     file_faults: u64,
 }
@@ -121,6 +122,7 @@ impl<'a> Process<'a> {
             names: HandedOver::none(),
             contents: HandedOver::none(),
             made_before: 0,
+            lines: SaidLines::none(),
             dial_faults: 0,
             file_faults: 0,
         }
@@ -179,6 +181,7 @@ impl Dial for Process<'_> {
       contents = p.contents;
       made_before = p.made_before;
       out = p.out;
+      lines = p.lines;
       dial_faults = p.dial_faults;
       file_faults = p.file_faults;
     } };
@@ -220,6 +223,7 @@ impl Dial for Process<'_> {
     }
 
     fn err(&mut self, line: &[u8]) {
+        self.lines.add(line);
         let _ = self.error.write_all(line);
     }
 

@@ -4,6 +4,8 @@ ghost use Rattle.command_spec.specs.declared.limits.TheConstants.{MOST_WORD_BYTE
 ghost use Rattle.std.specs.String.{string_bytes};
 ghost use Rattle.command_spec.specs.declared.command.Job.{Job as TheJob};
 ghost use Rattle.virsh_plan.specs.Within.{IsWithin};
+ghost use Rattle.virsh.specs.Outside.{with_line};
+ghost use Rattle.virsh.specs.Said.{usage_line};
 ghost use Rattle.virsh.specs.Top.{AsksFor, Does, DoesContent, DoesFile, IsBadFile, IsServedCommand, IsServedOption, IsStarved, file_of};
 
 use crate::connect::serve;
@@ -25,7 +27,7 @@ fn is_served(job: &Job) -> bool
 // The words are those of no command that is served.
 fn usage<D: Dial>(dial: &mut D) -> u8
     ensures code { result ≡ 2 }
-    ensures given { D.given dial.new ≡ D.given dial.old }
+    ensures said { D.given dial.new ≡ with_line usage_line (D.given dial.old) }
 {
     say_usage(dial);
     USAGE
@@ -115,7 +117,7 @@ fn do_job<D: Dial>(alloc: Global, dial: &mut D, job: &Job) -> u8
 /// where memory ran out. Each but 0 has its line on standard error. A file is read before anything is dialed.
 pub fn virsh<D: Dial>(alloc: Global, words: &[String], dial: &mut D) -> u8
     ensures usage { result ≡ 2 → (job : TheJob) → AsksFor (map string_bytes words.now) job → ⊥ }
-    ensures nothing { result ≡ 2 → D.given dial.new ≡ D.given dial.old }
+    ensures said { result ≡ 2 → D.given dial.new ≡ with_line usage_line (D.given dial.old) }
     ensures no_job { ((job : TheJob) → AsksFor (map string_bytes words.now) job → ⊥)
         → (result ≡ 2) ⊎ IsStarved (D.given dial.old) (D.given dial.new) result }
     ensures does { (job : TheJob) → AsksFor (map string_bytes words.now) job
