@@ -162,7 +162,8 @@ def random_lines(place: Place) -> None:
 @case("client", "A word is as long as 65,536 bytes, wherever it stands", client=True)
 def longest_words(place: Place) -> None:
     for words in (["start", "é" * 32_768], ["vol-delete", "a", "n" * 65_536], ["save", "n" * 65_536, "f"]):
+        more = words[-1] + "n" * (65_537 - len(words[-1].encode()))
         came = run_client(place, "-c", "127.0.0.1:1", *words).status
-        longer = run_client(place, "-c", "127.0.0.1:1", *words[:-1], words[-1] + "n" * 65_536).status
+        longer = run_client(place, "-c", "127.0.0.1:1", *words[:-1], more).status
         if (came, longer) != (5, 2):
             raise Failed(f"{words[0]}: {came} and {longer}, and not 5 and 2")
