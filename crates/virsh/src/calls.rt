@@ -1,5 +1,5 @@
 // The calls of a command.
-ghost use Rattle.std.specs.Prelude.{◌≡◌, ◌≤◌, IfOk, IfErr, OnOk, None, false, length};
+ghost use Rattle.std.specs.Prelude.{◌≡◌, ◌≤◌, IfOk, IfErr, OnOk, None, false, length, true};
 ghost use Rattle.command_spec.specs.declared.limits.TheConstants.{MOST_WORD_BYTES};
 ghost use Rattle.virsh_plan.specs.Sendable.{IsSendable};
 ghost use Rattle.virsh_plan.specs.Within.{IsWithin};
@@ -30,6 +30,18 @@ fn brings_events(request: &Request) -> bool
     )
 }
 
+// Whether an event came that nobody asked for.
+fn is_unasked(has_event: bool, request: &Request) -> bool
+    ensures unasked { result ≡ true → (brings_events_of request.now ≡ false) × (has_event ≡ true) }
+    ensures asked { result ≡ false → brings_events_of request.now ≡ false → has_event ≡ false }
+{
+    if has_event {
+        !brings_events(request)
+    } else {
+        false
+    }
+}
+
 // What a reply says, where no event came that nobody asked for.
 fn take_answer(has_event: bool, request: &Request, reply: &Reply) -> Result<Value, Stop>
     ensures ok { IfOk result (λ v. (reply.now ≡ Reply.Ok v) × (brings_events_of request.now ≡ false → has_event ≡ false)) }
@@ -40,11 +52,15 @@ fn take_answer(has_event: bool, request: &Request, reply: &Reply) -> Result<Valu
             Ok(refusal) => Err(Stop::Refused(refusal)),
             Err(NoMemory) => Err(Stop::NoMemory),
         },
-        Reply::Ok(_) if has_event && !brings_events(request) => Err(Stop::Link),
-        Reply::Ok(value) => match value.copy() {
-            Ok(value) => Ok(value),
-            Err(NoMemory) => Err(Stop::NoMemory),
-        },
+        Reply::Ok(value) => {
+            if is_unasked(has_event, request) {
+                return Err(Stop::Link);
+            }
+            match value.copy() {
+                Ok(value) => Ok(value),
+                Err(NoMemory) => Err(Stop::NoMemory),
+            }
+        }
     }
 }
 

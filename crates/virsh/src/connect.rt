@@ -11,13 +11,13 @@ use crate::calls::{ValueList, ask_all};
 use crate::dial::Dial;
 use crate::listen::listen;
 use crate::print::print;
-use crate::say::{say_link, say_out_of_memory};
+use crate::say::{say_link, say_out_of_memory, say_refusal};
 use crate::status::{DONE, LINK, OUT_OF_MEMORY, REFUSED};
 use crate::stop::Stop;
 use command_spec::{Command, Job, NumberVerb};
 use rpc_client::Client;
 use std::alloc::Global;
-use virsh_text::{refusal_line, text_of};
+use virsh_text::text_of;
 use virt_types::{DomainRef, Failed, NoMemory, Text, TryCopy, Value};
 
 /// The address of the daemon, where the words have none.
@@ -107,11 +107,8 @@ fn say_end<D: Dial>(alloc: Global, dial: &mut D, done: &Result<(), Stop>) -> u8
         return DONE;
     };
     match stop {
-        Stop::Refused(refusal) => match refusal_line(alloc, refusal) {
-            Ok(line) => {
-                dial.err(line.as_bytes());
-                REFUSED
-            }
+        Stop::Refused(refusal) => match say_refusal(alloc, dial, refusal) {
+            Ok(()) => REFUSED,
             Err(NoMemory) => {
                 say_out_of_memory(dial);
                 OUT_OF_MEMORY

@@ -1,5 +1,5 @@
 // The top call: from the words to the status.
-ghost use Rattle.std.specs.Prelude.{◌≡◌, ◌≤◌, ◌⊎◌, ◌↔◌, IfNone, IfSome, IsTrue, length, map, option_map};
+ghost use Rattle.std.specs.Prelude.{◌≡◌, ◌≤◌, ◌⊎◌, IfNone, IfSome, false, length, map, option_map, true};
 ghost use Rattle.command_spec.specs.declared.limits.TheConstants.{MOST_WORD_BYTES};
 ghost use Rattle.std.specs.String.{string_bytes};
 ghost use Rattle.command_spec.specs.declared.command.Job.{Job as TheJob};
@@ -17,11 +17,31 @@ use std::alloc::Global;
 use virsh_words::read_words;
 use virt_types::{Bytes, Fault, MOST_TEXT_BYTES, OrNoMemory, Text};
 
-// `events` and `--verbose` are not served yet.
-fn is_served(job: &Job) -> bool
-    ensures { IsTrue result ↔ (IsServedCommand job.now.command × IsServedOption job.now.option) }
+// `events` is not served yet.
+fn is_served_command(command: &Command) -> bool
+    ensures yes { result ≡ true → IsServedCommand command.now }
+    ensures no { result ≡ false → IsServedCommand command.now → ⊥ }
 {
-    !matches!(job.command, Command::Events { .. }) && job.option != Some(Flag::Verbose)
+    !matches!(command, Command::Events { .. })
+}
+
+// `--verbose` is not served yet.
+fn is_served_option(option: Option<Flag>) -> bool
+    ensures yes { result ≡ true → IsServedOption option }
+    ensures no { result ≡ false → IsServedOption option → ⊥ }
+{
+    !matches!(option, Some(Flag::Verbose))
+}
+
+fn is_served(job: &Job) -> bool
+    ensures yes { result ≡ true → IsServedCommand job.now.command × IsServedOption job.now.option }
+    ensures no { result ≡ false → IsServedCommand job.now.command → IsServedOption job.now.option → ⊥ }
+{
+    if is_served_command(&job.command) {
+        is_served_option(job.option)
+    } else {
+        false
+    }
 }
 
 // The words are those of no command that is served.
