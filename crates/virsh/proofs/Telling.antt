@@ -125,11 +125,11 @@ module _ {S K O : Type 0} (left : S → Option (List ℕ)) (source_faults : S �
   -- what was printed by then is not forgotten where there is no memory for the line of a refusal
   pub has_ended : (job : Job) (xml : List ℕ) (old new : Connection S K) (out after : O) (was is : Outside S K O) (r : Result (Unit {0}) Stop) (code : ℕ)
       → HasRun left source_faults held sink_faults shown out_faults job xml old new out after r → SaysEnd r was is code → HasEnded job xml old new out after was is code
-  has_ended job xml old new out after was is (Ok done) code run says = record { said = None; ends = inl (says.0, (refl, run)); outside = says.1 }
+  has_ended job xml old new out after was is (Ok done) code run says = record { said = None; ends = inl (says.0, refl, run); outside = says.1 }
   has_ended job xml old new out after was is (Err (stop.Refused why)) code run (inl says) =
       record { said = Some (error_text why); ends = inr (inl (says.0, record { why = why; said_is = refl; stops = run.0; same = run.1 })); outside = says.1 }
   has_ended job xml old new out after was is (Err (stop.Refused why)) code run (inr says) =
       let printed : IsOutOfMemory left source_faults held sink_faults shown out_faults out after = subst (λ (o : O). (text : List ℕ) × Appends (shown out) (shown o) text) (sym run.1) (nothing_more out) in
-      record { said = Some memory_line; ends = inr (inr (inr (says.0, (refl, printed)))); outside = says.1 }
-  has_ended job xml old new out after was is (Err stop.Link) code run says = record { said = Some link_line; ends = inr (inr (inl (says.0, (refl, run)))); outside = says.1 }
-  has_ended job xml old new out after was is (Err stop.NoMemory) code run says = record { said = Some memory_line; ends = inr (inr (inr (says.0, (refl, run)))); outside = says.1 }
+      record { said = Some memory_line; ends = inr (inr (inr (says.0, refl, printed))); outside = says.1 }
+  has_ended job xml old new out after was is (Err stop.Link) code run says = record { said = Some link_line; ends = inr (inr (inl (says.0, refl, run))); outside = says.1 }
+  has_ended job xml old new out after was is (Err stop.NoMemory) code run says = record { said = Some memory_line; ends = inr (inr (inr (says.0, refl, run))); outside = says.1 }

@@ -1,8 +1,9 @@
 // What the outside gave, or got.
+ghost use Rattle.std.specs.Borrow.{ftrue};
 ghost use Rattle.std.specs.Prelude.{◌≡◌, ℕ, List, Option, None, Some};
 ghost use Rattle.virsh.specs.Handed.{none_handed, one_more};
 
-use std::marker::Model;
+use std::marker::{Model, PhantomData};
 use std::snapshot::Snapshot;
 
 /// How many values of a kind were handed over, and the last of them, which contracts alone see.
@@ -48,25 +49,45 @@ impl<T> HandedOver<T> {
     }
 }
 
-// A line as clauses see it, or none. It has no bytes.
+// A line as clauses see it, or none. It has no bytes, and owns nothing; whoever makes one says which line it is.
 #[derive(Drop)]
 struct LastLine {
+    of: PhantomData<u64>,
     ghost line: { Option (List ℕ) },
 }
 
+impl Model for LastLine {
+    ghost also_owns = { λ _. ftrue };
+}
+
 impl LastLine {
+    // The line that the caller names.
+    fn named() -> LastLine
+        ghost line: { Option (List ℕ) }
+        ensures { result.line ≡ line }
+    {
+        LastLine { of: PhantomData }
+    }
+
     fn none() -> LastLine
         ensures { result.line ≡ None }
     {
-        LastLine {}
+        LastLine::named()
     }
 
     fn of(line: &[u8]) -> LastLine
         ensures { result.line ≡ Some line.now }
     {
-        let _ = line;
-        LastLine {}
+        named_of(line)
     }
+}
+
+// The line is named in two steps, since a pick sees the callee's arguments alone.
+fn named_of(_line: &[u8]) -> LastLine
+    ghost line: { Option (List ℕ) }
+    ensures { result.line ≡ line }
+{
+    LastLine::named()
 }
 
 /// How many lines were said, and the last of them, which contracts alone see.
