@@ -1,2 +1,3 @@
+pub mod GivingUp
 pub mod Guests
 pub mod Tidy

@@ -6,6 +6,7 @@ use Rattle.domain_spec.specs.Types.state
 use Rattle.domain_spec.specs.Operation.{led_to}
 use Rattle.domain_spec.specs.Refusals.{aborted}
 use Rattle.core_rules.specs.declared.ends.CallEnd.{CallEnd}
+use Rattle.core_rules.specs.declared.ends.PhaseReply.{PhaseReply}
 
 -- the refusal that led an operation to give up; without an operation, that a caller asked for it
 abbrev pub led_by : Option Op → Reply
@@ -21,3 +22,9 @@ led_in (state.Held d) = led_by d.op
 pub record Says (end : CallEnd) (said : Reply) : Type 0 where
   pub reply : end.reply ≡ said
   pub in_mark : end.in_mark ≡ said
+
+-- the operation keeps this, and so does the mark, and its caller is told this
+pub record SaysToAll (end : PhaseReply) (said : Reply) : Type 0 where
+  pub reply : end.reply ≡ said
+  pub in_mark : end.in_mark ≡ said
+  pub told : end.told ≡ said

@@ -1,4 +1,5 @@
-// What a call and a phase give: one reply for the caller, and the same for the mark.
+// What a call and a phase give: one reply for the caller, and the same for the mark; a phase one more for
+// its operation.
 ghost use Rattle.std.specs.Prelude.{◌≡◌, [], IfOk};
 ghost use Rattle.domain_spec.specs.Sequential.{ended_step};
 ghost use Rattle.domain_spec.specs.Refusals.{refusal};
@@ -6,7 +7,7 @@ ghost use Rattle.domain_spec.specs.Types.reply;
 ghost use Rattle.domain_spec.specs.Types.value;
 ghost use Rattle.domain_spec.specs.declared.step.Outcome.TheVariants as outcome;
 ghost use Rattle.virt_types.specs.Refusal.{kept_cut};
-ghost use Rattle.core_rules.specs.Led.{Says, led_by, led_in};
+ghost use Rattle.core_rules.specs.Led.{Says, SaysToAll, led_by, led_in};
 ghost use Rattle.core_rules.specs.Reasons.{refusal_for};
 
 use crate::kept::KeptText;
@@ -26,13 +27,26 @@ pub struct CallEnd {
     pub in_mark: Reply,
 }
 
-/// What a phase leads to, twice.
+/// What an operation replies that is over, or rests, three times.
+#[derive(Drop)]
+pub struct PhaseReply {
+    /// For the operation, which keeps it until its End.
+    pub reply: Reply,
+    /// For the mark that the phase leaves.
+    pub in_mark: Reply,
+    /// For the caller.
+    pub told: Reply,
+}
+
+/// What a phase leads to, three times.
 #[derive(Drop)]
 pub struct PhaseEnd {
-    /// For whoever drives the operation.
+    /// For the operation.
     pub outcome: Outcome,
     /// For the mark that it leaves.
     pub in_mark: Outcome,
+    /// For whoever drives the operation, and tells its caller.
+    pub told: Outcome,
 }
 
 /// Room for the texts of one refusal, which is told twice.
@@ -44,15 +58,24 @@ pub struct Texts {
     pub for_mark: KeptText,
 }
 
+/// Room for the texts of one refusal, which is told three times.
+#[derive(Drop)]
+pub struct ThreeTexts {
+    /// For the operation and for the mark.
+    pub texts: Texts,
+    /// For the caller.
+    pub for_told: KeptText,
+}
+
 /// What a phase needs where it is refused.
 #[derive(Drop)]
 pub struct PhaseTexts {
     /// Room for the refusal that ends it.
-    pub texts: Texts,
+    pub texts: ThreeTexts,
     /// Room for the refusal that its operation keeps.
     pub for_operation: KeptText,
     /// The refusal that led its operation to give up.
-    pub led: CallEnd,
+    pub led: PhaseReply,
 }
 
 impl CallEnd {
@@ -63,6 +86,19 @@ impl CallEnd {
         CallEnd {
             reply: Reply::Ok(Value::Nothing),
             in_mark: Reply::Ok(Value::Nothing),
+        }
+    }
+}
+
+impl PhaseReply {
+    /// It was done, and there is nothing to be told.
+    pub fn done() -> PhaseReply
+        ensures { SaysToAll result (reply.Ok value.Nothing) }
+    {
+        PhaseReply {
+            reply: Reply::Ok(Value::Nothing),
+            in_mark: Reply::Ok(Value::Nothing),
+            told: Reply::Ok(Value::Nothing),
         }
     }
 }
@@ -107,37 +143,64 @@ impl Texts {
     }
 }
 
+impl ThreeTexts {
+    /// Room for three texts.
+    pub fn new(alloc: Global) -> Result<ThreeTexts, NoMemory> {
+        Ok(ThreeTexts {
+            texts: Texts::new(alloc)?,
+            for_told: KeptText::new(alloc)?,
+        })
+    }
+
+    /// It is refused for this reason.
+    pub fn refused(self, reason: Reason) -> PhaseReply
+        ensures { SaysToAll result (reply.No (refusal_for reason)) }
+    {
+        PhaseReply {
+            reply: Reply::No(self.texts.for_caller.refusal(reason)),
+            in_mark: Reply::No(self.texts.for_mark.refusal(reason)),
+            told: Reply::No(self.for_told.refusal(reason)),
+        }
+    }
+}
+
 impl PhaseEnd {
     /// This phase is next.
     pub fn on(next: Phase) -> PhaseEnd
         ensures outcome { result.outcome ≡ outcome.On next }
         ensures in_mark { result.in_mark ≡ outcome.On next }
+        ensures told { result.told ≡ outcome.On next }
     {
         PhaseEnd {
             outcome: Outcome::On(next),
             in_mark: Outcome::On(next),
+            told: Outcome::On(next),
         }
     }
 
     /// The operation is over, with this reply.
-    pub fn over(end: CallEnd) -> PhaseEnd
+    pub fn over(end: PhaseReply) -> PhaseEnd
         ensures outcome { result.outcome ≡ outcome.Over end.reply }
         ensures in_mark { result.in_mark ≡ outcome.Over end.in_mark }
+        ensures told { result.told ≡ outcome.Over end.told }
     {
         PhaseEnd {
             outcome: Outcome::Over(end.reply),
             in_mark: Outcome::Over(end.in_mark),
+            told: Outcome::Over(end.told),
         }
     }
 
     /// The operation rests, with this reply to the call that came so far.
-    pub fn rest(end: CallEnd) -> PhaseEnd
+    pub fn rest(end: PhaseReply) -> PhaseEnd
         ensures outcome { result.outcome ≡ outcome.Rest end.reply }
         ensures in_mark { result.in_mark ≡ outcome.Rest end.in_mark }
+        ensures told { result.told ≡ outcome.Rest end.told }
     {
         PhaseEnd {
             outcome: Outcome::Rest(end.reply),
             in_mark: Outcome::Rest(end.in_mark),
+            told: Outcome::Rest(end.told),
         }
     }
 }
@@ -168,20 +231,27 @@ fn led_in(alloc: Global, state: &State) -> Result<Reply, NoMemory>
 impl PhaseTexts {
     /// What the due phase of this state needs where it is refused.
     pub fn new(alloc: Global, state: &State) -> Result<PhaseTexts, NoMemory>
-        ensures led { IfOk result (λ texts. Says texts.led (led_in state.now)) }
+        ensures led { IfOk result (λ texts. SaysToAll texts.led (led_in state.now)) }
     {
-        let texts = Texts::new(alloc)?;
+        let texts = ThreeTexts::new(alloc)?;
         let for_operation = KeptText::new(alloc)?;
-        let (reply, in_mark) = both(led_in(alloc, state), led_in(alloc, state))?;
+        let (reply, (in_mark, told)) = both(
+            led_in(alloc, state),
+            both(led_in(alloc, state), led_in(alloc, state)),
+        )?;
         Ok(PhaseTexts {
             texts,
             for_operation,
-            led: CallEnd { reply, in_mark },
+            led: PhaseReply {
+                reply,
+                in_mark,
+                told,
+            },
         })
     }
 
     /// Room for the refusal that ends a phase, without the rest.
-    pub fn into_texts(self) -> Texts {
+    pub fn into_texts(self) -> ThreeTexts {
         let PhaseTexts {
             texts,
             for_operation,
