@@ -1,3 +1,4 @@
 pub mod Closed
 pub mod Numbers
 pub mod Standing
+pub mod Starved

@@ -1,8 +1,9 @@
 -- How an open call, and a phase of an operation, is closed: by its own mark, and where its monitor was
 -- lost by the end of its boot right after.
-use Rattle.std.specs.Prelude.{ℕ, List, [], ◌∷◌, ◌&&◌, Option, None, Some, if◌then◌else◌}
+use Rattle.std.specs.Prelude.{◌≡◌, ℕ, List, [], ◌∷◌, ◌&&◌, Option, None, Some, if◌then◌else◌}
 use Rattle.history_spec.specs.declared.stamp.Stamp.{Stamp}
 use Rattle.domain_spec.specs.Types.{Answer, Ask, Call, Phase, Reply, State}
+use Rattle.domain_spec.specs.Types.answer
 use Rattle.domain_spec.specs.Types.phase
 use Rattle.domain_spec.specs.Types.reason
 use Rattle.domain_spec.specs.Types.reply
@@ -117,3 +118,13 @@ phased_in s by asks answers = phased_of s.state s.operation by asks answers
 abbrev pub CanPhase : Standing → Option OpenOperation → PhaseParts → Stamp → List Ask → List Answer → Type 0
 CanPhase s None parts by asks answers = ⊥
 CanPhase s (Some o) parts by asks answers = FitsPhase parts s.state o × IsLawful s (numbered (phase_mark s.state o by asks answers))
+
+-- the Phase of an operation that finds no memory is lawful
+abbrev pub CanStarve : Standing → Option OpenOperation → Stamp → Type 0
+CanStarve s None by = ⊥
+CanStarve s (Some o) by = IsLawful s (numbered (phase_mark s.state o by [] (answer.NoMemory ∷ [])))
+
+-- what the last phase of the open operation led to
+abbrev pub HasLedTo : Option OpenOperation → Outcome → Type 0
+HasLedTo None told = ⊥
+HasLedTo (Some o) told = told ≡ o.outcome

@@ -1,25 +1,29 @@
 // The history of a chapter, with what is in force after it.
 ghost use Rattle.std.specs.Prelude.{◌≡◌, ◌^◌, ◌++◌, ◌∷◌, ◌+◌, ◌<◌, ◌≤◌, [], IfOk, None, OnErr, OnOk, if◌then◌else◌, is_some, length, option_map};
+ghost use Rattle.domain_spec.specs.Types.answer;
 ghost use Rattle.domain_spec.specs.Begin.{named_call, taken_up_state};
 ghost use Rattle.domain_spec.specs.Chapter.{first_base, next_base};
 ghost use Rattle.domain_spec.specs.Exit.{event_state, event_transitions};
 ghost use Rattle.domain_spec.specs.Fold.{after, at_base, job_at_exit, taken_up};
 ghost use Rattle.domain_spec.specs.Legal.{IsLawful, IsLegal};
 ghost use Rattle.domain_spec.specs.declared.mark.Mark.TheVariants as mark;
+ghost use Rattle.core_mark_laws.specs.GivingUp.{IsLed};
 ghost use Rattle.core_mark_laws.specs.Guests.{HasOwnGuest};
 ghost use Rattle.core_mark_laws.specs.Tidy.{IsTidy};
-ghost use Rattle.core_chapter.specs.Closing.{CanDo, CanPhase, done_in, phased_in, reply_in, told_in};
+ghost use Rattle.core_chapter.specs.Closing.{CanDo, CanPhase, CanStarve, HasLedTo, done_in, phased_in, reply_in, told_in};
 ghost use Rattle.core_chapter.specs.Numbered.{all_numbered};
 ghost use Rattle.core_chapter.specs.Standing.{in_force};
+ghost use Rattle.core_rules.specs.Reasons.{refusal_for};
 ghost use Rattle.core_state.specs.Beginnings.{HasNumber};
 
 use crate::base::{ChapterBase, KeptRegistration};
 use crate::chronicle::Chronicle;
-use crate::closing::{close_call, close_phase};
+use crate::closing::{close_call, close_phase, close_starved};
 use crate::named_call;
 use crate::open::{LetIn, Underway};
+use crate::starving::StarvedRoom;
 use core_dispatch::{CallParts, PhaseParts};
-use core_rules::{end_guest, live_boot};
+use core_rules::{Reason, end_guest, live_boot};
 use core_state::{begin, due_phase, end_operation, follow_event, opened_state, take_up};
 use domain_spec::{HeldJobs, Mark, Outcome};
 use history_spec::Stamp;
@@ -278,7 +282,8 @@ impl Chapter {
     }
 
     /// The due phase of the operation is done with these answers; where its monitor was lost the end
-    /// of its boot is marked right after. What the phase leads to is the operation's from now on.
+    /// of its boot is marked right after. What the phase leads to is the operation's from now on, and is
+    /// given once more.
     pub fn phase(
         &mut self,
         by: Stamp,
@@ -287,12 +292,13 @@ impl Chapter {
         parts: PhaseParts,
         told: TransitionList,
         end: TransitionList,
-    )
+    ) -> Outcome
         requires room { 2 ≤ self.old.spare }
         requires told { (told.list ≡ []) × (3 ≤ told.room) }
         requires end { (end.list ≡ []) × (0 < end.room) }
         requires can { CanPhase (in_force self.old.history.base self.old.history.marks) (in_force self.old.history.base self.old.history.marks).operation parts by asks answers }
         ensures history { self.new.history ≡ record self.old.history { marks = self.old.history.marks ++ phased_in (in_force self.old.history.base self.old.history.marks) by asks answers } }
+        ensures told { HasLedTo (in_force self.new.history.base self.new.history.marks).operation result }
         ensures spare { self.old.spare ≤ self.new.spare + 2 }
     {
         close(&mut self.job);
@@ -309,6 +315,25 @@ impl Chapter {
                 told,
                 end,
             ),
+        }
+    }
+
+    /// The due phase of the operation finds no memory, and that is its one answer. What it leads to is the
+    /// operation's from now on, and is given once more. `led` is why the operation was given up, where it is.
+    pub fn starve(&mut self, by: Stamp, led: Option<Reason>, room: StarvedRoom) -> Outcome
+        requires room { 1 ≤ self.old.spare }
+        requires led { IsLed (in_force self.old.history.base self.old.history.marks).state (option_map refusal_for led) }
+        requires can { CanStarve (in_force self.old.history.base self.old.history.marks) (in_force self.old.history.base self.old.history.marks).operation by }
+        ensures history { self.new.history ≡ record self.old.history { marks = self.old.history.marks ++ phased_in (in_force self.old.history.base self.old.history.marks) by [] (answer.NoMemory ∷ []) } }
+        ensures told { HasLedTo (in_force self.new.history.base self.new.history.marks).operation result }
+        ensures spare { self.new.spare + 1 ≡ self.old.spare }
+    {
+        close(&mut self.job);
+        match &mut self.operation {
+            None => unreachable!(),
+            Some(operation) => {
+                close_starved(&mut self.state, operation, &mut self.marks, by, led, room)
+            }
         }
     }
 

@@ -1,17 +1,20 @@
 // How an open call, and a phase of an operation, is closed.
 ghost use Rattle.std.specs.Prelude.{◌≡◌, ◌<◌, ◌≤◌, ◌+◌, ◌++◌, ◌∷◌, []};
+ghost use Rattle.domain_spec.specs.Types.answer;
 ghost use Rattle.std.specs.List.{list_any};
 ghost use Rattle.domain_spec.specs.Asks.{is_lost_answer};
 ghost use Rattle.domain_spec.specs.Fold.{lost_boot};
 ghost use Rattle.domain_spec.specs.Phase.{phase_of};
 ghost use Rattle.domain_spec.specs.Sequential.{seq};
 ghost use Rattle.core_dispatch.specs.Fits.{FitsCall, FitsPhase};
+ghost use Rattle.core_rules.specs.Starved.{HasLed};
 ghost use Rattle.core_chapter.specs.Closing.{after_loss, done_mark, due_of, left_by, loss, phase_mark};
 
 use crate::held::meets_another;
 use crate::open::{LetIn, Underway};
+use crate::starving::{StarvedParts, StarvedRoom};
 use core_dispatch::{CallParts, PhaseParts, finish, finish_phase};
-use core_rules::{CallEnd, PhaseEnd, Reason, end_guest, is_live};
+use core_rules::{CallEnd, PhaseEnd, Reason, end_guest, is_live, phase_starved};
 use core_state::exit_event;
 use domain_spec::{Mark, Outcome};
 use history_spec::Stamp;
@@ -162,7 +165,7 @@ fn due_of(outcome: &Outcome) -> Phase
     }
 }
 
-/// The due phase is done, and where its monitor was lost the end of its boot is marked.
+/// The due phase is done, and where its monitor was lost the end of its boot is marked; with what it led to, once more.
 pub fn close_phase(
     state: &mut State,
     operation: &mut Underway,
@@ -173,25 +176,30 @@ pub fn close_phase(
     parts: PhaseParts,
     told: TransitionList,
     end: TransitionList,
-)
+) -> Outcome
     requires parts { FitsPhase parts state.old operation.old }
     requires room { 2 ≤ marks.old.room }
     requires told { (told.list ≡ []) × (3 ≤ told.room) }
     requires end { (end.list ≡ []) × (0 < end.room) }
     ensures state { state.new ≡ after_loss (phase_of state.old operation.old answers).state (lost_boot (phase_of state.old operation.old answers).state operation.old.boot answers) }
     ensures operation { operation.new ≡ record operation.old { outcome = (phase_of state.old operation.old answers).outcome } }
+    ensures told { result ≡ (phase_of state.old operation.old answers).outcome }
     ensures marks { marks.new.list ≡ marks.old.list ++ phase_mark state.old operation.old by asks answers ∷ loss (lost_boot (phase_of state.old operation.old answers).state operation.old.boot answers) }
     ensures spare { marks.old.room ≤ marks.new.room + 2 }
 {
-    let mut told = told;
+    let mut into = told;
     let boot = operation.boot();
     let phase = due_of(operation.outcome());
-    let PhaseEnd { outcome, in_mark } = finish_phase(
+    let PhaseEnd {
+        outcome,
+        in_mark,
+        told,
+    } = finish_phase(
         state,
         operation.shown(),
         answers.as_slice(),
         parts,
-        &mut told,
+        &mut into,
     );
     let lost = lost_boot(state, boot, answers.as_slice());
     marks.push(Mark::Phase {
@@ -201,8 +209,52 @@ pub fn close_phase(
         asks,
         answers,
         outcome: in_mark,
-        transitions: told.into_list(),
+        transitions: into.into_list(),
     });
     operation.go_on(outcome);
     mark_loss(state, marks, lost, end);
+    told
+}
+
+/// The due phase finds no memory, and that is its one answer; with what it led to, once more. It takes no memory.
+pub fn close_starved(
+    state: &mut State,
+    operation: &mut Underway,
+    marks: &mut RoomyList<Mark<Stamp>>,
+    by: Stamp,
+    led: Option<Reason>,
+    room: StarvedRoom,
+) -> Outcome
+    requires led { HasLed led state.old }
+    requires room { 1 ≤ marks.old.room }
+    ensures state { state.new ≡ (phase_of state.old operation.old (answer.NoMemory ∷ [])).state }
+    ensures operation { operation.new ≡ record operation.old { outcome = (phase_of state.old operation.old (answer.NoMemory ∷ [])).outcome } }
+    ensures told { result ≡ (phase_of state.old operation.old (answer.NoMemory ∷ [])).outcome }
+    ensures marks { marks.new.list ≡ marks.old.list ++ phase_mark state.old operation.old by [] (answer.NoMemory ∷ []) ∷ [] }
+    ensures spare { marks.new.room + 1 ≡ marks.old.room }
+{
+    let StarvedParts {
+        asks,
+        answers,
+        texts,
+        told,
+    } = room.into_parts();
+    let mut into = told;
+    let phase = due_of(operation.outcome());
+    let PhaseEnd {
+        outcome,
+        in_mark,
+        told,
+    } = phase_starved(state, operation.shown(), led, texts, &mut into);
+    marks.push(Mark::Phase {
+        number: by,
+        who: operation.who(),
+        phase,
+        asks,
+        answers,
+        outcome: in_mark,
+        transitions: into.into_list(),
+    });
+    operation.go_on(outcome);
+    told
 }

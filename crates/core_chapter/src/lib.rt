@@ -10,6 +10,7 @@ mod held;
 mod judging;
 mod naming;
 mod open;
+mod starving;
 
 pub use base::{ChapterBase, KeptRegistration};
 pub use chapter::Chapter;
@@ -19,3 +20,4 @@ pub use held::{job_held, meets_another, operation_held, takes_up};
 pub use judging::goes_on;
 pub use naming::named_call;
 pub use open::{LetIn, Underway};
+pub use starving::{StarvedRoom, why_given_up};

@@ -79,6 +79,7 @@ pub fn finish_phase(
     ensures state { state.new ≡ (phase_of state.old operation.now answers.now).state }
     ensures outcome { result.outcome ≡ (phase_of state.old operation.now answers.now).outcome }
     ensures in_mark { result.in_mark ≡ (phase_of state.old operation.now answers.now).outcome }
+    ensures told { result.told ≡ (phase_of state.old operation.now answers.now).outcome }
     ensures transitions { into.new.list ≡ into.old.list ++ (phase_of state.old operation.now answers.now).transitions }
 {
     match parts {

@@ -3,3 +3,4 @@ pub mod NextAsk
 pub mod Plans
 pub mod RefusedKinds
 pub mod SlotCounts
+pub mod Starving

@@ -6,3 +6,4 @@ pub mod Next
 pub mod Place
 pub mod Reasons
 pub mod Refusing
+pub mod Starved

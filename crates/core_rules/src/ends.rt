@@ -90,6 +90,15 @@ impl CallEnd {
     }
 }
 
+/// What a phase needs that finds no memory: room for the refusal that ends it, and for the one that its operation keeps.
+#[derive(Drop)]
+pub struct StarvedTexts {
+    /// Room for the refusal that ends it.
+    pub texts: ThreeTexts,
+    /// Room for the refusal that its operation keeps.
+    pub for_operation: KeptText,
+}
+
 impl PhaseReply {
     /// It was done, and there is nothing to be told.
     pub fn done() -> PhaseReply
@@ -161,6 +170,26 @@ impl ThreeTexts {
             in_mark: Reply::No(self.texts.for_mark.refusal(reason)),
             told: Reply::No(self.for_told.refusal(reason)),
         }
+    }
+}
+
+impl StarvedTexts {
+    /// Room for four texts.
+    pub fn new(alloc: Global) -> Result<StarvedTexts, NoMemory> {
+        Ok(StarvedTexts {
+            texts: ThreeTexts::new(alloc)?,
+            for_operation: KeptText::new(alloc)?,
+        })
+    }
+
+    /// Room for the refusal that ends a phase, without the rest.
+    pub fn into_texts(self) -> ThreeTexts {
+        let StarvedTexts {
+            texts,
+            for_operation,
+        } = self;
+        drop(for_operation);
+        texts
     }
 }
 

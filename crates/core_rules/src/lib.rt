@@ -31,13 +31,15 @@ pub use checks::{
 };
 pub use cores::{Core, core_due, core_of_call, core_of_phase};
 pub use course::{Place, next_is_at, next_of_one, place_after};
-pub use ends::{CallEnd, PhaseEnd, PhaseReply, PhaseTexts, Texts, ThreeTexts, call_ended};
+pub use ends::{
+    CallEnd, PhaseEnd, PhaseReply, PhaseTexts, StarvedTexts, Texts, ThreeTexts, call_ended,
+};
 pub use kept::KeptText;
 pub use leases::{has_lease, lease_of};
 pub use next::Next;
 pub use phases::{
     cancels, end_guest, goes_on, phase_course, phase_ended, phase_failed, phase_refused,
-    phase_starved, rests, start_failed, why_given_up,
+    phase_starved, rests, start_failed,
 };
 pub use reading::{
     boot_in, carries_ended, has_crashed, has_moved, has_operation, id_of, is_crashed,

@@ -18,4 +18,5 @@ pub record LeavesPhase (now : State) (before told : List Transition) (end : Phas
   pub state : now ≡ step.state
   pub outcome : end.outcome ≡ step.outcome
   pub in_mark : end.in_mark ≡ step.outcome
+  pub told_so : end.told ≡ step.outcome
   pub transitions : told ≡ before ++ step.transitions

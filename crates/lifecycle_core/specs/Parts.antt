@@ -5,11 +5,12 @@ use Rattle.domain_spec.specs.Types.call
 use Rattle.domain_spec.specs.Types.state
 use Rattle.domain_spec.specs.declared.open.OpenOperation.{OpenOperation}
 use Rattle.domain_spec.specs.Reading.{carries_ended}
-use Rattle.core_rules.specs.Led.{Says, led_in}
+use Rattle.core_rules.specs.Led.{SaysToAll, led_in}
 use Rattle.lifecycle_core.specs.declared.memory.Names.{Names}
 use Rattle.lifecycle_core.specs.declared.memory.NewDomain.{NewDomain}
 use Rattle.lifecycle_core.specs.declared.memory.CallParts.{CallParts}
 use Rattle.lifecycle_core.specs.declared.memory.PhaseParts.{PhaseParts}
+use Rattle.lifecycle_core.specs.declared.memory.ThreeNames.{ThreeNames}
 
 -- they have this name, for the caller and for the mark
 pub record AreNames (names : Names) (name : List ℕ) : Type 0 where
@@ -21,6 +22,17 @@ abbrev pub AreHeld : Option Names → State → Type 0
 AreHeld names (state.Vacant boots) = Unit {0}
 AreHeld None (state.Held d) = ⊥
 AreHeld (Some names) (state.Held d) = AreNames names d.name
+
+-- they have this name, for the operation, the mark and the caller
+pub record AreNamesForAll (names : ThreeNames) (name : List ℕ) : Type 0 where
+  pub names : AreNames names.names name
+  pub for_told : names.for_told.name ≡ name
+
+-- the same of the domain that is there
+abbrev pub AreHeldForAll : Option ThreeNames → State → Type 0
+AreHeldForAll names (state.Vacant boots) = Unit {0}
+AreHeldForAll None (state.Held d) = ⊥
+AreHeldForAll (Some names) (state.Held d) = AreNamesForAll names d.name
 
 -- copies of a definition, and of its name for a domain that is not there yet
 pub record IsNew (new : NewDomain) (def : DomainDef) : Type 0 where
@@ -51,8 +63,8 @@ Fits parts s other = Unit {0}
 
 -- the parts of a phase that goes on: the refusal that led to it, and the names of its domain
 pub record ServesPhase (parts : PhaseParts) (s : State) : Type 0 where
-  pub led : Says parts.texts.led (led_in s)
-  pub held : AreHeld parts.held s
+  pub led : SaysToAll parts.texts.led (led_in s)
+  pub held : AreHeldForAll parts.held s
 
 -- the parts of a phase serve it in this state; where its boot has ended, any do
 abbrev pub FitsPhase : PhaseParts → State → OpenOperation → Type 0

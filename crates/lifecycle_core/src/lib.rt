@@ -18,5 +18,5 @@ mod stored_steps;
 mod told;
 
 pub use calls::{finish, next};
-pub use memory::{CallParts, Names, NewDomain, PhaseParts, parts, phase_parts};
+pub use memory::{CallParts, Names, NewDomain, PhaseParts, ThreeNames, parts, phase_parts};
 pub use phases::{finish_phase, next_phase};

@@ -1,8 +1,8 @@
 // What the last step of a call or a phase needs of memory.
 ghost use Rattle.std.specs.Prelude.{◌≡◌, IfOk};
-ghost use Rattle.lifecycle_core.specs.Parts.{AreHeld, AreNames, DefineFits, Fits, FitsPhase, IsNew, ServesPhase};
+ghost use Rattle.lifecycle_core.specs.Parts.{AreHeld, AreHeldForAll, AreNames, AreNamesForAll, DefineFits, Fits, FitsPhase, IsNew, ServesPhase};
 
-use core_rules::{PhaseTexts, Texts};
+use core_rules::{PhaseTexts, Texts, ThreeTexts};
 use domain_spec::OpenOperation;
 use std::alloc::Global;
 use virt_types::{Boxed, Call, DomainDef, DomainRef, Name, NoMemory, State, TryCopy, Uuid};
@@ -15,6 +15,15 @@ pub struct Names {
     pub for_caller: Boxed<DomainRef>,
     /// For the mark.
     pub for_mark: Boxed<DomainRef>,
+}
+
+/// How a phase names the domain whose guest was created: for its operation and the mark, and for the caller.
+#[derive(Drop)]
+pub struct ThreeNames {
+    /// For the operation and for the mark.
+    pub names: Names,
+    /// For the caller.
+    pub for_told: Boxed<DomainRef>,
 }
 
 /// What a definition needs that is stored.
@@ -45,7 +54,7 @@ pub struct PhaseParts {
     /// What it needs where it is refused.
     pub texts: PhaseTexts,
     /// The name of the domain, which is told where its guest was created.
-    pub held: Option<Names>,
+    pub held: Option<ThreeNames>,
 }
 
 impl CallParts {
@@ -61,7 +70,7 @@ impl CallParts {
 
 impl PhaseParts {
     /// Room for the refusal that ends a phase, without the rest.
-    pub fn into_texts(self) -> Texts {
+    pub fn into_texts(self) -> ThreeTexts {
         let PhaseParts { texts, held } = self;
         drop(held);
         texts.into_texts()
@@ -94,6 +103,24 @@ fn held_names(alloc: Global, state: &State) -> Result<Option<Names>, NoMemory>
     match state {
         State::Vacant { .. } => Ok(None),
         State::Held(domain) => Ok(Some(names_of(alloc, &domain.name)?)),
+    }
+}
+
+fn three_names_of(alloc: Global, name: &Name) -> Result<ThreeNames, NoMemory>
+    ensures { IfOk result (λ names. AreNamesForAll names name.now) }
+{
+    Ok(ThreeNames {
+        names: names_of(alloc, name)?,
+        for_told: named(alloc, name)?,
+    })
+}
+
+fn held_for_all(alloc: Global, state: &State) -> Result<Option<ThreeNames>, NoMemory>
+    ensures { IfOk result (λ names. AreHeldForAll names state.now) }
+{
+    match state {
+        State::Vacant { .. } => Ok(None),
+        State::Held(domain) => Ok(Some(three_names_of(alloc, &domain.name)?)),
     }
 }
 
@@ -136,7 +163,7 @@ fn serving_parts(alloc: Global, state: &State) -> Result<PhaseParts, NoMemory>
 {
     Ok(PhaseParts {
         texts: PhaseTexts::new(alloc, state)?,
-        held: held_names(alloc, state)?,
+        held: held_for_all(alloc, state)?,
     })
 }
 

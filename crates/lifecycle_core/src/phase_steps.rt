@@ -8,14 +8,14 @@ ghost use Rattle.domain_spec.specs.Types.reply;
 ghost use Rattle.domain_spec.specs.Types.state;
 ghost use Rattle.core_rules.specs.Cores.{core_due, core_on};
 ghost use Rattle.core_rules.specs.Ends.{done_in, done_on};
-ghost use Rattle.core_rules.specs.Led.{Says, led_by, led_in};
+ghost use Rattle.core_rules.specs.Led.{SaysToAll, led_by, led_in};
 ghost use Rattle.core_rules.specs.declared.cores.Core.TheVariants as core;
 ghost use Rattle.lifecycle_core.specs.Leaves.{LeavesPhase};
-ghost use Rattle.lifecycle_core.specs.Parts.{AreHeld, AreNames, IsIn};
+ghost use Rattle.lifecycle_core.specs.Parts.{AreHeldForAll, AreNamesForAll, IsIn};
 
-use crate::memory::Names;
-use crate::stored_steps::told_of;
-use core_rules::{CallEnd, PhaseEnd, PhaseTexts, goes_on};
+use crate::memory::ThreeNames;
+use crate::stored_steps::told_to_all;
+use core_rules::{PhaseEnd, PhaseReply, PhaseTexts, goes_on};
 use virt_types::{Call, Domain, OpKind, Phase, RunState, STARTED_BOOTED, State, TransitionList};
 
 fn after_make(kind: OpKind) -> Phase
@@ -29,23 +29,23 @@ fn after_make(kind: OpKind) -> Phase
 }
 
 // Who starts a domain that was not there is told how to name it.
-fn start_value(domain: &Domain, call: &Call, names: Names) -> CallEnd
-    requires { AreNames names domain.now.name }
-    ensures { Says result (reply.Ok (start_value domain.now call.now)) }
+fn start_value(domain: &Domain, call: &Call, names: ThreeNames) -> PhaseReply
+    requires { AreNamesForAll names domain.now.name }
+    ensures { SaysToAll result (reply.Ok (start_value domain.now call.now)) }
 {
     match call {
-        Call::Create(_) | Call::Prepare { .. } => told_of(domain, names),
+        Call::Create(_) | Call::Prepare { .. } => told_to_all(domain, names),
         _ => {
             drop(names);
-            CallEnd::done()
+            PhaseReply::done()
         }
     }
 }
 
 // The guest was made, and is set going next, or gets its state.
-fn made(domain: &mut Domain, call: &Call, led: CallEnd, into: &mut TransitionList) -> PhaseEnd
+fn made(domain: &mut Domain, call: &Call, led: PhaseReply, into: &mut TransitionList) -> PhaseEnd
     requires phase { IsIn phase.Make domain.old.op }
-    requires led { Says led (led_by domain.old.op) }
+    requires led { SaysToAll led (led_by domain.old.op) }
     ensures { (answers : List TheAnswer) → LeavesPhase (state.Held domain.new) into.old.list into.new.list result (done_on domain.old domain.old.op call.now answers) }
 {
     match &mut domain.op {
@@ -65,13 +65,13 @@ fn made(domain: &mut Domain, call: &Call, led: CallEnd, into: &mut TransitionLis
 fn run(
     domain: &mut Domain,
     call: &Call,
-    led: CallEnd,
-    names: Names,
+    led: PhaseReply,
+    names: ThreeNames,
     into: &mut TransitionList,
 ) -> PhaseEnd
     requires phase { IsIn phase.Run domain.old.op }
-    requires led { Says led (led_by domain.old.op) }
-    requires names { AreNames names domain.old.name }
+    requires led { SaysToAll led (led_by domain.old.op) }
+    requires names { AreNamesForAll names domain.old.name }
     requires room { 1 ≤ into.old.room }
     ensures { (answers : List TheAnswer) → LeavesPhase (state.Held domain.new) into.old.list into.new.list result (done_on domain.old domain.old.op call.now answers) }
 {
@@ -94,13 +94,13 @@ fn run(
 fn domain_done(
     domain: &mut Domain,
     call: &Call,
-    led: CallEnd,
-    names: Names,
+    led: PhaseReply,
+    names: ThreeNames,
     into: &mut TransitionList,
 ) -> PhaseEnd
     requires due { core_on domain.old.op call.now ≡ core.Lifecycle }
-    requires led { Says led (led_by domain.old.op) }
-    requires names { AreNames names domain.old.name }
+    requires led { SaysToAll led (led_by domain.old.op) }
+    requires names { AreNamesForAll names domain.old.name }
     requires room { 1 ≤ into.old.room }
     ensures { (answers : List TheAnswer) → LeavesPhase (state.Held domain.new) into.old.list into.new.list result (done_on domain.old domain.old.op call.now answers) }
 {
@@ -124,12 +124,12 @@ pub fn phase_done(
     state: &mut State,
     call: &Call,
     texts: PhaseTexts,
-    held: Option<Names>,
+    held: Option<ThreeNames>,
     into: &mut TransitionList,
 ) -> PhaseEnd
     requires due { core_due state.old call.now ≡ core.Lifecycle }
-    requires led { Says texts.led (led_in state.old) }
-    requires held { AreHeld held state.old }
+    requires led { SaysToAll texts.led (led_in state.old) }
+    requires held { AreHeldForAll held state.old }
     requires room { 1 ≤ into.old.room }
     ensures { (answers : List TheAnswer) → LeavesPhase state.new into.old.list into.new.list result (done_in state.old call.now answers) }
 {

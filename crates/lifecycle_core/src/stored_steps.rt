@@ -7,12 +7,12 @@ ghost use Rattle.domain_spec.specs.Types.reply;
 ghost use Rattle.domain_spec.specs.Types.state;
 ghost use Rattle.domain_spec.specs.Types.value;
 ghost use Rattle.domain_spec.specs.Reading.{reference_of};
-ghost use Rattle.core_rules.specs.Led.{Says};
+ghost use Rattle.core_rules.specs.Led.{Says, SaysToAll};
 ghost use Rattle.lifecycle_core.specs.Leaves.{Leaves};
-ghost use Rattle.lifecycle_core.specs.Parts.{AreHeld, AreNames, IsNew, IsNewIf};
+ghost use Rattle.lifecycle_core.specs.Parts.{AreHeld, AreNames, AreNamesForAll, IsNew, IsNewIf};
 
-use crate::memory::{Names, NewDomain};
-use core_rules::{CallEnd, id_of};
+use crate::memory::{Names, NewDomain, ThreeNames};
+use core_rules::{CallEnd, PhaseReply, id_of};
 use virt_types::{
     Boxed, DEFINED_ADDED, DEFINED_UPDATED, Domain, DomainDef, DomainRef, Name, Reply, SnapList,
     State, TransitionList, UNDEFINED_REMOVED, Uuid, Value,
@@ -37,6 +37,19 @@ pub fn told_of(domain: &Domain, names: Names) -> CallEnd
     CallEnd {
         reply: naming(names.for_caller, domain.uuid, id),
         in_mark: naming(names.for_mark, domain.uuid, id),
+    }
+}
+
+/// How replies name a domain, for its operation, for the mark and for the caller.
+pub fn told_to_all(domain: &Domain, names: ThreeNames) -> PhaseReply
+    requires { AreNamesForAll names domain.now.name }
+    ensures { SaysToAll result (reply.Ok (value.Domain (reference_of domain.now))) }
+{
+    let id = id_of(&domain.live);
+    PhaseReply {
+        reply: naming(names.names.for_caller, domain.uuid, id),
+        in_mark: naming(names.names.for_mark, domain.uuid, id),
+        told: naming(names.for_told, domain.uuid, id),
     }
 }
 

@@ -47,4 +47,5 @@ quiet step now told end h =
       transitions = let none : [] ≡ step.transitions = h.transitions in rw (← none) (sym (append-nil told));
       outcome = h.outcome;
       in_mark = h.in_mark;
+      told = h.told;
     }

@@ -16,9 +16,10 @@ OnGuest (state.Vacant boots) holds = Unit {0}
 OnGuest (state.Held d) holds = WithBoth d.live d.op (λ l op. holds d l op)
 
 -- a phase has left its step: the state, the transitions after those that were told before, and
--- what it leads to, once for the caller and once for the mark
+-- what it leads to, for the operation, the mark and the caller
 pub record IsLeft (step : PhaseStep) (now : State) (before after : List Transition) (end : PhaseEnd) : Type 0 where
   pub state : now ≡ step.state
   pub transitions : after ≡ before ++ step.transitions
   pub outcome : end.outcome ≡ step.outcome
   pub in_mark : end.in_mark ≡ step.outcome
+  pub told : end.told ≡ step.outcome

@@ -22,10 +22,11 @@ loaded_guest op None = None
 loaded_guest op (Some loaded) =
     if op.new_boot then None else Some (guest_of loaded)
 
--- there is room for a guest with this definition, for the caller and for the mark
+-- there is room for a guest with this definition, for the operation, the mark and the caller
 pub record IsRoomOf (room : LeavingRoom) (def : DomainDef) : Type 0 where
-  pub for_caller : room.for_caller ≡ def
+  pub for_operation : room.for_operation ≡ def
   pub for_mark : room.for_mark ≡ def
+  pub for_told : room.for_told ≡ def
 
 -- for a guest that leaves: room for it
 abbrev pub IsForLeaving : Option LeavingRoom → Live → Type 0

@@ -8,7 +8,7 @@ use Rattle.domain_spec.specs.declared.open.OpenOperation.{OpenOperation}
 use Rattle.domain_spec.specs.CopyResult.{start_value}
 use Rattle.domain_spec.specs.PhaseAsks.{loaded_of}
 use Rattle.domain_spec.specs.Reading.{carries_ended}
-use Rattle.core_rules.specs.Led.{Says, led_in}
+use Rattle.core_rules.specs.Led.{SaysToAll, led_in}
 use Rattle.save_core.specs.Leaving.{WithBoth}
 use Rattle.save_core.specs.Parts.{IsForLeaving, loaded_guest, reverted_to}
 use Rattle.save_core.specs.declared.phase_memory.Needed.{Needed}
@@ -26,7 +26,7 @@ needed_by other = need.Nothing
 abbrev pub IsMade : Needed → PhaseParts → Domain → Live → Op → Call → Type 0
 IsMade need.Nothing parts d l op c = Unit {0}
 IsMade need.Guest parts d l op c = parts.guest ≡ loaded_guest op (loaded_of d c)
-IsMade need.Told parts d l op c = Says parts.told (reply.Ok (start_value d c))
+IsMade need.Told parts d l op c = SaysToAll parts.told (reply.Ok (start_value d c))
 IsMade need.Room parts d l op c = IsForLeaving parts.leaving l
 
 -- what the due phase of this state needs was made
@@ -36,7 +36,7 @@ IsMadeIn parts (state.Held d) c = WithBoth d.live d.op (λ l op. IsMade (needed_
 
 -- the parts are those that the due phase of this state needs
 pub record IsFor (parts : PhaseParts) (s : State) (c : Call) : Type 0 where
-  pub led : Says parts.texts.led (led_in s)
+  pub led : SaysToAll parts.texts.led (led_in s)
   pub current : parts.current ≡ reverted_to c
   pub made : IsMadeIn parts s c
 

@@ -1,7 +1,7 @@
 // What the phases of a copy leave where their answers are all Ok.
 ghost use Rattle.std.specs.Prelude.{◌≡◌, ◌≤◌, List, [], Some, false, option_map};
 ghost use Rattle.core_rules.specs.Cores.{core_of_take};
-ghost use Rattle.core_rules.specs.Led.{Says, led_by};
+ghost use Rattle.core_rules.specs.Led.{SaysToAll, led_by};
 ghost use Rattle.core_rules.specs.declared.cores.Core.TheVariants as core;
 ghost use Rattle.domain_spec.specs.CopyResult.{copy_done, goes_on, left_in, over, poll_done, poll_step, take_phase};
 ghost use Rattle.domain_spec.specs.Operation.{cancel_done, resume_events, take_done, with_guest_resumed};
@@ -12,7 +12,7 @@ ghost use Rattle.domain_spec.specs.Types.state;
 ghost use Rattle.save_core.specs.Leaving.{IsLeft, WithBoth};
 
 use crate::steps::{is_stalled, resumes};
-use core_rules::{CallEnd, KeptText, PhaseEnd, cancels, goes_on, is_running};
+use core_rules::{KeptText, PhaseEnd, PhaseReply, cancels, goes_on, is_running};
 use virt_types::{
     AnswerValue, Call, Cause, Domain, Op, OpKind, Phase, RESUMED_UNPAUSED, RefusalCode, RunState,
     SUSPENDED_PAUSED, TransitionList,
@@ -101,9 +101,9 @@ pub fn poll(domain: &mut Domain, value: Option<&AnswerValue>, room: KeptText) ->
 }
 
 // The guest goes on where it stood still for the copy, and the operation is over.
-fn resumed_over(domain: &mut Domain, end: CallEnd, into: &mut TransitionList) -> PhaseEnd
+fn resumed_over(domain: &mut Domain, end: PhaseReply, into: &mut TransitionList) -> PhaseEnd
     requires room { 1 ≤ into.old.room }
-    requires same { end.in_mark ≡ end.reply }
+    requires same { (end.in_mark ≡ end.reply) × (end.told ≡ end.reply) }
     ensures { WithBoth domain.old.live domain.old.op (λ l op. IsLeft (over (state.Held (with_guest_resumed domain.old l op)) (resume_events l op) end.reply) (state.Held domain.new) into.old.list into.new.list result) }
 {
     if let (Some(live), Some(op)) = (&mut domain.live, &domain.op) {
@@ -124,7 +124,7 @@ pub fn take_done(domain: &mut Domain, call: &Call, into: &mut TransitionList) ->
     match call {
         Call::Save(_) => next_is(domain, Phase::Quit),
         Call::Snapshot(_) => unreachable!(),
-        _ => resumed_over(domain, CallEnd::done(), into),
+        _ => resumed_over(domain, PhaseReply::done(), into),
     }
 }
 
@@ -139,9 +139,9 @@ pub fn next_is(domain: &mut Domain, next: Phase) -> PhaseEnd
 }
 
 /// A copy was given up, and the operation is over as it was led to.
-pub fn cancel_done(domain: &mut Domain, led: CallEnd, into: &mut TransitionList) -> PhaseEnd
+pub fn cancel_done(domain: &mut Domain, led: PhaseReply, into: &mut TransitionList) -> PhaseEnd
     requires room { 1 ≤ into.old.room }
-    requires led { Says led (led_by domain.old.op) }
+    requires led { SaysToAll led (led_by domain.old.op) }
     ensures { WithBoth domain.old.live domain.old.op (λ l op. IsLeft (cancel_done domain.old l op) (state.Held domain.new) into.old.list into.new.list result) }
 {
     resumed_over(domain, led, into)

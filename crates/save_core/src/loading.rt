@@ -8,7 +8,7 @@ ghost use Rattle.save_core.specs.Leaving.{IsLeft, WithBoth};
 ghost use Rattle.save_core.specs.Parts.{guest_of, loaded_guest, reverted_to};
 
 use crate::loaded_from::loaded_of;
-use core_rules::{CallEnd, PhaseEnd};
+use core_rules::{PhaseEnd, PhaseReply};
 use virt_types::{
     Call, Cause, Domain, DomainDef, Live, Name, RunState, STARTED_FROM_SNAPSHOT, STARTED_RESTORED,
     STOPPED_FROM_SNAPSHOT, SUSPENDED_PAUSED, SlotList, Transition, TransitionList,
@@ -83,7 +83,7 @@ fn loaded_new(
     go_back(domain, call, current);
     into.push(restored_as(call));
     tell_paused_unless(ran, into);
-    PhaseEnd::over(CallEnd::done())
+    PhaseEnd::over(PhaseReply::done())
 }
 
 // The guest is the one of the snapshot.
@@ -115,7 +115,7 @@ fn loaded_active(
     into.push(STOPPED_FROM_SNAPSHOT);
     into.push(STARTED_FROM_SNAPSHOT);
     tell_paused_unless(ran, into);
-    PhaseEnd::over(CallEnd::done())
+    PhaseEnd::over(PhaseReply::done())
 }
 
 /// A guest has the state of the image or the snapshot: in a new boot, or in the one that it had,
@@ -133,7 +133,7 @@ pub fn load_done(
     ensures { WithBoth domain.old.live domain.old.op (λ l op. IsLeft (load_done domain.old l op call.now) (state.Held domain.new) into.old.list into.new.list result) }
 {
     match loaded_of(domain, call) {
-        None => PhaseEnd::over(CallEnd::done()),
+        None => PhaseEnd::over(PhaseReply::done()),
         Some(loaded) => {
             let ran = loaded.ran;
             match guest {

@@ -3,7 +3,7 @@ ghost use Rattle.std.specs.Prelude.{◌≡◌, ◌≤◌, [], IfOk, option_map};
 ghost use Rattle.domain_spec.specs.Asks.{last_value};
 ghost use Rattle.domain_spec.specs.Migration.{leaving, migrate_back_done, migrate_run_done, migrate_take_done, rests};
 ghost use Rattle.domain_spec.specs.PhaseAsks.{copied_bytes};
-ghost use Rattle.core_rules.specs.Led.{Says, led_by};
+ghost use Rattle.core_rules.specs.Led.{SaysToAll, led_by};
 ghost use Rattle.domain_spec.specs.CopyResult.{over, start_value};
 ghost use Rattle.domain_spec.specs.Operation.{led_to};
 ghost use Rattle.domain_spec.specs.Reading.{is_running};
@@ -15,7 +15,7 @@ ghost use Rattle.save_core.specs.Leaving.{IsLeft, WithBoth};
 ghost use Rattle.save_core.specs.Parts.{IsForLeaving, IsRoomOf};
 
 use crate::loading::{run_as, tell_paused_unless};
-use core_rules::{CallEnd, PhaseEnd, StateRoom, is_running, last_value, rests};
+use core_rules::{PhaseEnd, PhaseReply, StateRoom, is_running, last_value, rests};
 use std::alloc::Global;
 use std::marker::Model;
 use virt_types::{
@@ -68,33 +68,37 @@ impl GuestRoom {
     }
 }
 
-/// Room for the reply of a guest that leaves, and for its mark.
+/// Room for the reply of a guest that leaves, three times.
 #[derive(Drop)]
 pub struct LeavingRoom {
-    /// For the caller.
-    pub for_caller: GuestRoom,
+    /// For the operation.
+    pub for_operation: GuestRoom,
     /// For the mark.
     pub for_mark: GuestRoom,
+    /// For the caller.
+    pub for_told: GuestRoom,
 }
 
 impl LeavingRoom {
-    /// Room for a guest with this definition, twice.
+    /// Room for a guest with this definition, three times.
     pub(crate) fn new(alloc: Global, def: &DomainDef) -> Result<LeavingRoom, NoMemory>
         ensures { IfOk result (λ room. IsRoomOf room def.now) }
     {
         Ok(LeavingRoom {
-            for_caller: GuestRoom::new(alloc, def)?,
+            for_operation: GuestRoom::new(alloc, def)?,
             for_mark: GuestRoom::new(alloc, def)?,
+            for_told: GuestRoom::new(alloc, def)?,
         })
     }
 
-    fn told(self, running: bool, answers: &[Answer]) -> CallEnd
-        ensures { (l : TheLive) → IsRoomOf self l.def → is_running l.run ≡ running → Says result (reply.Ok (value.MigratedGuest (leaving l (last_value answers.now)))) }
+    fn told(self, running: bool, answers: &[Answer]) -> PhaseReply
+        ensures { (l : TheLive) → IsRoomOf self l.def → is_running l.run ≡ running → SaysToAll result (reply.Ok (value.MigratedGuest (leaving l (last_value answers.now)))) }
     {
         let taken = last_value(answers);
-        CallEnd {
-            reply: Reply::Ok(self.for_caller.fill(running, taken)),
+        PhaseReply {
+            reply: Reply::Ok(self.for_operation.fill(running, taken)),
             in_mark: Reply::Ok(self.for_mark.fill(running, taken)),
+            told: Reply::Ok(self.for_told.fill(running, taken)),
         }
     }
 }
@@ -120,7 +124,7 @@ fn migrate_take_done(
             }
             rests(op, room.told(ran, answers))
         }
-        _ => PhaseEnd::over(CallEnd::done()),
+        _ => PhaseEnd::over(PhaseReply::done()),
     }
 }
 
@@ -138,7 +142,7 @@ pub fn migrate_take(
 {
     match leaving {
         Some(room) => migrate_take_done(domain, answers, room, into),
-        None => PhaseEnd::over(CallEnd::done()),
+        None => PhaseEnd::over(PhaseReply::done()),
     }
 }
 
@@ -153,7 +157,7 @@ pub fn migrate_back_done(domain: &mut Domain, into: &mut TransitionList) -> Phas
             into.push(RESUMED_UNPAUSED);
         }
     }
-    PhaseEnd::over(CallEnd::done())
+    PhaseEnd::over(PhaseReply::done())
 }
 
 /// A guest that came goes on here as it was.
@@ -166,12 +170,12 @@ pub fn migrate_run_done(domain: &mut Domain, into: &mut TransitionList) -> Phase
         into.push(STARTED_MIGRATED);
         tell_paused_unless(op.was_running, into);
     }
-    PhaseEnd::over(CallEnd::done())
+    PhaseEnd::over(PhaseReply::done())
 }
 
 /// The copy is given up, and the operation is over as it was led to.
-pub fn migrate_cancel_done(domain: &Domain, led: CallEnd) -> PhaseEnd
-    requires led { Says led (led_by domain.now.op) }
+pub fn migrate_cancel_done(domain: &Domain, led: PhaseReply) -> PhaseEnd
+    requires led { SaysToAll led (led_by domain.now.op) }
     ensures { WithBoth domain.now.live domain.now.op (λ l op. IsLeft (over (state.Held domain.now) [] (led_to op)) (state.Held domain.now) [] [] result) }
 {
     let _domain = domain;
@@ -179,8 +183,8 @@ pub fn migrate_cancel_done(domain: &Domain, led: CallEnd) -> PhaseEnd
 }
 
 /// A guest that came has its state, and the operation rests.
-pub fn migrate_load_done(domain: &mut Domain, call: &Call, told: CallEnd) -> PhaseEnd
-    requires told { WithBoth domain.old.live domain.old.op (λ l op. Says told (reply.Ok (start_value domain.old call.now))) }
+pub fn migrate_load_done(domain: &mut Domain, call: &Call, told: PhaseReply) -> PhaseEnd
+    requires told { WithBoth domain.old.live domain.old.op (λ l op. SaysToAll told (reply.Ok (start_value domain.old call.now))) }
     ensures { WithBoth domain.old.live domain.old.op (λ l op. IsLeft (rests domain.old op [] (reply.Ok (start_value domain.old call.now))) (state.Held domain.new) [] [] result) }
 {
     let _call = call;

@@ -1,6 +1,6 @@
 // What is made for a phase before its first ask.
 ghost use Rattle.std.specs.Prelude.{◌≡◌, IfOk};
-ghost use Rattle.core_rules.specs.Led.{Says};
+ghost use Rattle.core_rules.specs.Led.{SaysToAll};
 ghost use Rattle.domain_spec.specs.CopyResult.{start_value};
 ghost use Rattle.domain_spec.specs.PhaseAsks.{loaded_of};
 ghost use Rattle.domain_spec.specs.Types.reply;
@@ -11,7 +11,7 @@ ghost use Rattle.save_core.specs.Parts.{loaded_guest, reverted_to};
 use crate::loaded_from::loaded_of;
 use crate::loading::LoadedGuest;
 use crate::migrating::LeavingRoom;
-use core_rules::{CallEnd, KeptText, PhaseTexts, reference_of, slots_at_start};
+use core_rules::{KeptText, PhaseReply, PhaseTexts, reference_of, slots_at_start};
 use domain_spec::OpenOperation;
 use std::alloc::Global;
 use virt_types::{
@@ -28,7 +28,7 @@ pub struct PhaseParts {
     /// What a load puts into a guest that keeps its boot.
     pub guest: Option<LoadedGuest>,
     /// What the call is told whose guest came from another host.
-    pub told: CallEnd,
+    pub told: PhaseReply,
     /// Room for a guest that leaves.
     pub leaving: Option<LeavingRoom>,
 }
@@ -43,7 +43,7 @@ impl PhaseParts {
             texts,
             current,
             guest: None,
-            told: CallEnd::done(),
+            told: PhaseReply::done(),
             leaving: None,
         }
     }
@@ -79,7 +79,7 @@ impl PhaseParts {
     }
 
     /// The refusal that led the operation to give up.
-    pub(crate) fn into_led(self) -> CallEnd
+    pub(crate) fn into_led(self) -> PhaseReply
         ensures { result ≡ self.texts.led }
     {
         let PhaseTexts {
@@ -120,7 +120,7 @@ impl PhaseParts {
     }
 
     /// What the call is told whose guest came from another host.
-    pub(crate) fn into_told(self) -> CallEnd
+    pub(crate) fn into_told(self) -> PhaseReply
         ensures { result ≡ self.told }
     {
         let PhaseParts {
@@ -196,17 +196,21 @@ fn start_value(alloc: Global, domain: &Domain, call: &Call) -> Result<Value, NoM
     }
 }
 
-// What the call is told whose guest came, twice.
-fn start_told(alloc: Global, domain: &Domain, call: &Call) -> Result<CallEnd, NoMemory>
-    ensures { IfOk result (λ told. Says told (reply.Ok (start_value domain.now call.now))) }
+// What the call is told whose guest came, three times.
+fn start_told(alloc: Global, domain: &Domain, call: &Call) -> Result<PhaseReply, NoMemory>
+    ensures { IfOk result (λ told. SaysToAll told (reply.Ok (start_value domain.now call.now))) }
 {
-    let (one, other) = both(
+    let (reply, (in_mark, told)) = both(
         start_value(alloc, domain, call),
-        start_value(alloc, domain, call),
+        both(
+            start_value(alloc, domain, call),
+            start_value(alloc, domain, call),
+        ),
     )?;
-    Ok(CallEnd {
-        reply: Reply::Ok(one),
-        in_mark: Reply::Ok(other),
+    Ok(PhaseReply {
+        reply: Reply::Ok(reply),
+        in_mark: Reply::Ok(in_mark),
+        told: Reply::Ok(told),
     })
 }
 

@@ -2,7 +2,7 @@
 ghost use Rattle.std.specs.Prelude.{◌≡◌, ◌≤◌, ◌++◌, List, false, true, if◌then◌else◌};
 ghost use Rattle.core_rules.specs.Cores.{Serves, core_due, core_of_phase};
 ghost use Rattle.core_rules.specs.Ends.{done_in};
-ghost use Rattle.core_rules.specs.Led.{Says, led_by, led_in};
+ghost use Rattle.core_rules.specs.Led.{SaysToAll, led_by, led_in};
 ghost use Rattle.core_rules.specs.declared.cores.Core.TheVariants as core;
 ghost use Rattle.domain_spec.specs.Begin.{due_phase};
 ghost use Rattle.domain_spec.specs.Operation.{live_phase_done};
@@ -24,7 +24,7 @@ use crate::migrating::{
 use crate::phase_memory::PhaseParts;
 use crate::quitting::{ends, quit_done};
 use core_rules::{
-    CallEnd, PhaseEnd, PhaseTexts, Reason, carries_ended, first_bad, first_value, phase_ended,
+    PhaseEnd, PhaseReply, PhaseTexts, Reason, carries_ended, first_bad, first_value, phase_ended,
     phase_failed,
 };
 use domain_spec::OpenOperation;
@@ -57,7 +57,7 @@ fn stays_done(
     requires room { 3 ≤ into.old.room }
     requires save { core_of_phase phase call.now ≡ core.Save }
     requires stays { ends_guest phase ≡ false }
-    requires led { Says parts.texts.led (led_by domain.old.op) }
+    requires led { SaysToAll parts.texts.led (led_by domain.old.op) }
     requires current { parts.current ≡ reverted_to call.now }
     requires made { WithBoth domain.old.live domain.old.op (λ l op. IsMade (needed_by phase) parts domain.old l op call.now) }
     ensures { WithBoth domain.old.live domain.old.op (λ l op. IsLeft (live_phase_done domain.old l op call.now answers.now phase) (state.Held domain.new) into.old.list into.new.list result) }
@@ -86,7 +86,7 @@ fn stays_done(
         Phase::MigrateLoad => migrate_load_done(domain, call, parts.into_told()),
         Phase::Resting => {
             drop(parts);
-            PhaseEnd::over(CallEnd::done())
+            PhaseEnd::over(PhaseReply::done())
         }
         Phase::MigrateBack => {
             drop(parts);
@@ -175,7 +175,7 @@ fn guest_done(
 ) -> PhaseEnd
     requires room { 3 ≤ into.old.room }
     requires save { core_of_phase phase call.now ≡ core.Save }
-    requires led { Says parts.texts.led (led_in state.old) }
+    requires led { SaysToAll parts.texts.led (led_in state.old) }
     requires current { parts.current ≡ reverted_to call.now }
     requires made { OnGuest state.old (λ d l op. IsMade (needed_by phase) parts d l op call.now) }
     ensures { OnGuest state.old (λ d l op. IsLeft (live_phase_done d l op call.now answers.now phase) state.new into.old.list into.new.list result) }
@@ -202,6 +202,7 @@ fn has_guest(state: &State) -> bool
 fn inactive_done(phase: Phase, texts: PhaseTexts) -> PhaseEnd
     ensures outcome { result.outcome ≡ outcome.Over (if is_take phase then reply.No no_domain else texts.led.reply) }
     ensures in_mark { result.in_mark ≡ outcome.Over (if is_take phase then reply.No no_domain else texts.led.in_mark) }
+    ensures told { result.told ≡ outcome.Over (if is_take phase then reply.No no_domain else texts.led.told) }
 {
     let PhaseTexts {
         texts,
@@ -240,8 +241,8 @@ fn phase_done(
 }
 
 /// What the due phase of an operation leaves after these answers: the state, what listeners are told,
-/// and what the phase leads to, once for whoever drives the operation and once for the mark. It takes
-/// no memory.
+/// and what the phase leads to, for the operation, for the mark, and for whoever drives the operation. It
+/// takes no memory.
 pub fn finish_phase(
     state: &mut State,
     operation: &OpenOperation,
@@ -255,6 +256,7 @@ pub fn finish_phase(
     ensures state { state.new ≡ (phase_of state.old operation.now answers.now).state }
     ensures outcome { result.outcome ≡ (phase_of state.old operation.now answers.now).outcome }
     ensures in_mark { result.in_mark ≡ (phase_of state.old operation.now answers.now).outcome }
+    ensures told { result.told ≡ (phase_of state.old operation.now answers.now).outcome }
     ensures transitions { into.new.list ≡ into.old.list ++ (phase_of state.old operation.now answers.now).transitions }
 {
     if carries_ended(state, operation.boot) {

@@ -9,7 +9,7 @@ ghost use Rattle.save_core.specs.Leaving.{IsLeft, OnGuest};
 ghost use Rattle.save_core.specs.Parts.{reverted_to};
 
 use crate::loading::go_back;
-use core_rules::{CallEnd, PhaseEnd, end_guest};
+use core_rules::{PhaseEnd, PhaseReply, end_guest};
 use virt_types::{
     Call, EndReason, Name, STOPPED_FROM_SNAPSHOT, STOPPED_SAVED, State, Transition, TransitionList,
 };
@@ -26,7 +26,7 @@ pub fn ends(
 {
     end_guest(state, why);
     into.push(told);
-    PhaseEnd::over(CallEnd::done())
+    PhaseEnd::over(PhaseReply::done())
 }
 
 /// A guest that was saved is gone, and so is one whose place a snapshot without a state takes.

@@ -3,7 +3,7 @@ use Rattle.std.specs.Prelude.{◌≡◌, ℕ, List, Option, None, Some}
 use Rattle.domain_spec.specs.Types.{Call, State}
 use Rattle.domain_spec.specs.Types.call
 use Rattle.domain_spec.specs.Types.state
-use Rattle.core_rules.specs.Led.{Says, led_in}
+use Rattle.core_rules.specs.Led.{SaysToAll, led_in}
 use Rattle.snapshot_core.specs.declared.made.Parts.{Parts}
 use Rattle.snapshot_core.specs.declared.deletion.Deletion.{Deletion}
 use Rattle.snapshot_core.specs.declared.made.PhaseParts.{PhaseParts}
@@ -33,6 +33,6 @@ TakesIn taking (state.Held d) c = FitsTaking taking d c
 
 -- the parts were made for the due phase of this call's operation in such a state
 pub record IsForPhase (parts : PhaseParts) (s : State) (c : Call) : Type 0 where
-  pub led : Says parts.texts.led (led_in s)
+  pub led : SaysToAll parts.texts.led (led_in s)
   pub current : parts.current ≡ reverted_to c
   pub taking : TakesIn parts.taking s c

@@ -5,7 +5,7 @@ use Rattle.domain_spec.specs.Types.call
 use Rattle.domain_spec.specs.Types.reply
 use Rattle.domain_spec.specs.Types.value
 use Rattle.domain_spec.specs.Snapshots.{snapshot_name}
-use Rattle.core_rules.specs.Led.{Says}
+use Rattle.core_rules.specs.Led.{SaysToAll}
 use Rattle.snapshot_core.specs.declared.taking.Taking.{Taking}
 
 -- the definition of which a snapshot is taken: the live one, without a guest the stored one
@@ -28,7 +28,7 @@ new_snapshot d info def = record {
 pub record FitsSnapshot (taking : Taking) (d : Domain) (info : SnapInfo) (def : DomainDef) : Type 0 where
   pub snapshot : taking.new ≡ new_snapshot d info def
   pub current : taking.current ≡ snapshot_name d info
-  pub end : Says taking.end (reply.Ok (value.Name (snapshot_name d info)))
+  pub end : SaysToAll taking.end (reply.Ok (value.Name (snapshot_name d info)))
   pub few : length d.snaps + 1 < 2 ^ 64
 
 -- there is one where there is a definition

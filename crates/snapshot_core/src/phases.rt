@@ -16,7 +16,7 @@ ghost use Rattle.snapshot_core.specs.Taking.{FitsTaken, def_of};
 use crate::made::PhaseParts;
 use crate::taking::{Taking, resumes, take_inactive, take_live, taking_for};
 use core_rules::{
-    CallEnd, Next, PhaseEnd, PhaseTexts, Place, Reason, Texts, carries_ended, first_bad,
+    Next, PhaseEnd, PhaseReply, PhaseTexts, Place, Reason, ThreeTexts, carries_ended, first_bad,
     has_operation, phase_course, phase_ended, phase_failed, place_after,
 };
 use domain_spec::OpenOperation;
@@ -120,6 +120,7 @@ fn finish_nothing(domain: &mut Domain, call: &Call, current: Option<Name>) -> Ph
     ensures state { state.Held domain.new ≡ (nothing_done domain.old domain.old.live call.now).state }
     ensures outcome { result.outcome ≡ (nothing_done domain.old domain.old.live call.now).outcome }
     ensures in_mark { result.in_mark ≡ (nothing_done domain.old domain.old.live call.now).outcome }
+    ensures told { result.told ≡ (nothing_done domain.old domain.old.live call.now).outcome }
     ensures transitions { (nothing_done domain.old domain.old.live call.now).transitions ≡ [] }
 {
     if domain.live.is_none() {
@@ -128,7 +129,7 @@ fn finish_nothing(domain: &mut Domain, call: &Call, current: Option<Name>) -> Ph
             _ => {}
         }
     }
-    PhaseEnd::over(CallEnd::done())
+    PhaseEnd::over(PhaseReply::done())
 }
 
 // The phase that takes a snapshot.
@@ -137,7 +138,7 @@ fn finish_take(
     info: &SnapInfo,
     answers: &[Answer],
     taking: Option<Taking>,
-    texts: Texts,
+    texts: ThreeTexts,
     into: &mut TransitionList,
 ) -> PhaseEnd
     requires there { IsSome domain.old.op }
@@ -146,6 +147,7 @@ fn finish_take(
     ensures state { IfSome domain.old.op (λ op. state.Held domain.new ≡ (take_done domain.old domain.old.live op info.now answers.now).state) }
     ensures outcome { IfSome domain.old.op (λ op. result.outcome ≡ (take_done domain.old domain.old.live op info.now answers.now).outcome) }
     ensures in_mark { IfSome domain.old.op (λ op. result.in_mark ≡ (take_done domain.old domain.old.live op info.now answers.now).outcome) }
+    ensures told { IfSome domain.old.op (λ op. result.told ≡ (take_done domain.old domain.old.live op info.now answers.now).outcome) }
     ensures transitions { IfSome domain.old.op (λ op. into.new.list ≡ into.old.list ++ (take_done domain.old domain.old.live op info.now answers.now).transitions) }
 {
     if domain.live.is_some() {
@@ -181,6 +183,7 @@ fn finish_done(
     ensures state { state.Held domain.new ≡ (done_on domain.old domain.old.op call.now answers.now).state }
     ensures outcome { result.outcome ≡ (done_on domain.old domain.old.op call.now answers.now).outcome }
     ensures in_mark { result.in_mark ≡ (done_on domain.old domain.old.op call.now answers.now).outcome }
+    ensures told { result.told ≡ (done_on domain.old domain.old.op call.now answers.now).outcome }
     ensures transitions { into.new.list ≡ into.old.list ++ (done_on domain.old domain.old.op call.now answers.now).transitions }
 {
     let PhaseParts {
@@ -222,6 +225,7 @@ fn finish_held(
     ensures state { state.new ≡ (done_in state.old call.now answers.now).state }
     ensures outcome { result.outcome ≡ (done_in state.old call.now answers.now).outcome }
     ensures in_mark { result.in_mark ≡ (done_in state.old call.now answers.now).outcome }
+    ensures told { result.told ≡ (done_in state.old call.now answers.now).outcome }
     ensures transitions { into.new.list ≡ into.old.list ++ (done_in state.old call.now answers.now).transitions }
 {
     match state {
@@ -258,6 +262,7 @@ pub fn finish_phase(
     ensures state { state.new ≡ (phase_of state.old operation.now answers.now).state }
     ensures outcome { result.outcome ≡ (phase_of state.old operation.now answers.now).outcome }
     ensures in_mark { result.in_mark ≡ (phase_of state.old operation.now answers.now).outcome }
+    ensures told { result.told ≡ (phase_of state.old operation.now answers.now).outcome }
     ensures transitions { into.new.list ≡ into.old.list ++ (phase_of state.old operation.now answers.now).transitions }
 {
     phase_course(state, operation, answers);

@@ -1,6 +1,6 @@
 // How a snapshot is taken.
 ghost use Rattle.std.specs.Prelude.{◌≡◌, ◌+◌, ◌++◌, ◌<◌, ◌≤◌, ◌^◌, [], IfOk, None, Some, if◌then◌else◌, length, option_map, unwrap_or};
-ghost use Rattle.core_rules.specs.Led.{Says};
+ghost use Rattle.core_rules.specs.Led.{SaysToAll};
 ghost use Rattle.domain_spec.specs.Asks.{first_value};
 ghost use Rattle.domain_spec.specs.CopyResult.{run_as};
 ghost use Rattle.domain_spec.specs.Operation.{live_taken, resume_events};
@@ -15,7 +15,9 @@ ghost use Rattle.snapshot_core.specs.Both.{AreThere, OnBoth};
 ghost use Rattle.snapshot_core.specs.Taking.{FitsSnapshot, FitsTaken, FitsTaking, def_of, new_snapshot};
 
 use crate::names::snapshot_name;
-use core_rules::{CallEnd, PhaseEnd, Reason, StateRoom, Texts, first_value, is_held_by_job};
+use core_rules::{
+    PhaseEnd, PhaseReply, Reason, StateRoom, ThreeTexts, first_value, is_held_by_job,
+};
 use std::alloc::Global;
 use virt_types::{
     Answer, Bytes, Call, Cause, Domain, DomainDef, Live, Name, NewSnap, NoMemory, Op,
@@ -36,7 +38,7 @@ pub struct Taking {
     /// Its name, as the domain's current one.
     pub current: Name,
     /// Its name, as the caller is told it.
-    pub end: CallEnd,
+    pub end: PhaseReply,
 }
 
 fn def_of<'a>(live: &'a Option<Live>, stored: &'a Option<DomainDef>) -> Option<&'a DomainDef>
@@ -83,14 +85,15 @@ fn new_snapshot(
     })
 }
 
-// The reply that gives a name, twice.
-fn named(name: &Name) -> Result<CallEnd, NoMemory>
-    ensures { IfOk result (λ end. Says end (reply.Ok (value.Name name.now))) }
+// The reply that gives a name, three times.
+fn named(name: &Name) -> Result<PhaseReply, NoMemory>
+    ensures { IfOk result (λ end. SaysToAll end (reply.Ok (value.Name name.now))) }
 {
-    let (reply, in_mark) = both(name.copy(), name.copy())?;
-    Ok(CallEnd {
+    let (reply, (in_mark, told)) = both(name.copy(), both(name.copy(), name.copy()))?;
+    Ok(PhaseReply {
         reply: Reply::Ok(Value::Name(reply)),
         in_mark: Reply::Ok(Value::Name(in_mark)),
+        told: Reply::Ok(Value::Name(told)),
     })
 }
 
@@ -157,12 +160,13 @@ pub(crate) fn take_inactive(
     domain: &mut Domain,
     _info: &SnapInfo,
     taking: Option<Taking>,
-    texts: Texts,
+    texts: ThreeTexts,
 ) -> PhaseEnd
     requires fits { FitsTaken taking domain.old _info.now domain.old.stored }
     ensures state { state.Held domain.new ≡ (inactive_taken domain.old _info.now domain.old.stored).state }
     ensures outcome { result.outcome ≡ (inactive_taken domain.old _info.now domain.old.stored).outcome }
     ensures in_mark { result.in_mark ≡ (inactive_taken domain.old _info.now domain.old.stored).outcome }
+    ensures told { result.told ≡ (inactive_taken domain.old _info.now domain.old.stored).outcome }
     ensures transitions { (inactive_taken domain.old _info.now domain.old.stored).transitions ≡ [] }
 {
     if domain.stored.is_none() {
@@ -229,6 +233,7 @@ pub(crate) fn take_live(
     ensures state { OnBoth domain.old.live domain.old.op (λ l op. state.Held domain.new ≡ (live_taken domain.old l op _info.now (first_value answers.now)).state) }
     ensures outcome { OnBoth domain.old.live domain.old.op (λ l op. result.outcome ≡ (live_taken domain.old l op _info.now (first_value answers.now)).outcome) }
     ensures in_mark { OnBoth domain.old.live domain.old.op (λ l op. result.in_mark ≡ (live_taken domain.old l op _info.now (first_value answers.now)).outcome) }
+    ensures told { OnBoth domain.old.live domain.old.op (λ l op. result.told ≡ (live_taken domain.old l op _info.now (first_value answers.now)).outcome) }
     ensures transitions { OnBoth domain.old.live domain.old.op (λ l op. into.new.list ≡ into.old.list ++ (live_taken domain.old l op _info.now (first_value answers.now)).transitions) }
 {
     match (&mut domain.live, &domain.op, taking) {

@@ -14,6 +14,7 @@ returns-in-Some c =
       state = c.phase_failed.ensures.state;
       outcome = c.phase_failed.ensures.outcome;
       in_mark = c.phase_failed.ensures.in_mark;
+      told_so = c.phase_failed.ensures.told;
       transitions = c.phase_failed.ensures.transitions;
     })
 

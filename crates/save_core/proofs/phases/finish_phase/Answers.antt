@@ -20,6 +20,11 @@ returns-in-Some-clause-in_mark c =
     c.phase_failed.ensures.in_mark
     ∙ sym (ap (λ (step : PhaseStep). step.outcome) (phase_fails c.args.state.now c.args.operation.now c.args.answers.now c.in-Some.bad.now (search rules) (has_one _ _ (c.requires.save (search rules))) (search rules)))
 
+pub returns-in-Some-clause-told : goal.returns-in-Some-clause-told
+returns-in-Some-clause-told c =
+    c.phase_failed.ensures.told
+    ∙ sym (ap (λ (step : PhaseStep). step.outcome) (phase_fails c.args.state.now c.args.operation.now c.args.answers.now c.in-Some.bad.now (search rules) (has_one _ _ (c.requires.save (search rules))) (search rules)))
+
 pub returns-in-Some-clause-transitions : goal.returns-in-Some-clause-transitions
 returns-in-Some-clause-transitions c =
     c.phase_failed.ensures.transitions

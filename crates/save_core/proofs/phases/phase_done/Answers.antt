@@ -17,4 +17,5 @@ returns-else-has_guest c =
       transitions = sym (append-nil c.args.into.now.list);
       outcome = cc;
       in_mark = cc;
+      told = cc;
     }

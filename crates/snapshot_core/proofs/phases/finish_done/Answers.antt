@@ -22,6 +22,12 @@ returns-clause-in_mark c =
     rw (c.in-Snapshot.is) (taken_on c.args.domain.now c.args.domain.now.op c.in-Snapshot.info c.args.answers.now (λ step. c.finish_take.result.in_mark ≡ step.outcome)
     c.requires.there busy (rw c.in-Snapshot.is at c.requires.core) (rw c.as_ref.ensures at c.finish_take.ensures.in_mark))
 
+pub returns-clause-told : goal.returns-clause-told
+returns-clause-told c =
+    let busy : is_nothing c.args.domain.now.op ≡ false = sym c.is_nothing.ensures ∙ c.if-is_nothing.false in
+    rw (c.in-Snapshot.is) (taken_on c.args.domain.now c.args.domain.now.op c.in-Snapshot.info c.args.answers.now (λ step. c.finish_take.result.told ≡ step.outcome)
+    c.requires.there busy (rw c.in-Snapshot.is at c.requires.core) (rw c.as_ref.ensures at c.finish_take.ensures.told))
+
 pub returns-clause-transitions : goal.returns-clause-transitions
 returns-clause-transitions c =
     let busy : is_nothing c.args.domain.now.op ≡ false = sym c.is_nothing.ensures ∙ c.if-is_nothing.false in
