@@ -38,7 +38,7 @@ use Rattle.core_chapter.specs.Standing.{HistoryWithRoom, in_force}
 use Rattle.core_chapter.proofs.Standing.{one_more}
 use Rattle.core_plan.specs.Tidy.{IsTidy}
 use Rattle.core_flight.specs.Away.{IsOut, IsPhaseOut, course_out}
-use Rattle.core_flight.specs.Ledger.{CanAnswer, CanAnswerAs, Chaptered, GoesBack, IsAsking, IsClosed, IsPhaseClosed, Ledgered, LetsIn, MayAnswer, admitted, answered_as, answered_in, now_in}
+use Rattle.core_flight.specs.Ledger.{CanAnswer, CanAnswerAs, Chaptered, GoesBack, IsAsking, IsClosed, IsPhaseClosed, Ledgered, LetsIn, MayAnswer, admitted, answered_as, answered_in, now_in, step_to}
 use Rattle.core_flight.specs.Operations.{EntersPhase, IsFirst, MayPhase, entered}
 use Rattle.core_flight.specs.PhaseTurn.{IsUnderway, MayAnswerPhase, PhaseEnters, PhaseLeadsTo, PhaseResumes}
 use Rattle.core_flight.specs.Turn.{Enters, LeadsTo, MayAnswerCall, Resumes, force_in, shown}
@@ -48,6 +48,7 @@ use Rattle.core_flight.specs.declared.out.Out.{Out}
 use Rattle.core_flight.specs.declared.out.Out.TheVariants as gone
 use Rattle.core_flight.specs.declared.phase_out.PhaseOut.{PhaseOut}
 use Rattle.core_flight.specs.declared.phase_out.Step.{Step}
+use Rattle.core_flight.specs.declared.starving.Left.{Left}
 use Rattle.core_flight.specs.declared.phase_turns.PhaseTurn.TheVariants as phased
 use Rattle.core_flight.specs.declared.ledger.Back.TheVariants as back
 use Rattle.core_flight.specs.declared.ledger.Entry.TheVariants as entry
@@ -186,10 +187,11 @@ back_phase_away old new was kept n w x v y is out e h =
     subst (λ (u : Option Out). GoesBack n (option_map course_out u) x (seen old was) (seen new kept) (back.Away y)) (sym is)
     (h.0, asking (shown old) (starved h.0 (with_answer w.course x)) (starved h.0 (answered_in (now_in (seen old was)).job w.course x)) new kept (gone.Phase v) y e h.1.0 h.1.1 h.1.2 (ap (λ (a : Asked). starved h.0 a) same))
 
-pub back_phased : (old new : HistoryWithRoom) (was kept : Option Out) (n : ℕ) (w : PhaseOut) (x : Answer) (st : Step)
-    → was ≡ Some (gone.Phase w) → kept ≡ None → PhaseResumes n w.course x old new (phased.Phased st) → GoesBack n (option_map course_out was) x (seen old was) (seen new kept) (back.Phased st)
-back_phased old new was kept n w x st is e h =
-    subst (λ (u : Option Out). GoesBack n (option_map course_out u) x (seen old was) (seen new kept) (back.Phased st)) (sym is) (h.0, h.1.0, no_course kept e)
+pub back_phased : (old new : HistoryWithRoom) (was kept : Option Out) (n : ℕ) (w : PhaseOut) (x : Answer) (l : Left) (st : Step)
+    → was ≡ Some (gone.Phase w) → kept ≡ None → PhaseResumes n w.course x old new (phased.Phased l) → st ≡ step_to l.told → GoesBack n (option_map course_out was) x (seen old was) (seen new kept) (back.Phased st)
+back_phased old new was kept n w x l st is e h same =
+    subst (λ (u : Option Out). GoesBack n (option_map course_out u) x (seen old was) (seen new kept) (back.Phased st)) (sym is)
+    (h.0, subst (λ (s : Step). IsPhaseClosed (shown old) n (starved h.0 (with_answer w.course x)) (shown new) s) (sym same) h.1.0, no_course kept e)
 
 pub may_phase : (c : HistoryWithRoom) (w : Option Out) (n : ℕ) (who : Who) → MayPhase (now_in (seen c w)) (now_in (seen c w)).operation n who → MayPhase (force_in c) (force_in c).operation n who
 may_phase c w n who h = subst (λ (s : Standing). MayPhase s s.operation n who) (in_shown c) h
@@ -204,17 +206,17 @@ phase_away old new was kept n who v x e h =
     subst (λ (s : Standing). (a : Asked) × IsFirst s s.operation a × (count : ℕ) × IsAsking (entered (shown old) n who) (starved count a) (seen new kept) x) (sym (in_shown old))
     (h.0, h.1, h.2, asking (entered (shown old) n who) (starved h.2 h.0) (starved h.2 h.0) new kept (gone.Phase v) x e h.3.0 h.3.1 h.3.2 refl)
 
-pub phase_done : (old new : HistoryWithRoom) (was kept : Option Out) (n : ℕ) (who : Who) (st : Step)
-    → kept ≡ None → PhaseEnters n who old new (phased.Phased st) → EntersPhase n who (seen old was) (seen new kept) (begins.Phased st)
-phase_done old new was kept n who st e h =
+pub phase_done : (old new : HistoryWithRoom) (was kept : Option Out) (n : ℕ) (who : Who) (l : Left) (st : Step)
+    → kept ≡ None → PhaseEnters n who old new (phased.Phased l) → st ≡ step_to l.told → EntersPhase n who (seen old was) (seen new kept) (begins.Phased st)
+phase_done old new was kept n who l st e h same =
     subst (λ (s : Standing). (a : Asked) × IsFirst s s.operation a × (count : ℕ) × IsPhaseClosed (entered (shown old) n who) n (starved count a) (shown new) st × ((seen new kept).course ≡ None)) (sym (in_shown old))
-    (h.0, h.1, h.2, h.3.0, no_course kept e)
+    (h.0, h.1, h.2, subst (λ (s : Step). IsPhaseClosed (entered (shown old) n who) n (starved h.2 h.0) (shown new) s) (sym same) h.3.0, no_course kept e)
 
 pub kept_phase : (h : Chaptered) (n : ℕ) (a : Asked) (new : HistoryWithRoom) (kept : Option Out) (v : PhaseOut) (x : Ask) → kept ≡ Some (gone.Phase v) → PhaseLeadsTo h n a new (phased.Away v x) → IsOut (force_in new) (force_in new).job kept
 kept_phase h n a new kept v x e l = subst (λ (w : Option Out). IsOut (force_in new) (force_in new).job w) (sym e) l.3
 
-pub kept_phased : (h : Chaptered) (n : ℕ) (a : Asked) (new : HistoryWithRoom) (kept : Option Out) (st : Step) → kept ≡ None → PhaseLeadsTo h n a new (phased.Phased st) → IsOut (force_in new) (force_in new).job kept
-kept_phased h n a new kept st e l =
+pub kept_phased : (h : Chaptered) (n : ℕ) (a : Asked) (new : HistoryWithRoom) (kept : Option Out) (left : Left) → kept ≡ None → PhaseLeadsTo h n a new (phased.Phased left) → IsOut (force_in new) (force_in new).job kept
+kept_phased h n a new kept left e l =
     subst (λ (w : Option Out). IsOut (force_in new) (force_in new).job w) (sym e) (subst (λ (j : Option OpenJob). IsOut (force_in new) j None) (sym l.1) tt)
 
 pub kept_nothing : (new : HistoryWithRoom) (kept : Option Out) → kept ≡ None → (force_in new).job ≡ None → IsOut (force_in new) (force_in new).job kept

@@ -1,7 +1,6 @@
 pub mod Beginning
 pub mod Entering
 pub mod Histories
-pub mod LastReply
 pub mod Ledgers
 pub mod Operated
 pub mod PhaseAnswers

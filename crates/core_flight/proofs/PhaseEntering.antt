@@ -1,5 +1,5 @@
 -- A phase that is let in, or that was away and is answered.
-use Rattle.std.proofs.Common.{◌≡◌, ◌≤◌, ◌<◌, ℕ, [], ◌∷◌, ◌++◌, true, false, None, Some, Option, refl, sym, ap, ◌∙◌, subst}
+use Rattle.std.proofs.Common.{◌≡◌, ◌≤◌, ◌<◌, ℕ, [], ◌∷◌, ◌++◌, inl, true, false, None, Some, Option, refl, sym, ap, ◌∙◌, subst}
 use Rattle.history_spec.specs.declared.stamp.Stamp.{Stamp}
 use Rattle.domain_spec.specs.Types.{Answer, Ask, Call, Transition, Who}
 use Rattle.domain_spec.specs.Types.job
@@ -25,20 +25,20 @@ use Rattle.core_chapter.specs.Standing.{HistoryWithRoom}
 use Rattle.core_plan.specs.Guests.{HasOwnGuest}
 use Rattle.virt_types.specs.Room.{Roomy}
 use Rattle.core_flight.specs.Away.{HasCopyRoom, HasPhaseRooms, IsOut}
-use Rattle.core_flight.specs.Ledger.{step_in, with_marks}
+use Rattle.core_flight.specs.Ledger.{with_marks}
 use Rattle.core_flight.specs.Operations.{IsFirst, MayPhase, entered, nested_admit, nested_in}
-use Rattle.core_flight.specs.PhaseTurn.{CanPhaseOn, IsPhaseReady, IsReadyFor, MayAnswerPhase, PhaseEnters, PhaseLeadsTo, PhaseResumes, PhaseStaysAway, PhaseTurnsTo, phase_is_over}
+use Rattle.core_flight.specs.PhaseTurn.{CanPhaseOn, IsLeft, IsPhaseReady, IsReadyFor, MayAnswerPhase, PhaseEnters, PhaseLeadsTo, PhaseResumes, PhaseStaysAway, PhaseTurnsTo, phase_is_over}
 use Rattle.core_flight.specs.Turn.{force_in, shown}
 use Rattle.core_flight.specs.declared.out.Out.TheVariants as gone
 use Rattle.core_flight.specs.declared.phase_out.PhaseOut.{PhaseOut}
 use Rattle.core_flight.specs.declared.phase_out.PhaseReady.{PhaseReady}
-use Rattle.core_flight.specs.declared.phase_out.Step.{Step}
+use Rattle.core_flight.specs.declared.starving.Left.{Left}
 use Rattle.core_flight.specs.declared.phase_turns.PhaseTurn.{PhaseTurn}
 use Rattle.core_flight.specs.declared.phase_turns.PhaseTurn.TheVariants as turn
 use Rattle.core_flight.proofs.Histories.{in_shown, shown_more}
 use Rattle.core_flight.proofs.Ledgers.{after_mark}
 use Rattle.core_flight.proofs.PhaseAnswers.{second_by}
-use Rattle.core_flight.proofs.PhaseHistories.{Nests, answers_in, closes_phase, first_phase_goes_on, first_phase_is_kept, nests, phase_can_end, phase_can_go_on, phase_stays_out, phase_turns_to}
+use Rattle.core_flight.proofs.PhaseHistories.{Nests, answers_in, closes_phase, first_phase_goes_on, first_phase_is_kept, nests, phase_can_end, phase_can_go_on, phase_lawful, phase_stays_out, phase_turns_to}
 
 -- the operation that is open, and what was set aside for its due phase
 pub record IsDue (s : Standing) (o : OpenOperation) (n : ℕ) (who : Who) (r : PhaseReady) : Type 0 where
@@ -98,7 +98,7 @@ pub entered_can_phase :
     (old mid : HistoryWithRoom) (o : OpenOperation) (by : Stamp) (who : Who) (r : PhaseReady) → PhaseEntered old mid o by.number who r → CanPhaseOn (force_in mid) r.away.parts by r.away.course
 entered_can_phase old mid o by who r h =
     subst (λ (s : Standing). CanPhaseOn s r.away.parts by r.away.course) (sym h.there)
-    (first_phase_goes_on (force_in old) o by.number who r.away.parts by r.away.course h.due.operation h.lost h.nests refl h.due.ready.away.parts h.due.ready.away.course)
+    (first_phase_goes_on (force_in old) o by.number who r.away.parts by r.away.course h.due.operation h.lost h.nests refl h.due.ready.away.parts (inl h.due.ready.away.course))
 
 entered_out_phase :
     (old mid : HistoryWithRoom) (o : OpenOperation) (n : ℕ) (who : Who) (r : PhaseReady) → PhaseEntered old mid o n who r
@@ -110,14 +110,14 @@ entered_out_phase old mid o n who r h count x asks waits =
     subst (λ (s : Standing). IsOut s s.job (Some (gone.Phase (record r.away { course = starved count r.away.course })))) (sym h.there)
     (first_phase_is_kept (force_in old) o n who (record r.away { course = starved count r.away.course }) r.away.course count x h.due.operation h.nests made.parts
     (record { told_empty = rooms.told_empty; told_room = rooms.told_room; end_empty = rooms.end_empty; end_room = rooms.end_room })
-    made.course made.copy refl asks waits)
+    (inl made.course) made.copy refl asks waits)
 
 pub entered_phase_turns :
     (old mid new : HistoryWithRoom) (o : OpenOperation) (by : Stamp) (who : Who) (r : PhaseReady) (t : PhaseTurn)
     → PhaseEntered old mid o by.number who r → PhaseTurnsTo by r.away mid new t → PhaseEnters by.number who old new t
 entered_phase_turns old mid new o by who r t h turned =
     let first : IsFirst (force_in old) (force_in old).operation r.away.course =
-    subst (λ (q : Option OpenOperation). IsFirst (force_in old) q r.away.course) (sym h.due.operation) h.due.ready.away.course in
+    subst (λ (q : Option OpenOperation). IsFirst (force_in old) q r.away.course) (sym h.due.operation) (inl h.due.ready.away.course) in
     let leads : (count : ℕ) × PhaseLeadsTo (entered (shown old) by.number who) by.number (starved count r.away.course) new t =
     phase_turns_to mid new (entered (shown old) by.number who) by by.number r.away t (λ (count : ℕ). starved count r.away.course) (entered_can_phase old mid o by who r h)
     (entered_out_phase old mid o by.number who r h) h.marked refl (λ (count : ℕ). refl) turned in
@@ -158,13 +158,14 @@ resumed_can_go_on s w v by x lost out may over course parts =
     subst (λ (p : PhaseParts). CanPhaseOn s p by v.course) (sym parts) (subst (λ (a : Asked). CanPhaseOn s w.parts by a) (sym course) (phase_can_go_on s w by x lost out may over))
 
 pub resumed_ends :
-    (old new : HistoryWithRoom) (w v : PhaseOut) (by : Stamp) (x : Answer) (st : Step)
+    (old new : HistoryWithRoom) (w v : PhaseOut) (by : Stamp) (x : Answer) (l : Left)
     → (force_in old).lost ≡ None → IsOut (force_in old) (force_in old).job (Some (gone.Phase w)) → MayAnswerPhase (force_in old) (force_in old).job by.number x → phase_is_over (force_in old).state (force_in old).operation ≡ true
     → v.course ≡ with_answer w.course x → v.parts ≡ w.parts
-    → new.history ≡ record old.history { marks = old.history.marks ++ phased_in (force_in old) by (made v.course) v.course.answers } → st ≡ step_in (force_in new).operation
-    → PhaseResumes by.number w.course x old new (turn.Phased st)
-resumed_ends old new w v by x st lost out may over course parts e leads =
-    (0, closes_phase old new (shown old) v.parts by by.number v.course (with_answer w.course x) st (resumed_can_end (force_in old) w v by x lost out may over course parts) e leads refl refl course)
+    → new.history ≡ record old.history { marks = old.history.marks ++ phased_in (force_in old) by (made v.course) v.course.answers } → IsLeft (force_in old).state v.course.answers (force_in new) l
+    → PhaseResumes by.number w.course x old new (turn.Phased l)
+resumed_ends old new w v by x l lost out may over course parts e left =
+    let can = resumed_can_end (force_in old) w v by x lost out may over course parts in
+    (0, closes_phase old new (shown old) by by.number v.course (with_answer w.course x) l (phase_lawful (force_in old) (force_in old).operation v.parts by v.course can) e left refl refl course)
 
 pub resumed_turns :
     (old new : HistoryWithRoom) (w v : PhaseOut) (by : Stamp) (x : Answer) (t : PhaseTurn)
@@ -181,4 +182,4 @@ resumed_turns old new w v by x t lost out may over course parts rooms turned =
 -- a phase that asks on takes no room
 pub phase_asks_on : (old new : HistoryWithRoom) (by : Stamp) (w : PhaseOut) (t : PhaseTurn) → PhaseTurnsTo by w old new t → PhaseStaysAway old new t
 phase_asks_on old new by w (turn.Away v x) h = ap (λ (c : HistoryWithRoom). c.spare) h.4
-phase_asks_on old new by w (turn.Phased st) h = tt
+phase_asks_on old new by w (turn.Phased l) h = tt

@@ -36,18 +36,18 @@ use Rattle.core_plan.proofs.Phasing.{is_phased_ended, is_phased_starved}
 use Rattle.core_plan.specs.Below.core_dispatch.Fits.{FitsPhase}
 use Rattle.core_plan.specs.Below.core_dispatch.declared.phases.PhaseParts.{PhaseParts}
 use Rattle.core_chapter.specs.Closing as chapter
-use Rattle.core_chapter.specs.Closing.{CanPhase, due_of, phased_in, phased_of}
-use Rattle.core_chapter.specs.Numbered.{all_numbered}
+use Rattle.core_chapter.specs.Closing.{CanPhase, HasLedTo, due_of, phase_mark, phased_in, phased_of}
+use Rattle.core_chapter.specs.Numbered.{all_numbered, numbered}
 use Rattle.core_chapter.specs.Standing.{HistoryWithRoom, in_force}
 use Rattle.core_plan.specs.Guests.{HasOwnGuest}
 use Rattle.core_flight.specs.Away.{HasCopyRoom, HasPhaseRooms, IsOut, IsPhaseKept, IsPhaseOut}
-use Rattle.core_flight.specs.Ledger.{Chaptered, IsPhaseClosed, IsPhaseLawful, loss, phase_closing, phased_by, step_in, with_marks}
+use Rattle.core_flight.specs.Ledger.{Chaptered, IsPhaseClosed, IsPhaseLawful, loss, phase_closing, phased_by, standing_in, step_in, step_to, with_marks}
 use Rattle.core_flight.specs.Operations.{IsFirstOf, unasked}
-use Rattle.core_flight.specs.PhaseTurn.{CanPhaseOn, MayAnswerPhase, PhaseLeadsTo, PhaseTurnsTo, phase_is_over}
+use Rattle.core_flight.specs.PhaseTurn.{CanPhaseOn, IsLeft, MayAnswerPhase, PhaseLeadsTo, PhaseTurnsTo, phase_is_over}
 use Rattle.core_flight.specs.Turn.{force_in, shown}
 use Rattle.core_flight.specs.declared.out.Out.TheVariants as gone
 use Rattle.core_flight.specs.declared.phase_out.PhaseOut.{PhaseOut}
-use Rattle.core_flight.specs.declared.phase_out.Step.{Step}
+use Rattle.core_flight.specs.declared.starving.Left.{Left}
 use Rattle.core_flight.specs.declared.phase_turns.PhaseTurn.{PhaseTurn}
 use Rattle.core_flight.specs.declared.phase_turns.PhaseTurn.TheVariants as turn
 use Rattle.core_flight.proofs.Histories.{in_more, in_shown, no_loss, shown_more}
@@ -63,7 +63,7 @@ phased_is : (s : Standing) (o : Option OpenOperation) (by : Stamp) (a : Asked) �
 phased_is s None by a = refl
 phased_is s (Some o) by a = ap (λ (ms : List (Mark ℕ)). phased_by s o by.number a ∷ ms) (loss_is (lost_boot (phase_of s.state o a.answers).state o.boot a.answers))
 
-phase_lawful : (s : Standing) (o : Option OpenOperation) (parts : PhaseParts) (by : Stamp) (a : Asked) → CanPhase s o parts by (made a) a.answers → IsPhaseLawful s o by.number a
+pub phase_lawful : (s : Standing) (o : Option OpenOperation) (parts : PhaseParts) (by : Stamp) (a : Asked) → CanPhase s o parts by (made a) a.answers → IsPhaseLawful s o by.number a
 phase_lawful s None parts by a h = h
 phase_lawful s (Some o) parts by a h = h.1
 
@@ -73,46 +73,53 @@ loss_job : (s : Standing) (o : Option ℕ) → s.job ≡ None → (standing s (l
 loss_job s None e = e
 loss_job s (Some boot) e = ap (λ (j : Option OpenJob). job_at_exit s.state boot j) e
 
-closed_job : (s : Standing) (o : Option OpenOperation) (parts : PhaseParts) (by : Stamp) (a : Asked) → s.operation ≡ o → CanPhase s o parts by (made a) a.answers → (standing s (phase_closing s o by.number a)).job ≡ None
-closed_job s None parts by a is h = absurd h
-closed_job s (Some o) parts by a is h =
+closed_job : (s : Standing) (o : Option OpenOperation) (by : Stamp) (a : Asked) → s.operation ≡ o → IsPhaseLawful s o by.number a → (standing s (phase_closing s o by.number a)).job ≡ None
+closed_job s None by a is h = absurd h
+closed_job s (Some o) by a is h =
     loss_job (after s (phased_by s o by.number a)) (lost_boot (phase_of s.state o a.answers).state o.boot a.answers)
     (ap (λ (q : Option OpenOperation). (after_phase s q a.answers (phase_of s.state o a.answers).outcome).job) is)
 
-none_open :
-    (old new : HistoryWithRoom) (parts : PhaseParts) (by : Stamp) (a : Asked) → CanPhase (force_in old) (force_in old).operation parts by (made a) a.answers
+pub none_open :
+    (old new : HistoryWithRoom) (by : Stamp) (a : Asked) → IsPhaseLawful (force_in old) (force_in old).operation by.number a
     → new.history ≡ record old.history { marks = old.history.marks ++ phased_in (force_in old) by (made a) a.answers } → (force_in new).job ≡ None
-none_open old new parts by a can e =
+none_open old new by a lawful e =
     let s : Standing = force_in old in
     ap (λ (h : _). (in_force h.base h.marks).job) e
     ∙ ap (λ (x : Standing). x.job) (in_more old.history.base old.history.marks (phased_in s by (made a) a.answers))
     ∙ ap (λ (ms : List (Mark ℕ)). (standing s ms).job) (phased_is s s.operation by a)
-    ∙ closed_job s s.operation parts by a refl can
+    ∙ closed_job s s.operation by a refl lawful
 
-closed :
-    (old new : HistoryWithRoom) (parts : PhaseParts) (by : Stamp) (a : Asked) (st : Step) → CanPhase (force_in old) (force_in old).operation parts by (made a) a.answers
-    → new.history ≡ record old.history { marks = old.history.marks ++ phased_in (force_in old) by (made a) a.answers } → st ≡ step_in (force_in new).operation
-    → IsPhaseClosed (shown old) by.number a (shown new) st
-closed old new parts by a st can e leads =
+led_in : (q : Option OpenOperation) (told : Outcome) → HasLedTo q told → step_to told ≡ step_in q
+led_in None told h = absurd h
+led_in (Some o) told h = ap step_to h
+
+pub closed :
+    (old new : HistoryWithRoom) (by : Stamp) (a : Asked) (told : Outcome) → IsPhaseLawful (force_in old) (force_in old).operation by.number a
+    → new.history ≡ record old.history { marks = old.history.marks ++ phased_in (force_in old) by (made a) a.answers } → HasLedTo (force_in new).operation told
+    → IsPhaseClosed (shown old) by.number a (shown new) (step_to told)
+closed old new by a told lawful e leads =
     let s : Standing = force_in old in
     record {
       adds =
           shown_more old new (phased_in s by (made a) a.answers) e
           ∙ ap (λ (ms : List (Mark ℕ)). with_marks (shown old) ms) (phased_is s s.operation by a ∙ ap (λ (x : Standing). phase_closing x x.operation by.number a) (sym (in_shown old)));
-      lawful = subst (λ (x : Standing). IsPhaseLawful x x.operation by.number a) (sym (in_shown old)) (phase_lawful s s.operation parts by a can);
-      leads = leads ∙ ap (λ (x : Standing). step_in x.operation) (sym (in_shown new));
+      lawful = subst (λ (x : Standing). IsPhaseLawful x x.operation by.number a) (sym (in_shown old)) lawful;
+      leads = led_in (force_in new).operation told leads ∙ ap (λ (x : Standing). step_in x.operation) (sym (in_shown new));
     }
 
 pub closes_phase :
-    (old new : HistoryWithRoom) (h : Chaptered) (parts : PhaseParts) (by : Stamp) (n : ℕ) (a b : Asked) (st : Step) → CanPhase (force_in old) (force_in old).operation parts by (made a) a.answers
-    → new.history ≡ record old.history { marks = old.history.marks ++ phased_in (force_in old) by (made a) a.answers } → st ≡ step_in (force_in new).operation
+    (old new : HistoryWithRoom) (h : Chaptered) (by : Stamp) (n : ℕ) (a b : Asked) (l : Left) → IsPhaseLawful (force_in old) (force_in old).operation by.number a
+    → new.history ≡ record old.history { marks = old.history.marks ++ phased_in (force_in old) by (made a) a.answers } → IsLeft (force_in old).state a.answers (force_in new) l
     → shown old ≡ h → by.number ≡ n → a ≡ b
-    → PhaseLeadsTo h n b new (turn.Phased st)
-closes_phase old new h parts by n a b st can e leads is numbered same = (
-  subst (λ (x : Chaptered). IsPhaseClosed x n b (shown new) st) is
-      (subst (λ (k : ℕ). IsPhaseClosed (shown old) k b (shown new) st) numbered
-      (subst (λ (x : Asked). IsPhaseClosed (shown old) by.number x (shown new) st) same (closed old new parts by a st can e leads))),
-  none_open old new parts by a can e,
+    → PhaseLeadsTo h n b new (turn.Phased l)
+closes_phase old new h by n a b l lawful e left is numbered same = (
+  subst (λ (x : Chaptered). IsPhaseClosed x n b (shown new) (step_to l.told)) is
+      (subst (λ (k : ℕ). IsPhaseClosed (shown old) k b (shown new) (step_to l.told)) numbered
+      (subst (λ (x : Asked). IsPhaseClosed (shown old) by.number x (shown new) (step_to l.told)) same (closed old new by a l.told lawful e left.told))),
+  none_open old new by a lawful e,
+  subst (λ (x : Chaptered). IsLeft (standing_in x).state b.answers (force_in new) l) is
+      (subst (λ (x : Standing). IsLeft x.state b.answers (force_in new) l) (sym (in_shown old))
+      (subst (λ (x : Asked). IsLeft (force_in old).state x.answers (force_in new) l) same left)),
 )
 
 pub phase_turns_to :
@@ -132,29 +139,35 @@ phase_turns_to old new h by n w (turn.Away v x) b can out is numbered same t =
             (subst (λ (u : PhaseOut). IsOut (force_in old) (force_in old).job (Some (gone.Phase u))) (sym t.2) (out count x t.1 t.3)),
       ),
     )
-phase_turns_to old new h by n w (turn.Phased st) b can out is numbered same t =
-    (t.0, closes_phase old new h w.parts by n (starved t.0 w.course) (b t.0) st (can t.0 t.1 t.2) t.3 t.4 is numbered (same t.0))
+phase_turns_to old new h by n w (turn.Phased l) b can out is numbered same t =
+    let lawful : IsPhaseLawful (force_in old) (force_in old).operation by.number (starved t.0 w.course) =
+    phase_lawful (force_in old) (force_in old).operation w.parts by (starved t.0 w.course) (can t.0 t.1 t.2) in
+    (t.0, closes_phase old new h by n (starved t.0 w.course) (b t.0) l lawful t.3 t.4 is numbered (same t.0))
 
 -- its Phase is lawful, once it is what the table of operations has
+
+pub phase_lawful_by :
+    (s : Standing) (j : OpenJob) (o : OpenOperation) (p : Phase) (by : Stamp) (asks : List Ask) (answers : List Answer)
+    → s.job ≡ Some j → s.operation ≡ Some o → s.lost ≡ None → o.outcome ≡ outcome.On p → by.number ≡ j.number → IsPhasedBy s j o p asks answers
+    → IsLawful s (numbered (phase_mark s.state o by asks answers))
+phase_lawful_by s j o p by asks answers is_job is_op lost due same h =
+    let next : Outcome = (phase_of s.state o answers).outcome in
+    let events : List Transition = (phase_of s.state o answers).transitions in
+    record {
+      in_order =
+          subst (λ (q : Option OpenOperation). IsPhased s s.job q by.number o.who (due_of o.outcome) asks answers next events) (sym is_op)
+          (subst (λ (k : Option OpenJob). IsPhased s k (Some o) by.number o.who (due_of o.outcome) asks answers next events) (sym is_job)
+          (subst (λ (q : Phase). IsPhased s (Some j) (Some o) by.number o.who q asks answers next events) (sym (ap due_of due))
+          (subst (λ (k : ℕ). IsPhased s (Some j) (Some o) k o.who p asks answers next events) (sym same) h)));
+      loss = no_loss s (mark.Phase by.number o.who (due_of o.outcome) asks answers next events) lost;
+    }
 
 pub can_phase_by :
     (s : Standing) (j : OpenJob) (o : OpenOperation) (p : Phase) (parts : PhaseParts) (by : Stamp) (asks : List Ask) (answers : List Answer)
     → s.job ≡ Some j → s.operation ≡ Some o → s.lost ≡ None → o.outcome ≡ outcome.On p → by.number ≡ j.number → FitsPhase parts s.state o → IsPhasedBy s j o p asks answers
     → CanPhase s s.operation parts by asks answers
-can_phase_by s j o p parts by asks answers is_job is_op lost due numbered fits h =
-    let next : Outcome = (phase_of s.state o answers).outcome in
-    let events : List Transition = (phase_of s.state o answers).transitions in
-    subst (λ (q : Option OpenOperation). CanPhase s q parts by asks answers) (sym is_op) (
-      fits,
-      record {
-        in_order =
-            subst (λ (q : Option OpenOperation). IsPhased s s.job q by.number o.who (due_of o.outcome) asks answers next events) (sym is_op)
-            (subst (λ (k : Option OpenJob). IsPhased s k (Some o) by.number o.who (due_of o.outcome) asks answers next events) (sym is_job)
-            (subst (λ (q : Phase). IsPhased s (Some j) (Some o) by.number o.who q asks answers next events) (sym (ap due_of due))
-            (subst (λ (k : ℕ). IsPhased s (Some j) (Some o) k o.who p asks answers next events) (sym numbered) h)));
-        loss = no_loss s (mark.Phase by.number o.who (due_of o.outcome) asks answers next events) lost;
-      },
-    )
+can_phase_by s j o p parts by asks answers is_job is_op lost due same fits h =
+    subst (λ (q : Option OpenOperation). CanPhase s q parts by asks answers) (sym is_op) (fits, phase_lawful_by s j o p by asks answers is_job is_op lost due same h)
 
 -- a phase that is let in
 
@@ -211,7 +224,7 @@ no_course answers (Some k) = rw (take-nil (k + 1)) refl
 none_next : next_in unasked ≡ next.Finish
 none_next = ap (λ (asks : List Ask). next_of (drop 1 asks)) (no_course (answer.NoMemory ∷ []) (first_bad_at (answer.NoMemory ∷ [])))
 
-none_made : made unasked ≡ []
+pub none_made : made unasked ≡ []
 none_made = ap (λ (asks : List Ask). take 1 asks) (no_course (answer.NoMemory ∷ []) (first_bad_at (answer.NoMemory ∷ [])))
 
 not_ask : (n : Next) → n ≡ next.Finish → is_ask n ≡ true → ⊥

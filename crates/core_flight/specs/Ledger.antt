@@ -112,7 +112,7 @@ IsPhaseLawful s (Some o) n a = IsLawful s (phased_by s o n a)
 abbrev pub step_to : Outcome → Step
 step_to (outcome.On p) = step.On
 step_to (outcome.Over r) = step.Over
-step_to (outcome.Rest r) = step.Rest
+step_to (outcome.Rest r) = step.Rest r
 
 -- what the last phase of the open operation led to; without an operation all is over
 abbrev pub step_in : Option OpenOperation → Step

@@ -1,3 +1,4 @@
+pub mod Aside
 pub mod Away
 pub mod BeginTurn
 pub mod Ledger

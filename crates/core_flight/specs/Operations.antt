@@ -3,14 +3,12 @@ use Rattle.std.specs.Prelude.{◌≡◌, ◌⊎◌, ℕ, List, [], ◌∷◌, tr
 use Rattle.domain_spec.specs.Types.{Call, Reply, State, Who}
 use Rattle.domain_spec.specs.Types.answer
 use Rattle.domain_spec.specs.Types.job
-use Rattle.domain_spec.specs.Types.reply
 use Rattle.domain_spec.specs.declared.mark.Mark.{Mark}
 use Rattle.domain_spec.specs.declared.mark.Mark.TheVariants as mark
 use Rattle.domain_spec.specs.declared.open.OpenOperation.{OpenOperation}
 use Rattle.domain_spec.specs.declared.standing.Standing.{Standing}
 use Rattle.domain_spec.specs.Legal.{IsLawful}
 use Rattle.domain_spec.specs.Reading.{live_boot}
-use Rattle.domain_spec.specs.Refusals.{no_memory}
 use Rattle.domain_spec.specs.Sequential.{goes_on_as_operation}
 use Rattle.domain_spec.specs.TakeUp.{takes_it_up}
 use Rattle.core_plan.specs.Along.{Asked}
@@ -43,9 +41,9 @@ TakesUp n who c boot old new (begun.Done r) =
     (takes_it_up (now_in old) c boot ≡ false)
     × IsClosed (admitted old.history n who c boot) n (first_course (now_in old).state c boot) new.history r × (new.course ≡ None)
 
--- what the caller of an operation is told that ends: its reply, or that there was no memory for one more copy
+-- what the caller of an operation is told that ends: its reply
 abbrev pub IsToldAtEnd : Reply → Reply → Type 0
-IsToldAtEnd r told = (told ≡ r) ⊎ (told ≡ reply.No no_memory)
+IsToldAtEnd r told = told ≡ r
 
 -- the Admit of the due phase of this operation
 abbrev pub nested_admit : Standing → OpenOperation → ℕ → Who → Mark ℕ
@@ -78,9 +76,8 @@ abbrev pub IsFirst : Standing → Option OpenOperation → Asked → Type 0
 IsFirst s None a = ⊥
 IsFirst s (Some o) a = IsFirstOf s.state o a
 
--- the due phase was let in: it is done at once, or asks somebody; for some asks there was no memory
+-- the due phase was let in: it is done at once, or asks somebody; for some asks, or for all, there was no memory
 abbrev pub EntersPhase : ℕ → Who → Ledgered → Ledgered → PhaseEntry → Type 0
-EntersPhase n who old new entry.NoMemory = new ≡ old
 EntersPhase n who old new (entry.Away x) =
     (a : Asked) × IsFirst (now_in old) (now_in old).operation a × (count : ℕ) × IsAsking (entered old.history n who) (starved count a) new x
 EntersPhase n who old new (entry.Phased st) =

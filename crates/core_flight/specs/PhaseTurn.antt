@@ -1,5 +1,5 @@
 -- What the turn of an open phase comes to, over the chapter.
-use Rattle.std.specs.Prelude.{◌≡◌, ◌++◌, ℕ, Bool, false, Option, None, Some}
+use Rattle.std.specs.Prelude.{◌≡◌, ◌++◌, ℕ, List, Bool, false, Option, None, Some, option_map}
 use Rattle.history_spec.specs.declared.stamp.Stamp.{Stamp}
 use Rattle.domain_spec.specs.Types.{Answer, State, Who}
 use Rattle.domain_spec.specs.declared.open.OpenJob.{OpenJob}
@@ -12,23 +12,27 @@ use Rattle.core_plan.specs.Along.{Asked}
 use Rattle.core_plan.specs.Starving.{AreAsks, next_in, starved}
 use Rattle.core_plan.specs.AwayLaws.{made}
 use Rattle.core_plan.specs.PhaseCopying.{with_answer}
+use Rattle.core_plan.specs.PhaseGoing.{first_phase}
+use Rattle.core_plan.specs.GivingUp.{why_given_up}
+use Rattle.core_rules.specs.Reasons.{refusal_for}
 use Rattle.core_plan.specs.Below.core_dispatch.Fits.{FitsPhase}
 use Rattle.core_plan.specs.Below.core_dispatch.declared.phases.PhaseParts.{PhaseParts}
-use Rattle.core_chapter.specs.Closing.{CanPhase, phased_in}
+use Rattle.core_chapter.specs.Closing.{CanPhase, HasLedTo, phased_in}
 use Rattle.core_chapter.specs.Standing.{HistoryWithRoom}
 use Rattle.core_flight.specs.Away.{HasCopyRoom, HasPhaseRooms, IsOut}
-use Rattle.core_flight.specs.Ledger.{Chaptered, IsPhaseClosed, step_in}
-use Rattle.core_flight.specs.Operations.{IsFirst, IsFirstOf, entered}
+use Rattle.core_flight.specs.Ledger.{Chaptered, IsPhaseClosed, standing_in, step_to}
+use Rattle.core_flight.specs.Operations.{IsFirst, entered}
 use Rattle.core_flight.specs.Turn.{force_in, shown}
 use Rattle.core_flight.specs.declared.out.Out.TheVariants as out
 use Rattle.core_flight.specs.declared.phase_out.PhaseOut.{PhaseOut}
 use Rattle.core_flight.specs.declared.phase_out.PhaseReady.{PhaseReady}
 use Rattle.core_flight.specs.declared.phase_turns.PhaseTurn.{PhaseTurn}
 use Rattle.core_flight.specs.declared.phase_turns.PhaseTurn.TheVariants as turn
+use Rattle.core_flight.specs.declared.starving.Left.{Left}
 
 -- what the due phase of this operation needs that is let in here
 pub record IsMadeFor (s : State) (o : OpenOperation) (w : PhaseOut) : Type 0 where
-  pub course : IsFirstOf s o w.course
+  pub course : w.course ≡ first_phase s o
   pub parts : FitsPhase w.parts s o
   pub rooms : HasPhaseRooms w
   pub copy : HasCopyRoom w.course.answers w.course.plan w.copy
@@ -56,19 +60,25 @@ CanPhaseOn s parts by a =
     (count : ℕ) → AreAsks count a → next_in (starved count a) ≡ next.Finish
     → CanPhase s s.operation parts by (made (starved count a)) (starved count a).answers
 
+-- what a phase led to, and why its operation gives up, if these answers made it give up in this state
+pub record IsLeft (s : State) (answers : List Answer) (new : Standing) (l : Left) : Type 0 where
+  pub told : HasLedTo new.operation l.told
+  pub why : option_map refusal_for l.why ≡ why_given_up s answers
+
 -- the open phase asks somebody, or is done
 abbrev pub PhaseTurnsTo : Stamp → PhaseOut → HistoryWithRoom → HistoryWithRoom → PhaseTurn → Type 0
 PhaseTurnsTo by w old new (turn.Away v x) =
     (count : ℕ) × AreAsks count w.course × (v ≡ record w { course = starved count w.course }) × (next_in (starved count w.course) ≡ next.Ask x) × (new ≡ old)
-PhaseTurnsTo by w old new (turn.Phased st) =
+PhaseTurnsTo by w old new (turn.Phased l) =
     (count : ℕ) × AreAsks count w.course × (next_in (starved count w.course) ≡ next.Finish)
     × (new.history ≡ record old.history { marks = old.history.marks ++ phased_in (force_in old) by (made (starved count w.course)) (starved count w.course).answers })
-    × (st ≡ step_in (force_in new).operation)
+    × IsLeft (force_in old).state (starved count w.course).answers (force_in new) l
 
 -- after this history the phase is away with this course, or done with it
 abbrev pub PhaseLeadsTo : Chaptered → ℕ → Asked → HistoryWithRoom → PhaseTurn → Type 0
 PhaseLeadsTo h n a new (turn.Away v x) = (v.course ≡ a) × (next_in a ≡ next.Ask x) × (shown new ≡ h) × IsOut (force_in new) (force_in new).job (Some (out.Phase v))
-PhaseLeadsTo h n a new (turn.Phased st) = IsPhaseClosed h n a (shown new) st × ((force_in new).job ≡ None)
+PhaseLeadsTo h n a new (turn.Phased l) =
+    IsPhaseClosed h n a (shown new) (step_to l.told) × ((force_in new).job ≡ None) × IsLeft (standing_in h).state a.answers (force_in new) l
 
 -- a phase that is let in
 abbrev pub PhaseEnters : ℕ → Who → HistoryWithRoom → HistoryWithRoom → PhaseTurn → Type 0
@@ -92,4 +102,4 @@ MayAnswerPhase s (Some j) n x = (n ≡ j.number) × (carries_ended s.state j.boo
 -- a phase that asks on takes no room
 abbrev pub PhaseStaysAway : HistoryWithRoom → HistoryWithRoom → PhaseTurn → Type 0
 PhaseStaysAway old new (turn.Away v x) = new.spare ≡ old.spare
-PhaseStaysAway old new (turn.Phased st) = Unit {0}
+PhaseStaysAway old new (turn.Phased l) = Unit {0}

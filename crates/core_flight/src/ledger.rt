@@ -12,17 +12,21 @@ ghost use Rattle.core_chapter.specs.Closing.{reply_in};
 ghost use Rattle.core_chapter.specs.Numbered.{all_numbered};
 ghost use Rattle.core_flight.specs.Ledger.{GoesBack, LetsIn, MayAnswer, StaysAway, now_in, with_marks};
 ghost use Rattle.core_flight.specs.Operations.{Begins, EntersPhase, IsToldAtEnd, MayPhase, TakesUp};
+ghost use Rattle.core_flight.specs.declared.ledger.PhaseEntry.TheVariants as phase_entry;
 ghost use Rattle.core_flight.specs.Told.{told_last, told_of};
 ghost use Rattle.core_flight.specs.Turn.{force_in};
+ghost use Rattle.core_flight.specs.declared.starving.Aside.TheVariants as kept;
 ghost use Rattle.core_plan.specs.Guests.{HasOwnGuest};
 ghost use Rattle.core_plan.specs.Tidy.{IsTidy};
 
 use crate::away::prepare;
 use crate::begin_turns::{begin, copied, refuse, take_up, takes_it_up};
-use crate::ending::told_at_end;
 use crate::out::Out;
 use crate::phase_out::{Step, prepare_phase};
 use crate::phase_turns::{PhaseTurn, enter_phase, resume_phase};
+use crate::starving::{
+    Aside, Going, going_for, going_for_named, lead, lead_starved, marks_kept, starve, take_told,
+};
 use crate::turns::{Turn, enter, resume};
 use core_chapter::{Chapter, Chronicle, KeptRegistration, LetIn, Underway, exit_event, goes_on};
 use domain_spec::{HeldJobs, Mark};
@@ -32,7 +36,7 @@ use std::marker::Model;
 use std::mem;
 use virt_types::{
     Answer, Ask, Boxed, Call, DomainDef, EndReason, GuestEvent, ListOf, NoMemory, RefusalCode,
-    Reply, State, Transition, TransitionList, Who,
+    Reply, State, Transition, TransitionList, Who, both,
 };
 
 /// What became of a call that was admitted.
@@ -64,8 +68,6 @@ pub enum PhaseEntry {
     Away(Ask),
     /// It is done, and led to this.
     Phased(Step),
-    /// There was no memory even for the answer that there is none, and nothing is left of it.
-    NoMemory,
 }
 
 /// What became of a call, or a phase, whose ask was answered.
@@ -79,26 +81,27 @@ pub enum Back {
     Phased(Step),
 }
 
-/// The history of a chapter, with what is kept of the call, or the phase, that is away. Between two turns
-/// one is open exactly where it is away.
+/// The history of a chapter, with what is kept of the call, or the phase, that is away, and what is set aside for
+/// the operation that is open. Between two turns a call is open exactly where it is away.
 #[derive(Drop)]
 pub struct Ledger {
     chapter: Chapter,
     away: Option<Out>,
+    aside: Aside,
 }
 
 impl Model for Ledger {
-    ghost use Rattle.std.specs.Prelude.{option_map};
+    ghost use Rattle.std.specs.Prelude.{◌-◌, option_map};
     ghost use Rattle.core_chapter.specs.Numbered.{all_numbered};
-    ghost use Rattle.core_flight.specs.Away.{IsOut, course_out};
+    ghost use Rattle.core_flight.specs.Aside.{IsWhole, marks_kept};
+    ghost use Rattle.core_flight.specs.Away.{course_out};
     ghost use Rattle.core_flight.specs.Ledger.{Ledgered};
-    ghost use Rattle.core_flight.specs.Turn.{force_in};
 
     ghost Value = { Ledgered };
 
-    ghost view = { λ l. record { history = record { chapter = l.chapter.history.chapter; base = l.chapter.history.base; marks = all_numbered l.chapter.history.marks }; spare = l.chapter.spare; course = option_map course_out l.away } };
+    ghost view = { λ l. record { history = record { chapter = l.chapter.history.chapter; base = l.chapter.history.base; marks = all_numbered l.chapter.history.marks }; spare = l.chapter.spare - marks_kept l.aside; course = option_map course_out l.away } };
 
-    ghost invariant = { λ l. IsOut (force_in l.chapter) (force_in l.chapter).job l.away };
+    ghost invariant = { λ l. IsWhole l.chapter l.away l.aside };
 }
 
 // No boot's end is left to be marked, a domain without a stored definition has no autostart, and beside
@@ -117,6 +120,13 @@ fn set(slot: &mut Option<Out>, away: Option<Out>)
     ensures { slot.new ≡ away }
 {
     drop(mem::replace(slot, away));
+}
+
+// What this operation needs is set aside.
+fn keep(aside: &mut Aside, going: Going)
+    ensures { aside.new ≡ kept.Going going }
+{
+    drop(mem::replace(aside, Aside::Going(going)));
 }
 
 // What listeners are told by the last of these marks.
@@ -149,6 +159,7 @@ impl Ledger {
             Ok(chapter) => Ok(Ledger {
                 chapter,
                 away: None,
+                aside: Aside::Nothing,
             }),
             Err(e) => Err(e),
         }
@@ -200,17 +211,25 @@ impl Ledger {
         call: &Call,
         boot: Option<u64>,
     ) -> Begun
-        requires room { 3 ≤ self.old.spare }
+        requires room { 7 ≤ self.old.spare }
         requires begins { is_some (begins call.now) ≡ true }
         requires lawful { IsLawful (now_in self.old) (mark.Admit by.number who (job_of call.now) call.now boot) }
         ensures begun { Begins by.number who call.now boot self.old self.new result }
-        ensures spare { self.old.spare ≤ self.new.spare + 3 }
+        ensures spare { self.old.spare ≤ self.new.spare + 7 }
     {
         settled(&self.chapter);
         if goes_on(self.chapter.state(), call, boot) {
+            let going = match going_for_named(alloc, self.chapter.state(), call) {
+                Ok(going) => going,
+                Err(NoMemory) => {
+                    drop(by);
+                    return Begun::NoMemory;
+                }
+            };
             return match begin(&mut self.chapter, alloc, by, who, call, boot) {
                 Ok(()) => {
                     set(&mut self.away, None);
+                    keep(&mut self.aside, going);
                     Begun::GoesOn
                 }
                 Err(NoMemory) => Begun::NoMemory,
@@ -238,16 +257,16 @@ impl Ledger {
         call: &Call,
         boot: Option<u64>,
     ) -> Begun
-        requires room { 3 ≤ self.old.spare }
+        requires room { 7 ≤ self.old.spare }
         requires takes { is_some (takes_up call.now) ≡ true }
         requires lawful { IsLawful (now_in self.old) (mark.Admit by.number who (job_of call.now) call.now boot) }
         ensures begun { TakesUp by.number who call.now boot self.old self.new result }
-        ensures spare { self.old.spare ≤ self.new.spare + 3 }
+        ensures spare { self.old.spare ≤ self.new.spare + 7 }
     {
         settled(&self.chapter);
         if takes_it_up(&self.chapter, call, boot) {
-            let copies = match copied(call) {
-                Ok(copies) => copies,
+            let (copies, going) = match both(copied(call), going_for(alloc, call)) {
+                Ok(made) => made,
                 Err(NoMemory) => {
                     drop(by);
                     return Begun::NoMemory;
@@ -255,6 +274,7 @@ impl Ledger {
             };
             take_up(&mut self.chapter, by, who, call, boot, copies);
             set(&mut self.away, None);
+            keep(&mut self.aside, going);
             return Begun::GoesOn;
         }
         let ready = match prepare(alloc, self.chapter.state(), call, boot) {
@@ -270,8 +290,7 @@ impl Ledger {
     }
 
     /// The due phase of the open operation is let in: it is done at once, or asks somebody. A want of
-    /// memory for what it asks is its one answer; where there is none even for that nothing is left of
-    /// it, and it may be tried again.
+    /// memory for what it needs is its one answer.
     pub fn phase(&mut self, alloc: Global, by: Stamp, who: Who) -> PhaseEntry
         requires room { 3 ≤ self.old.spare }
         requires may { MayPhase (now_in self.old) (now_in self.old).operation by.number who }
@@ -281,20 +300,38 @@ impl Ledger {
         settled(&self.chapter);
         let ready = match prepare_phase(alloc, &self.chapter) {
             Ok(ready) => ready,
-            Err(NoMemory) => {
-                drop(by);
-                return PhaseEntry::NoMemory;
-            }
+            Err(NoMemory) => return PhaseEntry::Phased(self.starve(by, who)),
         };
         match enter_phase(&mut self.chapter, by, who, ready) {
             PhaseTurn::Away(away, ask) => {
                 set(&mut self.away, Some(Out::Phase(away)));
                 PhaseEntry::Away(ask)
             }
-            PhaseTurn::Phased(step) => {
+            PhaseTurn::Phased(left) => {
                 set(&mut self.away, None);
-                PhaseEntry::Phased(step)
+                PhaseEntry::Phased(lead(&mut self.aside, left))
             }
+        }
+    }
+
+    /// The due phase of the open operation is let in without any memory: it asks nothing, and its one answer is that
+    /// there is none. What it leads to ends its operation, or lets it rest, or gives it up next.
+    pub fn starve(&mut self, by: Stamp, who: Who) -> Step
+        requires may { MayPhase (now_in self.old) (now_in self.old).operation by.number who }
+        ensures phased { EntersPhase by.number who self.old self.new (phase_entry.Phased result) }
+        ensures spare { self.old.spare ≤ self.new.spare }
+    {
+        settled(&self.chapter);
+        match mem::replace(&mut self.aside, Aside::Nothing) {
+            Aside::Going(going) => {
+                let Going { first, second, led } = going;
+                let told = starve(&mut self.chapter, by, who, led, first);
+                let (aside, step) = lead_starved(second, told);
+                set(&mut self.away, None);
+                self.aside = aside;
+                step
+            }
+            _ => unreachable!(),
         }
     }
 
@@ -322,7 +359,7 @@ impl Ledger {
                     set(&mut self.away, Some(Out::Phase(away)));
                     Back::Away(ask)
                 }
-                PhaseTurn::Phased(step) => Back::Phased(step),
+                PhaseTurn::Phased(left) => Back::Phased(lead(&mut self.aside, left)),
             },
         }
     }
@@ -407,9 +444,9 @@ impl Ledger {
         self.chapter.event(boot, event, told);
     }
 
-    /// The operation, which is over, ends with the reply to which its last phase led. Its caller is told
-    /// that; where there is no memory for one more copy of it, it is told so. The mark takes none.
-    pub fn end(&mut self, alloc: Global, by: Stamp, who: Who) -> Reply
+    /// The operation, which is over, ends with the reply to which its last phase led, and its caller is told that. It
+    /// takes no memory.
+    pub fn end(&mut self, by: Stamp, who: Who) -> Reply
         requires room { 0 < self.old.spare }
         requires lawful { IsLawful (now_in self.old) (mark.End by.number who (reply_in (now_in self.old).operation)) }
         ensures history { self.new.history ≡ with_marks self.old.history (mark.End by.number who (reply_in (now_in self.old).operation) ∷ []) }
@@ -417,7 +454,7 @@ impl Ledger {
         ensures course { self.new.course ≡ self.old.course }
         ensures spare { self.new.spare + 1 ≡ self.old.spare }
     {
-        let told = told_at_end(alloc, self.chapter.operation());
+        let told = take_told(&mut self.aside);
         self.chapter.end_over(by, who);
         told
     }
@@ -429,7 +466,10 @@ impl Ledger {
         ensures room { OnOk result (marks ≤ self.new.spare) }
         ensures stays { self.old.spare ≤ self.new.spare }
     {
-        self.chapter.reserve(marks)
+        match marks.checked_add(marks_kept(&self.aside)) {
+            None => Err(NoMemory),
+            Some(room) => self.chapter.reserve(room),
+        }
     }
 
     /// The next chapter begins with what is there now, and with who is registered. It has room for so
@@ -447,7 +487,10 @@ impl Ledger {
         ensures room { OnOk result (room ≤ self.new.spare) }
         ensures err { OnErr result (self.new ≡ self.old) }
     {
-        self.chapter.rotate(alloc, registrations, room)
+        match room.checked_add(marks_kept(&self.aside)) {
+            None => Err(NoMemory),
+            Some(room) => self.chapter.rotate(alloc, registrations, room),
+        }
     }
 
     /// The state. No boot's end is left to be marked.

@@ -4,13 +4,13 @@
 
 mod away;
 mod begin_turns;
-mod ending;
 mod laws;
 mod ledger;
 mod out;
 mod phase_laws;
 mod phase_out;
 mod phase_turns;
+mod starving;
 mod turns;
 
 pub use core_chapter::{

@@ -9,7 +9,6 @@ ghost use Rattle.core_plan.specs.PhaseCopying.{plan_after, with_answer};
 ghost use Rattle.core_plan.specs.PhaseGoing.{first_phase};
 ghost use Rattle.core_plan.specs.Below.core_dispatch.Fits.{FitsPhase};
 ghost use Rattle.core_flight.specs.Away.{HasCopyRoom, HasPhaseRooms};
-ghost use Rattle.core_flight.specs.Operations.{IsFirstOf};
 ghost use Rattle.core_flight.specs.PhaseTurn.{IsMadeFor, IsPhaseReady, IsReadyFor, IsUnderway};
 ghost use Rattle.core_flight.specs.Turn.{force_in};
 
@@ -19,17 +18,17 @@ use core_plan::{Course, PhaseParts, phase_course_of, phase_parts};
 use core_rules::{StateRoom, live_boot};
 use domain_spec::OpenOperation;
 use std::alloc::Global;
-use virt_types::{Answer, Bytes, Call, NoMemory, State, TransitionList, TryCopy, both};
+use virt_types::{Answer, Bytes, Call, NoMemory, Reply, State, TransitionList, TryCopy, both};
 
 /// What a phase led to.
-#[derive(Clone, Copy, Debug, PartialEq, Eq)]
+#[derive(Drop)]
 pub enum Step {
     /// Another phase is due.
     On,
     /// The operation is over, and can end.
     Over,
-    /// The operation rests until a call takes it up.
-    Rest,
+    /// The operation rests until a call takes it up. The call that came so far is told this.
+    Rest(Reply),
 }
 
 /// What is kept of a phase that waits for an answer: what it asks and was answered, what its Phase needs,
@@ -125,36 +124,18 @@ fn planned(
     }
 }
 
-// The course of the due phase; where there is no memory for it that is its one answer.
-fn first(
-    alloc: Global,
-    state: &State,
-    operation: &OpenOperation,
-) -> Result<(Course, Option<StateRoom>), NoMemory>
-    ensures course { IfOk result (λ made. IsFirstOf state.now operation.now made.0) }
-    ensures copy { IfOk result (λ made. HasCopyRoom made.0.answers made.0.plan made.1) }
-{
-    match planned(alloc, state, operation) {
-        Ok(made) => Ok(made),
-        Err(NoMemory) => match Course::unasked(alloc) {
-            Ok(course) => Ok((course, None)),
-            Err(e) => Err(e),
-        },
-    }
-}
-
 // What the Phase needs, and its course.
-fn first_and_parts(
+fn planned_and_parts(
     alloc: Global,
     state: &State,
     operation: &OpenOperation,
 ) -> Result<((Course, Option<StateRoom>), PhaseParts), NoMemory>
-    ensures course { IfOk result (λ made. IsFirstOf state.now operation.now made.0.0) }
+    ensures course { IfOk result (λ made. made.0.0 ≡ first_phase state.now operation.now) }
     ensures copy { IfOk result (λ made. HasCopyRoom made.0.0.answers made.0.0.plan made.0.1) }
     ensures parts { IfOk result (λ made. FitsPhase made.1 state.now operation.now) }
 {
     both(
-        first(alloc, state, operation),
+        planned(alloc, state, operation),
         phase_parts(alloc, state, operation),
     )
 }
@@ -168,7 +149,7 @@ impl PhaseOut {
     ) -> Result<PhaseOut, NoMemory>
         ensures { IfOk result (IsMadeFor state.now operation.now) }
     {
-        match both(first_and_parts(alloc, state, operation), rooms(alloc)) {
+        match both(planned_and_parts(alloc, state, operation), rooms(alloc)) {
             Ok((((course, copy), parts), (told, end))) => Ok(PhaseOut {
                 course,
                 parts,

@@ -1,19 +1,20 @@
 // The turns of an open phase, over the chapter.
-ghost use Rattle.std.specs.Prelude.{◌≡◌, ◌≤◌, ◌+◌, ◌++◌, None, Some};
+ghost use Rattle.std.specs.Prelude.{◌≡◌, ◌≤◌, ◌+◌, ◌++◌, None, Some, option_map};
 ghost use Rattle.core_plan.specs.AwayLaws.{made};
-ghost use Rattle.core_chapter.specs.Closing.{CanPhase, phased_in};
+ghost use Rattle.core_plan.specs.GivingUp.{why_given_up};
+ghost use Rattle.core_rules.specs.Reasons.{refusal_for};
+ghost use Rattle.core_chapter.specs.Closing.{CanPhase, HasLedTo, phased_in};
 ghost use Rattle.core_flight.specs.Away.{HasPhaseRooms, IsOut};
-ghost use Rattle.core_flight.specs.Ledger.{step_in, step_to};
 ghost use Rattle.core_flight.specs.Operations.{MayPhase};
 ghost use Rattle.core_flight.specs.PhaseTurn.{CanPhaseOn, IsPhaseReady, MayAnswerPhase, PhaseEnters, PhaseResumes, PhaseStaysAway, PhaseTurnsTo, phase_is_over};
 ghost use Rattle.core_flight.specs.Turn.{force_in};
 ghost use Rattle.core_flight.specs.declared.out.Out.TheVariants as out;
 ghost use Rattle.core_plan.specs.Guests.{HasOwnGuest};
 
-use crate::phase_out::{PhaseOut, PhaseReady, Step};
-use core_chapter::{Chapter, Underway};
+use crate::phase_out::{PhaseOut, PhaseReady};
+use crate::starving::Left;
+use core_chapter::{Chapter, why_given_up};
 use core_rules::carries_ended;
-use domain_spec::Outcome;
 use history_spec::Stamp;
 use virt_types::{Answer, Ask, Job, Who};
 
@@ -23,35 +24,17 @@ pub enum PhaseTurn {
     /// It asks this.
     Away(PhaseOut, Ask),
     /// It is done, and led to this.
-    Phased(Step),
-}
-
-fn step_to(outcome: &Outcome) -> Step
-    ensures { result ≡ step_to outcome.now }
-{
-    match outcome {
-        Outcome::On(_) => Step::On,
-        Outcome::Over(_) => Step::Over,
-        Outcome::Rest(_) => Step::Rest,
-    }
-}
-
-fn step_in(operation: &Option<Underway>) -> Step
-    ensures { result ≡ step_in operation.now }
-{
-    match operation {
-        None => Step::Over,
-        Some(operation) => step_to(operation.outcome()),
-    }
+    Phased(Left),
 }
 
 // The open phase is done with what its course made.
-fn close(chapter: &mut Chapter, by: Stamp, away: PhaseOut) -> Step
+fn close(chapter: &mut Chapter, by: Stamp, away: PhaseOut) -> Left
     requires room { 2 ≤ chapter.old.spare }
     requires rooms { HasPhaseRooms away }
     requires can { CanPhase (force_in chapter.old) (force_in chapter.old).operation away.parts by (made away.course) away.course.answers }
     ensures history { chapter.new.history ≡ record chapter.old.history { marks = chapter.old.history.marks ++ phased_in (force_in chapter.old) by (made away.course) away.course.answers } }
-    ensures step { result ≡ step_in (force_in chapter.new).operation }
+    ensures told { HasLedTo (force_in chapter.new).operation result.told }
+    ensures why { option_map refusal_for result.why ≡ why_given_up (force_in chapter.old).state away.course.answers }
     ensures spare { chapter.old.spare ≤ chapter.new.spare + 2 }
 {
     let PhaseOut {
@@ -63,8 +46,9 @@ fn close(chapter: &mut Chapter, by: Stamp, away: PhaseOut) -> Step
     } = away;
     drop(copy);
     let (asks, answers) = course.into_lists();
-    chapter.phase(by, asks, answers, parts, told, end);
-    step_in(chapter.operation())
+    let why = why_given_up(chapter.state(), answers.as_slice());
+    let told = chapter.phase(by, asks, answers, parts, told, end);
+    Left { told, why }
 }
 
 // The open phase asks what is next, or is done where nothing is.

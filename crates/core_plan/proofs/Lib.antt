@@ -11,7 +11,9 @@ pub mod Planning
 pub mod Probing
 pub mod Staying
 pub mod Writing
+pub use Rattle.core_mark_laws.proofs.KeptOps
 pub use Rattle.core_mark_laws.proofs.OwnGuests
+pub use Rattle.core_mark_laws.proofs.PhasesGoOn
 pub use Rattle.core_mark_laws.proofs.StoredPlans
 pub use Rattle.core_mark_laws.proofs.TidyCalls
 pub use Rattle.core_mark_laws.proofs.TidyMarks

@@ -11,5 +11,6 @@ pub mod PhaseLaws
 pub mod PhaseProbing
 pub mod Probing
 pub mod Starving
+pub use Rattle.core_mark_laws.specs.GivingUp
 pub use Rattle.core_mark_laws.specs.Guests
 pub use Rattle.core_mark_laws.specs.Tidy

@@ -1,7 +1,6 @@
 // The course of a call: what it asks, and what it was answered so far.
-ghost use Rattle.std.specs.Prelude.{◌≡◌, ◌∷◌, [], IfOk, OnErr, is_some, slice_get, true};
+ghost use Rattle.std.specs.Prelude.{◌≡◌, [], IfOk, OnErr, is_some, slice_get, true};
 ghost use Rattle.domain_spec.specs.Asks.{asks_left, asks_made, plain};
-ghost use Rattle.domain_spec.specs.Types.answer;
 ghost use Rattle.core_rules.specs.Next.{at_most, is_ask, next_if, next_of};
 ghost use Rattle.core_rules.specs.Place.{next_at, planned_at, undo_step};
 ghost use Rattle.core_plan.specs.Along.{answered};
@@ -69,20 +68,6 @@ impl Course {
         Ok(Course {
             plan,
             made,
-            answers,
-        })
-    }
-
-    /// The course of a phase that found no memory before its first ask: it asks nothing, and that is its
-    /// one answer.
-    pub fn unasked(alloc: Global) -> Result<Course, NoMemory>
-        ensures { IfOk result (λ course. course ≡ record { plan = []; answers = answer.NoMemory ∷ [] }) }
-    {
-        let mut answers = RoomyList::with_room(alloc, 1)?;
-        answers.push(Answer::NoMemory);
-        Ok(Course {
-            plan: VecDeque::new(alloc),
-            made: Vec::new(alloc),
             answers,
         })
     }

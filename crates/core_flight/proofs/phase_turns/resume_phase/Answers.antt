@@ -32,7 +32,7 @@ pub returns-then-is_over-clause-turn : goal.returns-then-is_over-clause-turn
 returns-then-is_over-clause-turn c =
     let a = c.args in
     resumed_ends a.chapter.now c.close.new.chapter a.away c.answer.new.self a.by a.answer c.close.result c.requires.lost c.requires.out c.requires.may (sym c.is_over.ensures ∙ c.if-is_over.true)
-    c.answer.ensures.course c.answer.ensures.parts c.close.ensures.history c.close.ensures.step
+    c.answer.ensures.course c.answer.ensures.parts c.close.ensures.history (record { told = c.close.ensures.told; why = c.close.ensures.why })
 
 pub returns-else-is_over-clause-turn : goal.returns-else-is_over-clause-turn
 returns-else-is_over-clause-turn c =
