@@ -1,3 +1,6 @@
+pub mod Books
+pub mod Chapters
+pub mod Entries
 pub mod Leases
 pub mod ListCalls
 pub mod ListHistory

@@ -1,13 +1,13 @@
 -- The history of the list of domains: the slots with which the chapter began, and a mark for each call.
-use Rattle.std.specs.Prelude.{◌≡◌, ℕ, ◌+◌, ◌++◌, nat_lt, List, [], ◌∷◌, length, Result, Ok, Err, if◌then◌else◌}
+use Rattle.std.specs.Prelude.{◌≡◌, ℕ, Result, Ok, Err}
 use Rattle.std.specs.List.{fold}
 use Rattle.history_spec.specs.declared.history.History.{History}
-use Rattle.virt_types.specs.Memory.{UnlessNoMemory}
 use Rattle.virt_types.specs.Below.types_base.declared.memory.OrNoMemory.{OrNoMemory}
 use Rattle.virt_types.specs.Below.types_base.declared.memory.OrNoMemory.TheVariants.{Fault, NoMemory}
 use Rattle.book_spec.specs.declared.list.ListCall.{ListCall}
 use Rattle.book_spec.specs.declared.list.ListFault.{ListFault}
 use Rattle.book_spec.specs.declared.list.ListMark.{ListMark}
+use Rattle.book_spec.specs.Chapters.{open_with, with_mark}
 use Rattle.book_spec.specs.Slots.{Slots}
 use Rattle.book_spec.specs.ListCalls.{answer, slots_after}
 
@@ -22,17 +22,13 @@ marked slots mark = slots_after mark.number mark.call mark.answer slots
 unfoldable pub slots_of : ListHistory → Slots
 slots_of h = fold marked h.base h.marks
 
--- a chapter may end once it holds as many marks
-abbrev pub most_marks : ℕ
-most_marks = 4096
-
 -- the chapter in which a hold or a claim leaves its mark: the present one, or where that is long the next
-unfoldable pub open_chapter : ListHistory → ListHistory
-open_chapter h = if nat_lt (length h.marks) most_marks then h else record { chapter = h.chapter + 1; base = slots_of h; marks = [] }
+abbrev pub open_chapter : ListHistory → ListHistory
+open_chapter h = open_with (slots_of h) h
 
 -- one mark more, of this call as the slots have it
-unfoldable pub with_call : ℕ → ListCall → ListHistory → ListHistory
-with_call number call h = record h { marks = h.marks ++ record { number = number; call = call; answer = answer call (slots_of h) } ∷ [] }
+abbrev pub with_call : ℕ → ListCall → ListHistory → ListHistory
+with_call number call h = with_mark (record { number = number; call = call; answer = answer call (slots_of h) }) h
 
 -- a call that was answered so left its mark; where there was no memory it left none
 abbrev pub LeavesMark : {A : Type 0} → ℕ → ListCall → Result A (OrNoMemory ListFault) → ListHistory → ListHistory → Type 0

@@ -11,7 +11,8 @@ use Rattle.book_spec.specs.declared.book.NetCall.TheVariants as call
 use Rattle.book_spec.specs.declared.book.NetAnswer.{NetAnswer}
 use Rattle.book_spec.specs.declared.book.NetAnswer.TheVariants.{Done, Leased, NotLeased, Refused}
 use Rattle.book_spec.specs.declared.book.LeaseFault.TheVariants.{Class}
-use Rattle.book_spec.specs.Networks.{Networks, most_networks, identifier, name_of, uuid_of, network_of, new_network, with_changed, without}
+use Rattle.book_spec.specs.Entries.{entry_of, with_changed, without}
+use Rattle.book_spec.specs.Networks.{Networks, most_networks, identifier, name_of, uuid_of, new_network}
 use Rattle.book_spec.specs.Leases.{address_for, with_lease}
 
 -- there is no such network: kept is the identifier that was asked for
@@ -32,10 +33,6 @@ is_inactive = record { code = code.OperationInvalid; kept = codes "inactive" }
 -- the book is full: kept is how many networks it has at most
 abbrev pub book_full : Refusal
 book_full = record { code = code.ListFull; kept = decimal most_networks }
-
--- there was no memory
-abbrev pub no_memory : Refusal
-no_memory = record { code = code.NoMemory; kept = [] }
 
 -- a call that needs the network to be there, to be inactive, or to be active
 abbrev pub if_there : List ℕ → Option Network → NetAnswer
@@ -74,12 +71,12 @@ leased_in mac (Some network) = if network.active then leased (address_for mac ne
 
 -- what a call is answered
 unfoldable pub answer : NetCall → Networks → NetAnswer
-answer (call.Define def) networks = defined (identifier def) networks (network_of name_of def.name networks) (network_of uuid_of (identifier def) networks)
-answer (call.Undefine uuid) networks = if_inactive uuid (network_of uuid_of uuid networks)
-answer (call.Autostart uuid on) networks = if_there uuid (network_of uuid_of uuid networks)
-answer (call.Start uuid) networks = if_inactive uuid (network_of uuid_of uuid networks)
-answer (call.Stop uuid) networks = if_active uuid (network_of uuid_of uuid networks)
-answer (call.Lease network mac) networks = leased_in mac (network_of name_of network networks)
+answer (call.Define def) networks = defined (identifier def) networks (entry_of name_of def.name networks) (entry_of uuid_of (identifier def) networks)
+answer (call.Undefine uuid) networks = if_inactive uuid (entry_of uuid_of uuid networks)
+answer (call.Autostart uuid on) networks = if_there uuid (entry_of uuid_of uuid networks)
+answer (call.Start uuid) networks = if_inactive uuid (entry_of uuid_of uuid networks)
+answer (call.Stop uuid) networks = if_active uuid (entry_of uuid_of uuid networks)
+answer (call.Lease network mac) networks = leased_in mac (entry_of name_of network networks)
 
 -- the network with another definition: it keeps whether it is started with the daemon
 abbrev pub with_def : NetDef → Network → Network
@@ -88,7 +85,7 @@ with_def def network = record (new_network def) { autostart = network.autostart 
 -- a network of that identifier has this definition now
 abbrev pub with_network : NetDef → Networks → Networks
 with_network def networks =
-    if is_some (network_of uuid_of (identifier def) networks) then with_changed uuid_of (identifier def) (with_def def) networks
+    if is_some (entry_of uuid_of (identifier def) networks) then with_changed uuid_of (identifier def) (with_def def) networks
     else networks ++ new_network def ∷ []
 
 abbrev pub with_autostart : Bool → Network → Network
@@ -103,16 +100,9 @@ stopped network = record network { active = false; leases = [] }
 -- the book after a call that was answered so: it changes where the call is done, or an address is leased
 unfoldable pub networks_after : NetCall → NetAnswer → Networks → Networks
 networks_after (call.Define def) Done networks = with_network def networks
-networks_after (call.Undefine uuid) Done networks = without uuid networks
+networks_after (call.Undefine uuid) Done networks = without uuid_of uuid networks
 networks_after (call.Autostart uuid on) Done networks = with_changed uuid_of uuid (with_autostart on) networks
 networks_after (call.Start uuid) Done networks = with_changed uuid_of uuid started networks
 networks_after (call.Stop uuid) Done networks = with_changed uuid_of uuid stopped networks
 networks_after (call.Lease network mac) (Leased address) networks = with_changed name_of network (with_lease mac address) networks
 networks_after other given networks = networks
-
--- the calls whose change goes through the store before they are done
-abbrev pub IsStored : NetCall → Type 0
-IsStored (call.Define def) = Unit {0}
-IsStored (call.Undefine uuid) = Unit {0}
-IsStored (call.Autostart uuid on) = Unit {0}
-IsStored other = ⊥

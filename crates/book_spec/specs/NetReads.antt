@@ -1,5 +1,5 @@
 -- What is read of the book of networks.
-use Rattle.std.specs.Prelude.{◌≡◌, ◌⊎◌, ℕ, List, map, Option, None, Some, Result, Ok, Err}
+use Rattle.std.specs.Prelude.{ℕ, List, map, Option, None, Some, Result, Ok, Err}
 use Rattle.std.specs.Cmp.Lexicographic.{slice_cmp}
 use Rattle.std.specs.Ordering.{is_lt, nat_cmp}
 use Rattle.std.specs.List.Sorted.{IsPermutation, IsSortedBy, IsNonDecreasingBy}
@@ -9,7 +9,7 @@ use Rattle.virt_types.specs.declared.value.LeaseRow.{LeaseRow}
 use Rattle.book_spec.specs.declared.book.Network.{Network}
 use Rattle.book_spec.specs.declared.rows.NetRow.{NetRow}
 use Rattle.book_spec.specs.Networks.{Networks, uuid_of, name_of}
-use Rattle.book_spec.specs.NetCalls.{no_network, no_memory}
+use Rattle.book_spec.specs.NetCalls.{no_network}
 
 abbrev pub row_of : Network → NetRow
 row_of network = record { name = name_of network; uuid = uuid_of network; active = network.active }
@@ -24,15 +24,12 @@ pub record AreInOrder (leases rows : List LeaseRow) : Type 0 where
   pub same : IsPermutation leases rows
   pub rising : IsNonDecreasingBy (λ lease. lease.address) rows
 
-abbrev pub AreLeases : Network → List LeaseRow → Type 0
-AreLeases network rows = AreInOrder network.leases rows
+-- the definition of the network of this identifier
+abbrev pub described : List ℕ → Option Network → Result NetDef Refusal
+described uuid None = Err (no_network uuid)
+described uuid (Some network) = Ok network.def
 
-abbrev pub IsDescribed : Network → NetDef → Type 0
-IsDescribed network def = def ≡ network.def
-
--- what is read of the network of this identifier, or that there is none; or there was no memory
-abbrev pub IsReadOf : {A : Type 0} → (Network → A → Type 0) → List ℕ → Option Network → Result A Refusal → Type 0
-IsReadOf Is uuid (Some network) (Ok value) = Is network value
-IsReadOf Is uuid None (Ok value) = ⊥
-IsReadOf Is uuid (Some network) (Err refusal) = refusal ≡ no_memory
-IsReadOf Is uuid None (Err refusal) = (refusal ≡ no_network uuid) ⊎ (refusal ≡ no_memory)
+-- its leases
+abbrev pub leases_in : List ℕ → Option Network → Result (List LeaseRow) Refusal
+leases_in uuid None = Err (no_network uuid)
+leases_in uuid (Some network) = Ok network.leases

@@ -10,7 +10,8 @@ use Rattle.book_spec.specs.declared.pool_book.PoolCall.{PoolCall}
 use Rattle.book_spec.specs.declared.pool_book.PoolCall.TheVariants as call
 use Rattle.book_spec.specs.declared.pool_book.PoolAnswer.{PoolAnswer}
 use Rattle.book_spec.specs.declared.pool_book.PoolAnswer.TheVariants.{Done, Refused}
-use Rattle.book_spec.specs.Pools.{Pools, most_pools, identifier, name_of, uuid_of, pool_of, new_pool, with_changed, without}
+use Rattle.book_spec.specs.Entries.{entry_of, with_changed, without}
+use Rattle.book_spec.specs.Pools.{Pools, most_pools, identifier, name_of, uuid_of, new_pool}
 use Rattle.book_spec.specs.Volumes.{most_volumes, volume_of, allocated_with, with_volume, with_dropped}
 
 -- there is no such pool: kept is the identifier that was asked for
@@ -42,10 +43,6 @@ volume_exists name = record { code = code.VolumeExists; kept = name }
 -- the volumes would take more bytes than the pool has: kept are both numbers
 abbrev pub too_large : ℕ → ℕ → Refusal
 too_large sum capacity = record { code = code.InvalidArgument; kept = decimal sum ++ codes " " ++ decimal capacity }
-
--- there was no memory
-abbrev pub no_memory : Refusal
-no_memory = record { code = code.NoMemory; kept = [] }
 
 -- a call that needs the pool to be there, to be inactive, or to be active
 abbrev pub if_there : List ℕ → Option Pool → PoolAnswer
@@ -96,13 +93,13 @@ in_active uuid given (Some pool) = if pool.active then given pool else Refused i
 
 -- what a call is answered
 unfoldable pub answer : PoolCall → Pools → PoolAnswer
-answer (call.Define def) pools = defined (identifier def) pools (pool_of name_of def.name pools) (pool_of uuid_of (identifier def) pools)
-answer (call.Undefine uuid) pools = if_inactive uuid (pool_of uuid_of uuid pools)
-answer (call.Autostart uuid on) pools = if_there uuid (pool_of uuid_of uuid pools)
-answer (call.Start uuid) pools = if_inactive uuid (pool_of uuid_of uuid pools)
-answer (call.Stop uuid) pools = if_active uuid (pool_of uuid_of uuid pools)
-answer (call.MakeVolume uuid def) pools = in_active uuid (made def) (pool_of uuid_of uuid pools)
-answer (call.DropVolume uuid name) pools = in_active uuid (dropped name) (pool_of uuid_of uuid pools)
+answer (call.Define def) pools = defined (identifier def) pools (entry_of name_of def.name pools) (entry_of uuid_of (identifier def) pools)
+answer (call.Undefine uuid) pools = if_inactive uuid (entry_of uuid_of uuid pools)
+answer (call.Autostart uuid on) pools = if_there uuid (entry_of uuid_of uuid pools)
+answer (call.Start uuid) pools = if_inactive uuid (entry_of uuid_of uuid pools)
+answer (call.Stop uuid) pools = if_active uuid (entry_of uuid_of uuid pools)
+answer (call.MakeVolume uuid def) pools = in_active uuid (made def) (entry_of uuid_of uuid pools)
+answer (call.DropVolume uuid name) pools = in_active uuid (dropped name) (entry_of uuid_of uuid pools)
 
 -- a pool with another definition: it keeps its volumes, and whether it is started with the daemon
 abbrev pub with_def : PoolDef → Pool → Pool
@@ -111,7 +108,7 @@ with_def def pool = record pool { def = def }
 -- a pool of that identifier has this definition now
 abbrev pub with_pool : PoolDef → Pools → Pools
 with_pool def pools =
-    if is_some (pool_of uuid_of (identifier def) pools) then with_changed uuid_of (identifier def) (with_def def) pools
+    if is_some (entry_of uuid_of (identifier def) pools) then with_changed uuid_of (identifier def) (with_def def) pools
     else pools ++ new_pool def ∷ []
 
 abbrev pub with_autostart : Bool → Pool → Pool
@@ -123,7 +120,7 @@ with_active on pool = record pool { active = on }
 -- the book after a call that was done
 abbrev pub done_after : PoolCall → Pools → Pools
 done_after (call.Define def) pools = with_pool def pools
-done_after (call.Undefine uuid) pools = without uuid pools
+done_after (call.Undefine uuid) pools = without uuid_of uuid pools
 done_after (call.Autostart uuid on) pools = with_changed uuid_of uuid (with_autostart on) pools
 done_after (call.Start uuid) pools = with_changed uuid_of uuid (with_active true) pools
 done_after (call.Stop uuid) pools = with_changed uuid_of uuid (with_active false) pools
@@ -134,10 +131,3 @@ done_after (call.DropVolume uuid name) pools = with_changed uuid_of uuid (with_d
 unfoldable pub pools_after : PoolCall → PoolAnswer → Pools → Pools
 pools_after c Done pools = done_after c pools
 pools_after c (Refused refusal) pools = pools
-
--- the calls whose change goes through the store before they are done
-abbrev pub IsStored : PoolCall → Type 0
-IsStored (call.Define def) = Unit {0}
-IsStored (call.Undefine uuid) = Unit {0}
-IsStored (call.Autostart uuid on) = Unit {0}
-IsStored other = ⊥

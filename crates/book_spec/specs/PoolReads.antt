@@ -1,5 +1,5 @@
 -- What is read of the book of pools.
-use Rattle.std.specs.Prelude.{◌≡◌, ◌⊎◌, ℕ, if◌then◌else◌, List, map, Option, None, Some, Result, Ok, Err}
+use Rattle.std.specs.Prelude.{ℕ, if◌then◌else◌, List, map, Option, None, Some, Result, Ok, Err}
 use Rattle.std.specs.Cmp.Lexicographic.{slice_cmp}
 use Rattle.std.specs.Ordering.{is_lt, nat_cmp}
 use Rattle.std.specs.List.Sorted.{IsPermutation, IsSorted, IsSortedBy}
@@ -9,7 +9,7 @@ use Rattle.virt_types.specs.Below.types_base.declared.refusal.Refusal.{Refusal}
 use Rattle.virt_types.specs.declared.value.PoolRow.{PoolRow}
 use Rattle.book_spec.specs.declared.pool_book.Pool.{Pool}
 use Rattle.book_spec.specs.Pools.{Pools, uuid_of, name_of}
-use Rattle.book_spec.specs.PoolCalls.{no_pool, no_volume, no_memory, is_inactive}
+use Rattle.book_spec.specs.PoolCalls.{no_pool, no_volume, is_inactive}
 use Rattle.book_spec.specs.Volumes.{volume_of}
 
 abbrev pub row_of : Pool → PoolRow
@@ -43,10 +43,3 @@ found name (Some volume) = Ok volume
 abbrev pub volume_in : List ℕ → Result (List VolDef) Refusal → Result VolDef Refusal
 volume_in name (Ok volumes) = found name (volume_of name volumes)
 volume_in name (Err refusal) = Err refusal
-
--- what is read, or why there is nothing to read; or there was no memory
-abbrev pub IsRead : {A B : Type 0} → (B → A → Type 0) → Result B Refusal → Result A Refusal → Type 0
-IsRead Is (Ok there) (Ok value) = Is there value
-IsRead Is (Err refusal) (Ok value) = ⊥
-IsRead Is (Ok there) (Err refusal) = refusal ≡ no_memory
-IsRead Is (Err why) (Err refusal) = (refusal ≡ why) ⊎ (refusal ≡ no_memory)

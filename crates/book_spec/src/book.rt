@@ -62,13 +62,3 @@ pub enum NetAnswer {
     /// It was refused.
     Refused(Refusal),
 }
-
-/// A call with what it was answered, in the turn of the pass of this number. No value of it is made.
-pub struct NetMark {
-    /// The number of the pass.
-    pub number: u64,
-    /// The call.
-    pub call: NetCall,
-    /// The answer.
-    pub answer: NetAnswer,
-}

@@ -57,13 +57,3 @@ pub enum PoolAnswer {
     /// It was refused.
     Refused(Refusal),
 }
-
-/// A call with what it was answered, in the turn of the pass of this number. No value of it is made.
-pub struct PoolMark {
-    /// The number of the pass.
-    pub number: u64,
-    /// The call.
-    pub call: PoolCall,
-    /// The answer.
-    pub answer: PoolAnswer,
-}

@@ -1,0 +1,5 @@
+pub mod Chapters
+pub mod Calling
+pub mod Turning
+pub mod Reading
+pub mod Places
