@@ -2,5 +2,4 @@ pub mod Index
 pub mod Entries
 pub mod Answers
 pub mod Opening
-pub mod Keeping
-pub mod Turns
+pub mod Laws

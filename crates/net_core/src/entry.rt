@@ -1,9 +1,10 @@
 // A network of the book.
 ghost use Rattle.std.specs.Prelude.{◌≡◌, option_copied, None, Some, OnOk, OnErr, IfOk};
-ghost use Rattle.book_spec.specs.Networks.{has, identifier, name_of, new_network, uuid_of};
+ghost use Rattle.book_spec.specs.Entries.{has};
+ghost use Rattle.book_spec.specs.Networks.{identifier, name_of, new_network, uuid_of};
 ghost use Rattle.book_spec.specs.Leases.{address_for, dhcp_of, hosts_of, leased_to, least_free, lines_of, range_of, bounds_of, with_lease};
 ghost use Rattle.book_spec.specs.NetCalls.{started, stopped, with_autostart, with_def};
-ghost use Rattle.book_spec.specs.NetReads.{AreLeases, row_of};
+ghost use Rattle.book_spec.specs.NetReads.{AreInOrder, row_of};
 ghost use Rattle.net_core.specs.Entries.{Begins, with_address};
 
 use crate::hosts::{address_of, first_without_line, is_host_address};
@@ -139,7 +140,7 @@ impl Entry {
     }
 
     pub(crate) fn leases(&self) -> Result<LeaseRowList, NoMemory>
-        ensures { IfOk result (AreLeases self.now) }
+        ensures { IfOk result (AreInOrder self.now.leases) }
     {
         self.leases.in_order()
     }

@@ -1,23 +1,17 @@
 //! The book of networks: which are there, and which addresses they lease. Threads change it in turns, and each call is one mark.
 #![tactic(auto)]
 
-mod book;
-mod chronicle;
+mod asks;
 mod entry;
 mod found;
 mod hosts;
-mod kept;
 mod leases;
 mod mac_index;
-mod marking;
+mod opening;
 mod refusals;
-mod story;
 mod table;
-mod turns;
 
-pub use book::NetBook;
+pub use asks::{Autostart, Define, Lease, Start, Stop, Undefine};
 pub use found::{FoundNetwork, FoundNetworkList};
-pub use turns::{
-    NetPass, NetTurn, autostart_in, define_in, lease, lease_in, may_autostart_in, may_define_in,
-    may_undefine_in, refuse_in, start, start_in, stop, stop_in, undefine_in,
-};
+pub use opening::{NetBook, open};
+pub use table::NetTable;

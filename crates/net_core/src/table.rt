@@ -2,20 +2,25 @@
 ghost use Rattle.std.specs.Prelude.{◌≡◌, Bool, map, option_copied, IfOk, position};
 ghost use Rattle.book_spec.specs.declared.book.NetAnswer.TheVariants.{Done};
 ghost use Rattle.book_spec.specs.declared.book.NetCall.TheVariants as call;
-ghost use Rattle.book_spec.specs.Networks.{has, name_of, network_of, uuid_of, with_changed, without};
+ghost use Rattle.book_spec.specs.Books.{IsRead, IsSame};
+ghost use Rattle.book_spec.specs.Entries.{entry_of, has, with_changed, without};
+ghost use Rattle.book_spec.specs.Networks.{name_of, uuid_of};
 ghost use Rattle.book_spec.specs.NetCalls.{answer, if_active, if_inactive, if_there, networks_after, redefined, started, stopped, with_autostart, with_network};
-ghost use Rattle.book_spec.specs.NetReads.{AreLeases, AreRows, IsDescribed, row_of};
-ghost use Rattle.net_core.specs.Answers.{IsFoundOf, LeaseTakesEffect, TakesEffect, Tells, TellsLease};
+ghost use Rattle.book_spec.specs.NetHistory.{told};
+ghost use Rattle.book_spec.specs.NetReads.{AreInOrder, AreRows, described, leases_in, row_of};
+ghost use Rattle.turn_book.specs.Answers.{IsFound, OnDone, Tells};
+ghost use Rattle.net_core.specs.Answers.{LeaseTakesEffect, TellsLease};
 ghost use Rattle.net_core.specs.Opening.{opened};
 
 use crate::entry::{Entry, identifier};
 use crate::found::FoundNetworkList;
 use crate::refusals::{
-    Tested, book_full, is_active, is_inactive, missing, name_exists, no_network, uuid_exists,
+    book_full, is_active, is_inactive, missing, name_exists, no_network, uuid_exists,
 };
-use book_spec::{LeaseFault, NetRow, NetRowList};
+use book_spec::{LeaseFault, NetAnswer, NetCall, NetRow, NetRowList, Networks};
 use std::alloc::Global;
 use std::marker::Model;
+use turn_book::{Table, Tested, plain};
 use virt_types::{LeaseRowList, ListOf, Mac, NetDef, NoMemory, OrNoMemory, Refusal, TryCopy, Uuid};
 
 /// At most as many networks are in the book.
@@ -24,11 +29,11 @@ const MOST_NETWORKS: usize = 64;
 /// The networks, in the order in which they were first defined. It has room for as many as there
 /// may be.
 #[derive(Drop)]
-pub struct Table {
+pub struct NetTable {
     entries: Vec<Entry>,
 }
 
-impl Model for Table {
+impl Model for NetTable {
     ghost use Rattle.std.specs.Prelude.{◌≤◌, vec_capacity};
     ghost use Rattle.book_spec.specs.Networks.{Networks};
 
@@ -37,6 +42,30 @@ impl Model for Table {
     ghost view = { λ t. t.entries.items };
 
     ghost invariant = { λ t. 64 ≤ vec_capacity t.entries };
+}
+
+impl Table for NetTable {
+    ghost use Rattle.std.specs.Prelude.{[]};
+    ghost use Rattle.book_spec.specs.NetHistory.{rules};
+    ghost use Rattle.net_core.specs.Laws.{refused_changes_nothing};
+
+    type State = Networks;
+
+    type Call = NetCall;
+
+    type Answer = NetAnswer;
+
+    ghost rules = { rules };
+
+    ghost state = { λ table. table };
+
+    ghost empty = { [] };
+
+    fn alloc(&self) -> Global {
+        *self.entries.allocator()
+    }
+
+    ghost refused_changes_nothing = { refused_changes_nothing };
 }
 
 fn place_of_name(entries: &[Entry], name: &[u8]) -> Option<usize>
@@ -52,7 +81,7 @@ fn place_of_uuid(entries: &[Entry], uuid: Uuid) -> Option<usize>
 }
 
 fn entry_of_name<'a>(entries: &'a [Entry], name: &[u8]) -> Option<&'a Entry>
-    ensures { option_copied result ≡ network_of name_of name.now entries.now }
+    ensures { option_copied result ≡ entry_of name_of name.now entries.now }
 {
     match place_of_name(entries, name) {
         None => None,
@@ -61,7 +90,7 @@ fn entry_of_name<'a>(entries: &'a [Entry], name: &[u8]) -> Option<&'a Entry>
 }
 
 fn entry_of_uuid(entries: &[Entry], uuid: Uuid) -> Option<&Entry>
-    ensures { option_copied result ≡ network_of uuid_of uuid entries.now }
+    ensures { option_copied result ≡ entry_of uuid_of uuid entries.now }
 {
     match place_of_uuid(entries, uuid) {
         None => None,
@@ -71,7 +100,7 @@ fn entry_of_uuid(entries: &[Entry], uuid: Uuid) -> Option<&Entry>
 
 // The network has to be there.
 fn test_there(alloc: Global, found: Option<&Entry>, uuid: Uuid) -> Tested
-    ensures { Tells result (if_there uuid (option_copied found.entry)) }
+    ensures { Tells told result (if_there uuid (option_copied found.entry)) }
 {
     match found {
         None => no_network(alloc, uuid),
@@ -81,7 +110,7 @@ fn test_there(alloc: Global, found: Option<&Entry>, uuid: Uuid) -> Tested
 
 // The network has to be there and inactive.
 fn test_inactive(alloc: Global, found: Option<&Entry>, uuid: Uuid) -> Tested
-    ensures { Tells result (if_inactive uuid (option_copied found.entry)) }
+    ensures { Tells told result (if_inactive uuid (option_copied found.entry)) }
 {
     match found {
         None => no_network(alloc, uuid),
@@ -96,7 +125,7 @@ fn test_inactive(alloc: Global, found: Option<&Entry>, uuid: Uuid) -> Tested
 
 // The network has to be there and active.
 fn test_active(alloc: Global, found: Option<&Entry>, uuid: Uuid) -> Tested
-    ensures { Tells result (if_active uuid (option_copied found.entry)) }
+    ensures { Tells told result (if_active uuid (option_copied found.entry)) }
 {
     match found {
         None => no_network(alloc, uuid),
@@ -111,7 +140,7 @@ fn test_active(alloc: Global, found: Option<&Entry>, uuid: Uuid) -> Tested
 
 // A network of the name that is to be defined: it has to have the same identifier, and be inactive.
 fn test_redefined(alloc: Global, entry: &Entry, uuid: Uuid) -> Tested
-    ensures { Tells result (redefined uuid entry.now) }
+    ensures { Tells told result (redefined uuid entry.now) }
 {
     if entry.has_uuid(uuid) {
         return test_inactive(alloc, Some(entry), uuid);
@@ -120,7 +149,7 @@ fn test_redefined(alloc: Global, entry: &Entry, uuid: Uuid) -> Tested
 }
 
 fn test_define(alloc: Global, entries: &[Entry], def: &NetDef) -> Tested
-    ensures { Tells result (answer (call.Define def.now) entries.now) }
+    ensures { Tells told result (answer (call.Define def.now) entries.now) }
 {
     let uuid = identifier(def);
     if let Some(entry) = entry_of_name(entries, def.name.as_bytes()) {
@@ -135,25 +164,21 @@ fn test_define(alloc: Global, entries: &[Entry], def: &NetDef) -> Tested
     book_full(alloc)
 }
 
-impl Table {
+impl NetTable {
     /// The networks that were found where the daemon was opened.
-    pub(crate) fn new(alloc: Global, found: FoundNetworkList) -> Result<Table, NoMemory>
+    pub(crate) fn new(alloc: Global, found: FoundNetworkList) -> Result<NetTable, NoMemory>
         ensures { IfOk result (λ table. table ≡ map opened found) }
     {
         let mut entries = Vec::with_capacity(alloc, MOST_NETWORKS)?;
         for network in found.into_vec() {
             entries.push(Entry::new(alloc, network.def, network.autostart))?;
         }
-        Ok(Table { entries })
-    }
-
-    pub(crate) fn alloc(&self) -> Global {
-        *self.entries.allocator()
+        Ok(NetTable { entries })
     }
 
     /// Whether a network may be defined so.
     pub(crate) fn may_define(&self, def: &NetDef) -> Tested
-        ensures { Tells result (answer (call.Define def.now) self.now) }
+        ensures { Tells told result (answer (call.Define def.now) self.now) }
     {
         test_define(self.alloc(), self.entries.as_slice(), def)
     }
@@ -161,7 +186,7 @@ impl Table {
     /// Whether there is a network of this identifier.
     #[tactic(auto, unfolding(book_spec::specs::NetCalls::answer))]
     pub(crate) fn may_change(&self, uuid: Uuid) -> Tested
-        ensures { (on : Bool) → Tells result (answer (call.Autostart uuid on) self.now) }
+        ensures { (on : Bool) → Tells told result (answer (call.Autostart uuid on) self.now) }
     {
         test_there(
             self.alloc(),
@@ -173,7 +198,7 @@ impl Table {
     /// Whether there is one that is inactive.
     #[tactic(auto, unfolding(book_spec::specs::NetCalls::answer))]
     pub(crate) fn may_undefine(&self, uuid: Uuid) -> Tested
-        ensures { Tells result (answer (call.Undefine uuid) self.now) }
+        ensures { Tells told result (answer (call.Undefine uuid) self.now) }
     {
         test_inactive(
             self.alloc(),
@@ -196,14 +221,15 @@ impl Table {
 
     /// Takes a network out, where there is one.
     pub(crate) fn undefine(&mut self, uuid: Uuid)
-        ensures { self.new ≡ without uuid self.old }
+        ensures { self.new ≡ without uuid_of uuid self.old }
     {
         if let Some(place) = place_of_uuid(self.entries.as_slice(), uuid) {
             drop(self.entries.remove(place));
         }
     }
 
-    pub(crate) fn set_autostart(&mut self, uuid: Uuid, on: bool)
+    /// Says of a network whether it is started where the daemon starts, where there is one.
+    pub(crate) fn autostart(&mut self, uuid: Uuid, on: bool)
         ensures { self.new ≡ with_changed uuid_of uuid (with_autostart on) self.old }
     {
         if let Some(place) = place_of_uuid(self.entries.as_slice(), uuid) {
@@ -233,8 +259,8 @@ impl Table {
     /// Starts a network that is inactive.
     #[tactic(auto, unfolding(book_spec::specs::NetCalls::answer, book_spec::specs::NetCalls::networks_after))]
     pub(crate) fn start(&mut self, uuid: Uuid) -> Tested
-        ensures answer { Tells result (answer (call.Start uuid) self.old) }
-        ensures effect { TakesEffect (call.Start uuid) result self.old self.new }
+        ensures answer { Tells told result (answer (call.Start uuid) self.old) }
+        ensures effect { OnDone (networks_after (call.Start uuid) Done) result self.old self.new }
     {
         let alloc = self.alloc();
         match test_inactive(alloc, entry_of_uuid(self.entries.as_slice(), uuid), uuid) {
@@ -249,8 +275,8 @@ impl Table {
     /// Stops a network that is active.
     #[tactic(auto, unfolding(book_spec::specs::NetCalls::answer, book_spec::specs::NetCalls::networks_after))]
     pub(crate) fn stop(&mut self, uuid: Uuid) -> Tested
-        ensures answer { Tells result (answer (call.Stop uuid) self.old) }
-        ensures effect { TakesEffect (call.Stop uuid) result self.old self.new }
+        ensures answer { Tells told result (answer (call.Stop uuid) self.old) }
+        ensures effect { OnDone (networks_after (call.Stop uuid) Done) result self.old self.new }
     {
         let alloc = self.alloc();
         match test_active(alloc, entry_of_uuid(self.entries.as_slice(), uuid), uuid) {
@@ -280,7 +306,7 @@ impl Table {
     }
 
     /// The networks by rising name.
-    pub(crate) fn rows(&self) -> Result<NetRowList, NoMemory>
+    pub fn list(&self) -> Result<NetRowList, NoMemory>
         ensures { IfOk result (AreRows self.now) }
     {
         let mut rows = rows_of(self.alloc(), self.entries.as_slice())?;
@@ -288,9 +314,15 @@ impl Table {
         Ok(ListOf::of(rows))
     }
 
-    /// The definition of a network.
-    pub(crate) fn desc(&self, uuid: Uuid) -> Result<NetDef, OrNoMemory<Refusal>>
-        ensures { IsFoundOf IsDescribed uuid (network_of uuid_of uuid self.now) result }
+    /// The definition of a network. `NoNetwork` where there is none of this identifier.
+    pub fn desc(&self, uuid: Uuid) -> Result<NetDef, Refusal>
+        ensures { IsRead IsSame (described uuid (entry_of uuid_of uuid self.now)) result }
+    {
+        plain(self.alloc(), self.find_desc(uuid))
+    }
+
+    fn find_desc(&self, uuid: Uuid) -> Result<NetDef, OrNoMemory<Refusal>>
+        ensures { IsFound IsSame (described uuid (entry_of uuid_of uuid self.now)) result }
     {
         match entry_of_uuid(self.entries.as_slice(), uuid) {
             None => Err(missing(self.alloc(), uuid)),
@@ -298,9 +330,15 @@ impl Table {
         }
     }
 
-    /// The leases of a network, by rising address.
-    pub(crate) fn leases(&self, uuid: Uuid) -> Result<LeaseRowList, OrNoMemory<Refusal>>
-        ensures { IsFoundOf AreLeases uuid (network_of uuid_of uuid self.now) result }
+    /// The leases of a network, by rising address. `NoNetwork` where there is none of this identifier.
+    pub fn leases(&self, uuid: Uuid) -> Result<LeaseRowList, Refusal>
+        ensures { IsRead AreInOrder (leases_in uuid (entry_of uuid_of uuid self.now)) result }
+    {
+        plain(self.alloc(), self.find_leases(uuid))
+    }
+
+    fn find_leases(&self, uuid: Uuid) -> Result<LeaseRowList, OrNoMemory<Refusal>>
+        ensures { IsFound AreInOrder (leases_in uuid (entry_of uuid_of uuid self.now)) result }
     {
         match entry_of_uuid(self.entries.as_slice(), uuid) {
             None => Err(missing(self.alloc(), uuid)),

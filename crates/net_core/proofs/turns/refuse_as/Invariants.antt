@@ -1,4 +1,0 @@
-use Rattle.net_core.proofs.turns.refuse_as.Given as goal
-
-abbrev pub ghost-refuse : goal.ghost-refuse
-ghost-refuse g a = g.asked

@@ -1,4 +1,0 @@
-use Rattle.net_core.proofs.turns.start_as.Given as goal
-
-abbrev pub ghost-start : goal.ghost-start
-ghost-start g a = g.number

@@ -1,4 +1,0 @@
-use Rattle.net_core.proofs.turns.start_in.Given as goal
-
-abbrev pub ghost-start_as : goal.ghost-start_as
-ghost-start_as a = a.turn.now.pass.number
