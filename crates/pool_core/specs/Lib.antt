@@ -1,5 +1,2 @@
-pub mod Answers
-pub mod Keeping
-pub mod Marks
+pub mod Laws
 pub mod Opening
-pub mod Turns

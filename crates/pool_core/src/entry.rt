@@ -1,16 +1,19 @@
 // A pool of the book.
 ghost use Rattle.std.specs.Prelude.{◌≡◌, ◌<◌, ◌^◌, option_copied, IfOk, OnOk, OnErr};
-ghost use Rattle.book_spec.specs.Pools.{has, identifier, name_of, new_pool, uuid_of};
+ghost use Rattle.book_spec.specs.Entries.{has};
+ghost use Rattle.book_spec.specs.Pools.{identifier, name_of, new_pool, uuid_of};
 ghost use Rattle.book_spec.specs.Volumes.{allocated_with, volume_of, with_dropped, with_volume};
 ghost use Rattle.book_spec.specs.PoolCalls.{dropped, fits, made, with_active, with_autostart, with_def};
+ghost use Rattle.book_spec.specs.PoolHistory.{told};
 ghost use Rattle.book_spec.specs.PoolReads.{AreNames, row_of};
-ghost use Rattle.pool_core.specs.Answers.{OnDone, Tells};
+ghost use Rattle.turn_book.specs.Answers.{OnDone, Tells};
 
-use crate::refusals::{Tested, no_volume, too_large, volume_exists, volumes_full};
+use crate::refusals::{no_volume, too_large, volume_exists, volumes_full};
 use crate::volumes::{names_in_order, place_of_volume};
 use std::alloc::Global;
 use std::marker::Model;
 use std::mem;
+use turn_book::Tested;
 use virt_types::{Name, NameList, NoMemory, OrNoMemory, PoolDef, PoolRow, TryCopy, Uuid, VolDef};
 
 /// At most as many volumes are in a pool.
@@ -134,7 +137,7 @@ impl Entry {
 
     // Whether there is room for a volume of a new name.
     fn test_room(&self, alloc: Global, def: &VolDef) -> Tested
-        ensures answer { Tells result (fits def.now self.now) }
+        ensures answer { Tells told result (fits def.now self.now) }
         ensures fits { OnOk result (allocated_with def.now self.now < 2 ^ 64) }
     {
         if self.volumes.len() >= MOST_VOLUMES {
@@ -149,7 +152,7 @@ impl Entry {
 
     // Whether a volume may be made. Then its bytes fit.
     fn may_make(&self, alloc: Global, def: &VolDef) -> Tested
-        ensures answer { Tells result (made def.now self.now) }
+        ensures answer { Tells told result (made def.now self.now) }
         ensures fits { OnOk result (allocated_with def.now self.now < 2 ^ 64) }
     {
         match place_of_volume(self.volumes.as_slice(), def.name.as_bytes()) {
@@ -177,7 +180,7 @@ impl Entry {
 
     /// Makes a volume, where it may be made.
     pub(crate) fn make(&mut self, alloc: Global, def: VolDef) -> Tested
-        ensures answer { Tells result (made def self.old) }
+        ensures answer { Tells told result (made def self.old) }
         ensures effect { OnDone (with_volume def) result self.old self.new }
     {
         match self.may_make(alloc, &def) {
@@ -191,7 +194,7 @@ impl Entry {
 
     /// Deletes a volume, where there is one.
     pub(crate) fn delete(&mut self, alloc: Global, name: &Name) -> Tested
-        ensures answer { Tells result (dropped name.now self.old) }
+        ensures answer { Tells told result (dropped name.now self.old) }
         ensures effect { OnDone (with_dropped name.now) result self.old self.new }
     {
         match place_of_volume(self.volumes.as_slice(), name.as_bytes()) {

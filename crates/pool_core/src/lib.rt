@@ -1,24 +1,15 @@
-//! The book of pools: its table of pools and volumes, and its turns.
+//! The book of storage pools: which are there, and which volumes they have. Threads change it in turns, and each call is one mark.
 #![tactic(auto)]
 
-mod book;
-mod chronicle;
+mod asks;
 mod entry;
 mod found;
-mod kept;
-mod marking;
+mod opening;
 mod refusals;
-mod story;
 mod table;
-mod turns;
 mod volumes;
 
-pub use book::PoolBook;
+pub use asks::{Autostart, Define, DropVolume, MakeVolume, Start, Stop, Undefine};
 pub use found::{FoundPool, FoundPoolList};
-pub use refusals::{Tested, plain};
-pub use table::Table;
-pub use turns::{
-    PoolPass, PoolTurn, autostart_in, define_in, drop_volume, drop_volume_in, make_volume,
-    make_volume_in, may_autostart_in, may_define_in, may_undefine_in, refuse_in, start, start_in,
-    stop, stop_in, undefine_in,
-};
+pub use opening::{PoolBook, open};
+pub use table::PoolTable;

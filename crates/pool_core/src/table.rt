@@ -2,21 +2,26 @@
 ghost use Rattle.std.specs.Prelude.{◌≡◌, Bool, true, false, map, option_copied, IfOk, position};
 ghost use Rattle.book_spec.specs.declared.pool_book.PoolAnswer.TheVariants.{Done};
 ghost use Rattle.book_spec.specs.declared.pool_book.PoolCall.TheVariants as call;
-ghost use Rattle.book_spec.specs.Pools.{has, name_of, pool_of, uuid_of, with_changed, without};
-ghost use Rattle.book_spec.specs.PoolCalls.{answer, if_active, if_inactive, if_there, redefined, with_active, with_autostart, with_pool};
+ghost use Rattle.book_spec.specs.Books.{IsRead, IsSame};
+ghost use Rattle.book_spec.specs.Entries.{entry_of, has, with_changed, without};
+ghost use Rattle.book_spec.specs.Pools.{name_of, uuid_of};
+ghost use Rattle.book_spec.specs.PoolCalls.{answer, if_active, if_inactive, if_there, pools_after, redefined, with_active, with_autostart, with_pool};
+ghost use Rattle.book_spec.specs.PoolHistory.{told};
 ghost use Rattle.book_spec.specs.PoolReads.{AreNames, AreRows, described, found, row_of, volume_in, volumes_in};
 ghost use Rattle.book_spec.specs.Volumes.{volume_of as the_volume_of};
-ghost use Rattle.pool_core.specs.Answers.{IsFound, IsSame, TakesEffect, Tells};
+ghost use Rattle.turn_book.specs.Answers.{IsFound, OnDone, Tells};
 ghost use Rattle.pool_core.specs.Opening.{opened};
 
 use crate::entry::{Entry, identifier};
 use crate::found::FoundPoolList;
 use crate::refusals::{
-    Tested, book_full, inactive, is_active, is_inactive, missing, name_exists, no_pool,
-    uuid_exists, volume_missing,
+    book_full, inactive, is_active, is_inactive, missing, name_exists, no_pool, uuid_exists,
+    volume_missing,
 };
+use book_spec::{PoolAnswer, PoolCall, Pools};
 use std::alloc::Global;
 use std::marker::Model;
+use turn_book::{Table, Tested, plain};
 use virt_types::{
     ListOf, Name, NameList, NoMemory, OrNoMemory, PoolDef, PoolRow, PoolRowList, Refusal, TryCopy,
     Uuid, VolDef,
@@ -28,11 +33,11 @@ const MOST_POOLS: usize = 64;
 /// The pools, in the order in which they were first defined. It has room for as many as there
 /// may be.
 #[derive(Drop)]
-pub struct Table {
+pub struct PoolTable {
     entries: Vec<Entry>,
 }
 
-impl Model for Table {
+impl Model for PoolTable {
     ghost use Rattle.std.specs.Prelude.{◌≤◌, vec_capacity};
     ghost use Rattle.book_spec.specs.Pools.{Pools};
 
@@ -41,6 +46,30 @@ impl Model for Table {
     ghost view = { λ t. t.entries.items };
 
     ghost invariant = { λ t. 64 ≤ vec_capacity t.entries };
+}
+
+impl Table for PoolTable {
+    ghost use Rattle.std.specs.Prelude.{[]};
+    ghost use Rattle.book_spec.specs.PoolHistory.{rules};
+    ghost use Rattle.pool_core.specs.Laws.{refused_changes_nothing};
+
+    type State = Pools;
+
+    type Call = PoolCall;
+
+    type Answer = PoolAnswer;
+
+    ghost rules = { rules };
+
+    ghost state = { λ table. table };
+
+    ghost empty = { [] };
+
+    fn alloc(&self) -> Global {
+        *self.entries.allocator()
+    }
+
+    ghost refused_changes_nothing = { refused_changes_nothing };
 }
 
 fn place_of_name(entries: &[Entry], name: &[u8]) -> Option<usize>
@@ -56,7 +85,7 @@ fn place_of_uuid(entries: &[Entry], uuid: Uuid) -> Option<usize>
 }
 
 fn entry_of_name<'a>(entries: &'a [Entry], name: &[u8]) -> Option<&'a Entry>
-    ensures { option_copied result ≡ pool_of name_of name.now entries.now }
+    ensures { option_copied result ≡ entry_of name_of name.now entries.now }
 {
     match place_of_name(entries, name) {
         None => None,
@@ -65,7 +94,7 @@ fn entry_of_name<'a>(entries: &'a [Entry], name: &[u8]) -> Option<&'a Entry>
 }
 
 fn entry_of_uuid(entries: &[Entry], uuid: Uuid) -> Option<&Entry>
-    ensures { option_copied result ≡ pool_of uuid_of uuid entries.now }
+    ensures { option_copied result ≡ entry_of uuid_of uuid entries.now }
 {
     match place_of_uuid(entries, uuid) {
         None => None,
@@ -75,7 +104,7 @@ fn entry_of_uuid(entries: &[Entry], uuid: Uuid) -> Option<&Entry>
 
 // The pool has to be there.
 fn test_there(alloc: Global, found: Option<&Entry>, uuid: Uuid) -> Tested
-    ensures { Tells result (if_there uuid (option_copied found.entry)) }
+    ensures { Tells told result (if_there uuid (option_copied found.entry)) }
 {
     match found {
         None => no_pool(alloc, uuid),
@@ -85,7 +114,7 @@ fn test_there(alloc: Global, found: Option<&Entry>, uuid: Uuid) -> Tested
 
 // The pool has to be there and inactive.
 fn test_inactive(alloc: Global, found: Option<&Entry>, uuid: Uuid) -> Tested
-    ensures { Tells result (if_inactive uuid (option_copied found.entry)) }
+    ensures { Tells told result (if_inactive uuid (option_copied found.entry)) }
 {
     match found {
         None => no_pool(alloc, uuid),
@@ -100,7 +129,7 @@ fn test_inactive(alloc: Global, found: Option<&Entry>, uuid: Uuid) -> Tested
 
 // The pool has to be there and active.
 fn test_active(alloc: Global, found: Option<&Entry>, uuid: Uuid) -> Tested
-    ensures { Tells result (if_active uuid (option_copied found.entry)) }
+    ensures { Tells told result (if_active uuid (option_copied found.entry)) }
 {
     match found {
         None => no_pool(alloc, uuid),
@@ -115,7 +144,7 @@ fn test_active(alloc: Global, found: Option<&Entry>, uuid: Uuid) -> Tested
 
 // A pool of the name that is to be defined: it has to have the same identifier, and be inactive.
 fn test_redefined(alloc: Global, entry: &Entry, uuid: Uuid) -> Tested
-    ensures { Tells result (redefined uuid entry.now) }
+    ensures { Tells told result (redefined uuid entry.now) }
 {
     if entry.has_uuid(uuid) {
         return test_inactive(alloc, Some(entry), uuid);
@@ -124,7 +153,7 @@ fn test_redefined(alloc: Global, entry: &Entry, uuid: Uuid) -> Tested
 }
 
 fn test_define(alloc: Global, entries: &[Entry], def: &PoolDef) -> Tested
-    ensures { Tells result (answer (call.Define def.now) entries.now) }
+    ensures { Tells told result (answer (call.Define def.now) entries.now) }
 {
     let uuid = identifier(def);
     if let Some(entry) = entry_of_name(entries, def.name.as_bytes()) {
@@ -139,34 +168,29 @@ fn test_define(alloc: Global, entries: &[Entry], def: &PoolDef) -> Tested
     book_full(alloc)
 }
 
-impl Table {
+impl PoolTable {
     /// The pools that were found where the daemon was opened.
-    pub fn new(alloc: Global, found: FoundPoolList) -> Result<Table, NoMemory>
+    pub(crate) fn new(alloc: Global, found: FoundPoolList) -> Result<PoolTable, NoMemory>
         ensures { IfOk result (λ table. table ≡ map opened found) }
     {
         let mut entries = Vec::with_capacity(alloc, MOST_POOLS)?;
         for pool in found.into_vec() {
             entries.push(Entry::new(alloc, pool.def, pool.autostart))?;
         }
-        Ok(Table { entries })
-    }
-
-    /// Where the table takes its memory from.
-    pub fn alloc(&self) -> Global {
-        *self.entries.allocator()
+        Ok(PoolTable { entries })
     }
 
     /// Whether a pool may be defined so.
-    pub fn may_define(&self, def: &PoolDef) -> Tested
-        ensures { Tells result (answer (call.Define def.now) self.now) }
+    pub(crate) fn may_define(&self, def: &PoolDef) -> Tested
+        ensures { Tells told result (answer (call.Define def.now) self.now) }
     {
         test_define(self.alloc(), self.entries.as_slice(), def)
     }
 
     /// Whether there is a pool of this identifier.
     #[tactic(auto, unfolding(book_spec::specs::PoolCalls::answer))]
-    pub fn may_change(&self, uuid: Uuid) -> Tested
-        ensures { (on : Bool) → Tells result (answer (call.Autostart uuid on) self.now) }
+    pub(crate) fn may_change(&self, uuid: Uuid) -> Tested
+        ensures { (on : Bool) → Tells told result (answer (call.Autostart uuid on) self.now) }
     {
         test_there(
             self.alloc(),
@@ -177,8 +201,8 @@ impl Table {
 
     /// Whether there is one that is inactive.
     #[tactic(auto, unfolding(book_spec::specs::PoolCalls::answer))]
-    pub fn may_undefine(&self, uuid: Uuid) -> Tested
-        ensures { Tells result (answer (call.Undefine uuid) self.now) }
+    pub(crate) fn may_undefine(&self, uuid: Uuid) -> Tested
+        ensures { Tells told result (answer (call.Undefine uuid) self.now) }
     {
         test_inactive(
             self.alloc(),
@@ -188,7 +212,7 @@ impl Table {
     }
 
     /// Defines a pool that may be defined so. It takes no memory.
-    pub fn define(&mut self, def: PoolDef)
+    pub(crate) fn define(&mut self, def: PoolDef)
         requires { answer (call.Define def) self.old ≡ Done }
         ensures { self.new ≡ with_pool def self.old }
     {
@@ -200,8 +224,8 @@ impl Table {
     }
 
     /// Takes a pool out, where there is one.
-    pub fn undefine(&mut self, uuid: Uuid)
-        ensures { self.new ≡ without uuid self.old }
+    pub(crate) fn undefine(&mut self, uuid: Uuid)
+        ensures { self.new ≡ without uuid_of uuid self.old }
     {
         if let Some(place) = place_of_uuid(self.entries.as_slice(), uuid) {
             drop(self.entries.remove(place));
@@ -209,7 +233,7 @@ impl Table {
     }
 
     /// Says of a pool whether it is started where the daemon starts, where there is one.
-    pub fn set_autostart(&mut self, uuid: Uuid, on: bool)
+    pub(crate) fn autostart(&mut self, uuid: Uuid, on: bool)
         ensures { self.new ≡ with_changed uuid_of uuid (with_autostart on) self.old }
     {
         if let Some(place) = place_of_uuid(self.entries.as_slice(), uuid) {
@@ -237,9 +261,9 @@ impl Table {
 
     /// Starts a pool that is inactive.
     #[tactic(auto, unfolding(book_spec::specs::PoolCalls::answer, book_spec::specs::PoolCalls::pools_after))]
-    pub fn start(&mut self, uuid: Uuid) -> Tested
-        ensures answer { Tells result (answer (call.Start uuid) self.old) }
-        ensures effect { TakesEffect (call.Start uuid) result self.old self.new }
+    pub(crate) fn start(&mut self, uuid: Uuid) -> Tested
+        ensures answer { Tells told result (answer (call.Start uuid) self.old) }
+        ensures effect { OnDone (pools_after (call.Start uuid) Done) result self.old self.new }
     {
         let alloc = self.alloc();
         match test_inactive(alloc, entry_of_uuid(self.entries.as_slice(), uuid), uuid) {
@@ -253,9 +277,9 @@ impl Table {
 
     /// Stops a pool that is active.
     #[tactic(auto, unfolding(book_spec::specs::PoolCalls::answer, book_spec::specs::PoolCalls::pools_after))]
-    pub fn stop(&mut self, uuid: Uuid) -> Tested
-        ensures answer { Tells result (answer (call.Stop uuid) self.old) }
-        ensures effect { TakesEffect (call.Stop uuid) result self.old self.new }
+    pub(crate) fn stop(&mut self, uuid: Uuid) -> Tested
+        ensures answer { Tells told result (answer (call.Stop uuid) self.old) }
+        ensures effect { OnDone (pools_after (call.Stop uuid) Done) result self.old self.new }
     {
         let alloc = self.alloc();
         match test_active(alloc, entry_of_uuid(self.entries.as_slice(), uuid), uuid) {
@@ -268,9 +292,9 @@ impl Table {
     }
 
     /// Makes a volume in an active pool.
-    pub fn make_volume(&mut self, uuid: Uuid, def: VolDef) -> Tested
-        ensures answer { Tells result (answer (call.MakeVolume uuid def) self.old) }
-        ensures effect { TakesEffect (call.MakeVolume uuid def) result self.old self.new }
+    pub(crate) fn make_volume(&mut self, uuid: Uuid, def: VolDef) -> Tested
+        ensures answer { Tells told result (answer (call.MakeVolume uuid def) self.old) }
+        ensures effect { OnDone (pools_after (call.MakeVolume uuid def) Done) result self.old self.new }
     {
         let alloc = self.alloc();
         let Some(place) = place_of_uuid(self.entries.as_slice(), uuid) else {
@@ -283,9 +307,9 @@ impl Table {
     }
 
     /// Deletes a volume of an active pool.
-    pub fn drop_volume(&mut self, uuid: Uuid, name: &Name) -> Tested
-        ensures answer { Tells result (answer (call.DropVolume uuid name.now) self.old) }
-        ensures effect { TakesEffect (call.DropVolume uuid name.now) result self.old self.new }
+    pub(crate) fn drop_volume(&mut self, uuid: Uuid, name: &Name) -> Tested
+        ensures answer { Tells told result (answer (call.DropVolume uuid name.now) self.old) }
+        ensures effect { OnDone (pools_after (call.DropVolume uuid name.now) Done) result self.old self.new }
     {
         let alloc = self.alloc();
         let Some(place) = place_of_uuid(self.entries.as_slice(), uuid) else {
@@ -298,7 +322,7 @@ impl Table {
     }
 
     /// The pools by rising name.
-    pub fn rows(&self) -> Result<PoolRowList, NoMemory>
+    pub fn list(&self) -> Result<PoolRowList, NoMemory>
         ensures { IfOk result (AreRows self.now) }
     {
         let mut rows = rows_of(self.alloc(), self.entries.as_slice())?;
@@ -306,9 +330,15 @@ impl Table {
         Ok(ListOf::of(rows))
     }
 
-    /// The definition of a pool.
-    pub fn desc(&self, uuid: Uuid) -> Result<PoolDef, OrNoMemory<Refusal>>
-        ensures { IsFound IsSame (described uuid (pool_of uuid_of uuid self.now)) result }
+    /// The definition of a pool. `NoPool` where there is none of this identifier.
+    pub fn desc(&self, uuid: Uuid) -> Result<PoolDef, Refusal>
+        ensures { IsRead IsSame (described uuid (entry_of uuid_of uuid self.now)) result }
+    {
+        plain(self.alloc(), self.find_desc(uuid))
+    }
+
+    fn find_desc(&self, uuid: Uuid) -> Result<PoolDef, OrNoMemory<Refusal>>
+        ensures { IsFound IsSame (described uuid (entry_of uuid_of uuid self.now)) result }
     {
         match entry_of_uuid(self.entries.as_slice(), uuid) {
             None => Err(missing(self.alloc(), uuid)),
@@ -316,9 +346,16 @@ impl Table {
         }
     }
 
-    /// The names of the volumes of an active pool.
-    pub fn volumes(&self, uuid: Uuid) -> Result<NameList, OrNoMemory<Refusal>>
-        ensures { IsFound AreNames (volumes_in uuid (pool_of uuid_of uuid self.now)) result }
+    /// The names of a pool's volumes, by rising name. `NoPool` where there is none of this identifier,
+    /// `OperationInvalid` where it is inactive.
+    pub fn volumes(&self, uuid: Uuid) -> Result<NameList, Refusal>
+        ensures { IsRead AreNames (volumes_in uuid (entry_of uuid_of uuid self.now)) result }
+    {
+        plain(self.alloc(), self.find_volumes(uuid))
+    }
+
+    fn find_volumes(&self, uuid: Uuid) -> Result<NameList, OrNoMemory<Refusal>>
+        ensures { IsFound AreNames (volumes_in uuid (entry_of uuid_of uuid self.now)) result }
     {
         match entry_of_uuid(self.entries.as_slice(), uuid) {
             None => Err(missing(self.alloc(), uuid)),
@@ -331,9 +368,16 @@ impl Table {
         }
     }
 
-    /// The definition of a volume of an active pool.
-    pub fn volume(&self, uuid: Uuid, name: &Name) -> Result<VolDef, OrNoMemory<Refusal>>
-        ensures { IsFound IsSame (volume_in name.now (volumes_in uuid (pool_of uuid_of uuid self.now))) result }
+    /// The definition of a volume. `NoPool` where there is no pool of this identifier,
+    /// `OperationInvalid` where it is inactive, `NoVolume` where it has no volume of this name.
+    pub fn volume(&self, uuid: Uuid, name: &Name) -> Result<VolDef, Refusal>
+        ensures { IsRead IsSame (volume_in name.now (volumes_in uuid (entry_of uuid_of uuid self.now))) result }
+    {
+        plain(self.alloc(), self.find_volume(uuid, name))
+    }
+
+    fn find_volume(&self, uuid: Uuid, name: &Name) -> Result<VolDef, OrNoMemory<Refusal>>
+        ensures { IsFound IsSame (volume_in name.now (volumes_in uuid (entry_of uuid_of uuid self.now))) result }
     {
         match entry_of_uuid(self.entries.as_slice(), uuid) {
             None => Err(missing(self.alloc(), uuid)),

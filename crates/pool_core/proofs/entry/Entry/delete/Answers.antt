@@ -3,7 +3,8 @@ use Rattle.book_spec.specs.declared.pool_book.Pool.{Pool}
 use Rattle.book_spec.specs.declared.pool_book.PoolAnswer.TheVariants.{Done}
 use Rattle.book_spec.specs.PoolCalls.{dropped}
 use Rattle.book_spec.specs.Volumes.{with_dropped}
-use Rattle.pool_core.specs.Answers.{Tells}
+use Rattle.book_spec.specs.PoolHistory.{told}
+use Rattle.turn_book.specs.Answers.{Tells}
 use Rattle.pool_core.proofs.VolumeSums.{dropped-none, dropped-there, left_seen, no_volume_seen, sum_seen, volume_seen}
 use Rattle.pool_core.proofs.entry.Entry.delete.Goals as goal
 
@@ -17,7 +18,7 @@ pub returns-in-None-clause-answer : goal.returns-in-None-clause-answer
 returns-in-None-clause-answer c =
     let pool : Pool = record { def = c.self.inside.def; autostart = c.self.inside.autostart; active = c.self.inside.active; volumes = c.self.inside.volumes.items } in
     subst (λ (p : Pool). Tells c.no_volume.result (dropped c.args.name.now p)) c.self.view_is
-    (subst (Tells c.no_volume.result) (sym (dropped-none c.args.name.now pool (no_volume_seen c.args.name.now c.as_bytes.result.now c.self.inside.volumes.items c.as_slice.result.now c.place_of_volume.result c.as_bytes.ensures.value c.as_slice.ensures.value c.place_of_volume.ensures c.in-None.is))) c.no_volume.ensures)
+    (subst (Tells told c.no_volume.result) (sym (dropped-none c.args.name.now pool (no_volume_seen c.args.name.now c.as_bytes.result.now c.self.inside.volumes.items c.as_slice.result.now c.place_of_volume.result c.as_bytes.ensures.value c.as_slice.ensures.value c.place_of_volume.ensures c.in-None.is))) c.no_volume.ensures)
 
 pub returns-in-Some-clause-answer : goal.returns-in-Some-clause-answer
 returns-in-Some-clause-answer c =

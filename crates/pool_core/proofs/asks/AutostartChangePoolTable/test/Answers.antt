@@ -1,0 +1,7 @@
+use Rattle.book_spec.specs.declared.pool_book.PoolCall.TheVariants as call
+use Rattle.book_spec.specs.PoolHistory.{rules}
+use Rattle.turn_book.proofs.Reading.{is-tested}
+use Rattle.pool_core.proofs.asks.AutostartChangePoolTable.test.Goals as goal
+
+pub returns : goal.returns
+returns c = is-tested rules (call.Autostart c.args.self.now.uuid c.args.self.now.on) c.may_change.result c.give.result c.args.table.now c.give.ensures (c.may_change.ensures c.args.self.now.on)

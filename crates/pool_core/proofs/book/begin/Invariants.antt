@@ -1,4 +1,0 @@
-use Rattle.pool_core.proofs.book.begin.Given as goal
-
-abbrev pub ghost-begin : goal.ghost-begin
-ghost-begin g a = g.base

@@ -1,5 +1,0 @@
-use Rattle.book_spec.specs.PoolHistory.{with_mark}
-use Rattle.pool_core.proofs.chronicle.Chronicle.tell.Given as goal
-
-abbrev pub ghost-told_more : goal.ghost-told_more
-ghost-told_more g a = with_mark g.mark a._old.now.told

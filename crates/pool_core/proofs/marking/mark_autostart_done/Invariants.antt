@@ -1,4 +1,0 @@
-use Rattle.pool_core.proofs.marking.mark_autostart_done.Given as goal
-
-abbrev pub ghost-tell : goal.ghost-tell
-ghost-tell g a = g.mark

@@ -1,0 +1,10 @@
+use Rattle.book_spec.specs.Pools.{uuid_of}
+use Rattle.book_spec.specs.PoolCalls.{with_autostart}
+use Rattle.turn_book.proofs.Places.{change_seen, none_seen}
+use Rattle.pool_core.proofs.table.PoolTable.autostart.Goals as goal
+
+pub returns-in-Some : goal.returns-in-Some
+returns-in-Some c = change_seen uuid_of c.args.uuid c.self.inside.entries.items c.args.self.now c.as_slice.result.now c.place_of_uuid.result c.as_slice.ensures.value c.self.view_is c.place_of_uuid.ensures (with_autostart c.args.on) c.in-Some.place c.index_mut.result.now c.set_autostart.new.self c.in-Some.is c.index_mut.ensures.value c.set_autostart.ensures
+
+pub returns-in_default : goal.returns-in_default
+returns-in_default c = none_seen uuid_of c.args.uuid c.self.inside.entries.items c.args.self.now c.as_slice.result.now c.place_of_uuid.result c.as_slice.ensures.value c.self.view_is c.place_of_uuid.ensures (with_autostart c.args.on) c.in_default.is

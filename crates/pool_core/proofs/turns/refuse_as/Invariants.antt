@@ -1,4 +1,0 @@
-use Rattle.pool_core.proofs.turns.refuse_as.Given as goal
-
-abbrev pub ghost-refuse : goal.ghost-refuse
-ghost-refuse g a = g.asked

@@ -1,4 +1,0 @@
-use Rattle.pool_core.proofs.turns.refuse_in.Given as goal
-
-abbrev pub ghost-refuse_as : goal.ghost-refuse_as
-ghost-refuse_as g a = (a.turn.now.pass.number, g.asked)

@@ -1,4 +1,0 @@
-use Rattle.pool_core.proofs.turns.stop_as.Given as goal
-
-abbrev pub ghost-stop : goal.ghost-stop
-ghost-stop g a = g.number
