@@ -15,6 +15,7 @@ use Rattle.book_spec.specs.declared.list.ListFault.{ListFault}
 use Rattle.book_spec.specs.declared.list.ListMark.{ListMark}
 use Rattle.book_spec.specs.Slots.{Slots}
 use Rattle.book_spec.specs.ListCalls.{answer, IsHold}
+use Rattle.book_spec.specs.Chapters.{with_mark}
 use Rattle.book_spec.specs.ListHistory.{ListHistory, slots_of, open_chapter, with_call, LeavesMark}
 use Rattle.object_list.specs.Keeping.{meaning}
 use Rattle.object_list.specs.Turns.{ListPassed, marks_of}
@@ -40,7 +41,7 @@ last_of xs x n is =
 -- a mark more is the last one
 last_call : (number : ℕ) (c : ListCall) (given : Result ℕ ListFault) (h : ListHistory) (front : Front) → answer c (slots_of h) ≡ given → front.chapter ≡ (with_call number c h).chapter → front.marks ≡ length (with_call number c h).marks
     → IsLast front (with_call number c h) (record { number = number; call = c; answer = given })
-unfolding with_call
+unfolding with_mark
 last_call number c given h front is chapter marks =
     let m : ListMark = record { number = number; call = c; answer = answer c (slots_of h) } in
     let long = length-append h.marks (m ∷ []) in

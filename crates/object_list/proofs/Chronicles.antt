@@ -1,7 +1,6 @@
 -- Histories with a mark more.
 use Rattle.std.proofs.Common.{◌≡◌, ℕ, ◌+◌, ◌<◌, ◌≤◌, ◌^◌, Bool, true, false, ltb, List, [], ◌∷◌, length, length-append, bytes_eq, is_none, is_some, is_ok, is_err, OnOk, option_map, Option, None, Some, Result, Ok, Err, refl, sym, ap, ◌∙◌, subst, ⊎_elim, arith}
 use Rattle.std.proofs.lemmas.Bool.{cases_Bool, cases_lt, false≢true, true≢false, cond-true, cond-false, lt-ltb, le-ltb}
-use Rattle.std.proofs.lemmas.List.Sums.{fold-append}
 use Rattle.std.proofs.lemmas.Option.{none-some}
 use Rattle.std.proofs.lemmas.List.Quantifiers.{position-Some}
 use Rattle.types_base.specs.declared.caller.Front.{Front}
@@ -17,51 +16,25 @@ use Rattle.book_spec.proofs.HoldProofs.{given_within}
 use Rattle.book_spec.specs.declared.list.ListCall.TheVariants as call
 use Rattle.book_spec.specs.Slots.{Slots, all_holders, entry_in, least_free_slot, slot_of, name_of, uuid_of}
 use Rattle.book_spec.specs.ListCalls.{answer, claim_held, claim_new, claim_of_other, claimed, found, slots_after}
-use Rattle.book_spec.specs.ListHistory.{ListHistory, marked, slots_of, most_marks, open_chapter, with_call, LeavesMark}
-use Rattle.object_list.specs.Keeping.{IsCounted, IsKept}
+use Rattle.book_spec.specs.declared.list.ListMark.{ListMark}
+use Rattle.book_spec.specs.Chapters.{most_marks}
+use Rattle.book_spec.specs.ListHistory.{ListHistory, marked, slots_of, open_chapter, with_call, LeavesMark}
+use Rattle.turn_book.proofs.Chapters.{end_of-open, end_of-mark, marks-mark, open_short}
+use Rattle.object_list.specs.Keeping.{IsKept}
 use Rattle.object_list.specs.Table.{HoldsFound, IsNew, TakesEffect}
 
--- a long chapter ends
-pub opens_next : (h : ListHistory) → 4096 ≤ length h.marks → open_chapter h ≡ record { chapter = h.chapter + 1; base = slots_of h; marks = [] }
-unfolding open_chapter
-opens_next h long = cond-false (ltb (length h.marks) most_marks) h (record { chapter = h.chapter + 1; base = slots_of h; marks = [] }) (le-ltb (length h.marks) most_marks long)
+-- the mark of a call, as the slots have it
+abbrev pub mark : ℕ → ListCall → ListHistory → ListMark
+mark number c h = record { number = number; call = c; answer = answer c (slots_of h) }
 
-pub opens_same : (h : ListHistory) → length h.marks < 4096 → open_chapter h ≡ h
-unfolding open_chapter
-opens_same h short = cond-true (ltb (length h.marks) most_marks) h (record { chapter = h.chapter + 1; base = slots_of h; marks = [] }) (lt-ltb (length h.marks) most_marks short)
-
--- then there are fewer marks than a chapter has
-pub open_short : (h : ListHistory) → length (open_chapter h).marks < 4096
-open_short h = ⊎_elim
-    (λ (short : length h.marks < 4096). subst (λ (x : ListHistory). length x.marks < 4096) (sym (opens_same h short)) short)
-    (λ (long : 4096 ≤ length h.marks). subst (λ (x : ListHistory). length x.marks < 4096) (sym (opens_next h long)) (omega arith))
-    (cases_lt (length h.marks) 4096)
-
--- and the slots are as before
+-- where a chapter is opened the slots are as before
 pub slots_of-open : (h : ListHistory) → slots_of (open_chapter h) ≡ slots_of h
 unfolding slots_of
-slots_of-open h = ⊎_elim
-    (λ (short : length h.marks < 4096). ap slots_of (opens_same h short))
-    (λ (long : 4096 ≤ length h.marks). ap slots_of (opens_next h long))
-    (cases_lt (length h.marks) 4096)
+slots_of-open h = end_of-open marked h
 
 pub slots_of-call : (number : ℕ) (c : ListCall) (h : ListHistory) → slots_of (with_call number c h) ≡ slots_after number c (answer c (slots_of h)) (slots_of h)
-unfolding slots_of with_call
-slots_of-call number c h = fold-append marked h.base h.marks (record { number = number; call = c; answer = answer c (slots_of h) } ∷ [])
-
-pub marks-call : (number : ℕ) (c : ListCall) (h : ListHistory) → length (with_call number c h).marks ≡ length h.marks + 1
-unfolding with_call
-marks-call number c h = length-append h.marks (record { number = number; call = c; answer = answer c (slots_of h) } ∷ [])
-
-pub chapter-call : (number : ℕ) (c : ListCall) (h : ListHistory) → (with_call number c h).chapter ≡ h.chapter
-unfolding with_call
-chapter-call number c h = refl
-
-pub counted-call : (number chapter marks : ℕ) (c : ListCall) (h : ListHistory) → IsCounted chapter marks h → IsCounted chapter (marks + 1) (with_call number c h)
-counted-call number chapter marks c h is = record {
-  chapter_is = is.chapter_is ∙ sym (chapter-call number c h);
-  marks_are = ap (λ (n : ℕ). n + 1) is.marks_are ∙ sym (marks-call number c h);
-}
+unfolding slots_of
+slots_of-call number c h = end_of-mark marked (mark number c h) h
 
 -- the slots after a mark of a hold or a claim
 pub slots_of-marked : (number : ℕ) (c : ListCall) (h : ListHistory) → slots_of (with_call number c (open_chapter h)) ≡ slots_after number c (answer c (slots_of h)) (slots_of h)
@@ -71,11 +44,11 @@ slots_of-marked number c h = slots_of-call number c (open_chapter h) ∙ ap (λ 
 pub kept-marked : (number : ℕ) (c : ListCall) (result : Result ℕ (OrNoMemory ListFault)) (old new : Slots) (h next : ListHistory) → IsKept old h → UnlessNoMemory result (answer c old) → TakesEffect number c result old new → LeavesMark number c result h next → all_holders new ≤ 2 ^ 62 → IsKept new next
 kept-marked number c (Ok slot) old new h next kept given effect left most = record {
   same = effect ∙ (ap (λ (r : Result ℕ ListFault). slots_after number c r old) (sym given) ∙ (ap (λ (s : Slots). slots_after number c (answer c s) s) kept.same ∙ (sym (slots_of-marked number c h) ∙ ap slots_of (sym left))));
-  roomy = omega (arith, ap (λ (x : ListHistory). length x.marks) left, marks-call number c (open_chapter h), open_short h, most);
+  roomy = omega (arith, ap (λ (x : ListHistory). length x.marks) left, marks-mark (mark number c (open_chapter h)) (open_chapter h), open_short (slots_of h) h, most);
 }
 kept-marked number c (Err (Fault e)) old new h next kept given effect left most = record {
   same = effect ∙ (ap (λ (r : Result ℕ ListFault). slots_after number c r old) (sym given) ∙ (ap (λ (s : Slots). slots_after number c (answer c s) s) kept.same ∙ (sym (slots_of-marked number c h) ∙ ap slots_of (sym left))));
-  roomy = omega (arith, ap (λ (x : ListHistory). length x.marks) left, marks-call number c (open_chapter h), open_short h, most);
+  roomy = omega (arith, ap (λ (x : ListHistory). length x.marks) left, marks-mark (mark number c (open_chapter h)) (open_chapter h), open_short (slots_of h) h, most);
 }
 kept-marked number c (Err NoMemory) old new h next kept given effect left most = record {
   same = effect ∙ (kept.same ∙ ap slots_of (sym left));
@@ -86,7 +59,7 @@ kept-marked number c (Err NoMemory) old new h next kept given effect left most =
 pub kept-called : (number slot : ℕ) (c : ListCall) (old new : Slots) (h next : ListHistory) → IsKept old h → answer c old ≡ Ok slot → new ≡ slots_after number c (Ok slot) old → next ≡ with_call number c h → all_holders new + 1 ≡ all_holders old → IsKept new next
 kept-called number slot c old new h next kept given effect left fewer = record {
   same = effect ∙ (ap (λ (r : Result ℕ ListFault). slots_after number c r old) (sym given) ∙ (ap (λ (s : Slots). slots_after number c (answer c s) s) kept.same ∙ (sym (slots_of-call number c h) ∙ ap slots_of (sym left))));
-  roomy = omega (arith, ap (λ (x : ListHistory). length x.marks) left, marks-call number c h, kept.roomy, fewer);
+  roomy = omega (arith, ap (λ (x : ListHistory). length x.marks) left, marks-mark (mark number c h) h, kept.roomy, fewer);
 }
 
 -- what was found is the answer to a hold

@@ -1,11 +1,9 @@
 -- What a turn at the list tells the pass that had it.
-use Rattle.std.proofs.Common.{◌≡◌, ℕ, ◌+◌, ◌<◌, ◌≤◌, Bool, List, [], ◌∷◌, ◌++◌, length, slice_index, Result, Ok, Err, refl, sym, ap, ◌∙◌, subst, inl, inr, ⊎_elim}
-use Rattle.std.proofs.lemmas.Bool.{cases_lt}
+use Rattle.std.proofs.Common.{◌≡◌, ◌≢◌, ℕ, ◌<◌, Bool, List, [], ◌∷◌, slice_index, Result, Ok, Err, sym, ap, ◌∙◌, subst}
 use Rattle.history_spec.specs.Chapter.{tagged}
-use Rattle.history_spec.proofs.Marks.{added-more, added-next}
 use Rattle.turn_cell.specs.Passes.{Turned, Enters, left_by}
 use Rattle.turn_cell.specs.Turning.{Changes, Went}
-use Rattle.turn_cell.proofs.Turning.{changes_by, nothing_changes, turn_tells}
+use Rattle.turn_cell.proofs.Turning.{nothing_changes, turn_tells}
 use Rattle.types_base.specs.Memory.{UnlessNoMemory}
 use Rattle.types_base.specs.declared.caller.Front.{Front}
 use Rattle.types_base.specs.declared.memory.OrNoMemory.{OrNoMemory}
@@ -14,7 +12,7 @@ use Rattle.book_spec.specs.declared.list.ListCall.{ListCall}
 use Rattle.book_spec.specs.declared.list.ListCall.TheVariants as call
 use Rattle.book_spec.specs.declared.list.ListFault.{ListFault}
 use Rattle.book_spec.specs.declared.list.ListMark.{ListMark}
-use Rattle.book_spec.specs.Slots.{Slots, holds_of}
+use Rattle.book_spec.specs.Slots.{Slots, holds_of, no_holds}
 use Rattle.book_spec.specs.ListCalls.{answer, slots_after, IsHold}
 use Rattle.book_spec.specs.ListHistory.{ListHistory, slots_of, open_chapter, with_call, LeavesMark}
 use Rattle.book_spec.specs.ListLaws.{HoldsMore}
@@ -22,42 +20,25 @@ use Rattle.book_spec.proofs.HoldProofs.{others_hold_the_same, holds_add, given_i
 use Rattle.object_list.specs.Keeping.{meaning, no_mark_lowers, new_base_keeps}
 use Rattle.object_list.specs.Table.{Holds}
 use Rattle.object_list.specs.Turns.{ListPassed, marks_of, one_more, Shares, HasAsked, HasReleased}
-use Rattle.object_list.proofs.Chronicles.{opens_next, opens_same, slots_of-open, slots_of-call, slots_of-marked, answer-release}
+use Rattle.turn_book.proofs.Turning.{change_of, mark_here, mark_changes}
+use Rattle.object_list.proofs.Chronicles.{mark, slots_of-open, slots_of-call, slots_of-marked, answer-release}
 
 abbrev ListTurned : Type 0
 ListTurned = Turned ListHistory Slots ListMark (List ℕ)
 
--- a mark more, in this chapter
-call_changes : (number : ℕ) (c : ListCall) (given : Result ℕ ListFault) (h : ListHistory) → answer c (slots_of h) ≡ given → Changes meaning number (record { number = number; call = c; answer = given } ∷ []) h (with_call number c h)
-unfolding with_call
-call_changes number c given h is =
-    let m : ListMark = record { number = number; call = c; answer = given } in
-    let new : ListHistory = with_call number c h in
-    changes_by meaning number (m ∷ []) h new
-    (inl (record { chapter = refl; base = refl; marks = (record { number = number; call = c; answer = answer c (slots_of h) } ∷ [], refl) }))
-    (added-more h new (m ∷ []) refl (ap (λ (r : Result ℕ ListFault). h.marks ++ record { number = number; call = c; answer = r } ∷ []) (sym is)))
-    (refl, tt)
-    (λ j other. ap (holds_of j) (slots_of-call number c h) ∙ others_hold_the_same number j c (answer c (slots_of h)) (slots_of h) other)
+-- a mark more changes nothing that another number holds
+others_keep : (number : ℕ) (c : ListCall) (h new : ListHistory) → slots_of new ≡ slots_after number c (answer c (slots_of h)) (slots_of h) → (j : ℕ) → j ≢ number → holds_of j (slots_of new) ≡ holds_of j (slots_of h)
+others_keep number c h new is j other = ap (holds_of j) is ∙ others_hold_the_same number j c (answer c (slots_of h)) (slots_of h) other
 
--- a mark more, in this chapter or the next
+-- in this chapter
+call_changes : (number : ℕ) (c : ListCall) (given : Result ℕ ListFault) (h : ListHistory) → answer c (slots_of h) ≡ given → Changes meaning number (record { number = number; call = c; answer = given } ∷ []) h (with_call number c h)
+call_changes number c given h is = subst (λ (r : Result ℕ ListFault). Changes meaning number (record { number = number; call = c; answer = r } ∷ []) h (with_call number c h)) is
+    (mark_here {B = Slots} {M = ListMark} {S = List ℕ} (λ h. slots_of h) (λ m. m.number) (λ h n. holds_of n (slots_of h)) no_holds [] (mark number c h) h (others_keep number c h (with_call number c h) (slots_of-call number c h)))
+
+-- or the next
 marked_changes : (number : ℕ) (c : ListCall) (given : Result ℕ ListFault) (h : ListHistory) → answer c (slots_of h) ≡ given → Changes meaning number (record { number = number; call = c; answer = given } ∷ []) h (with_call number c (open_chapter h))
-unfolding with_call
-marked_changes number c given h is =
-    let m : ListMark = record { number = number; call = c; answer = given } in
-    ⊎_elim
-    (λ (short : length h.marks < 4096). subst (λ (x : ListHistory). Changes meaning number (m ∷ []) h (with_call number c x)) (sym (opens_same h short)) (call_changes number c given h is))
-    (λ (long : 4096 ≤ length h.marks).
-    let next : ListHistory = record { chapter = h.chapter + 1; base = slots_of h; marks = [] } in
-    let opened : open_chapter h ≡ next = opens_next h long in
-    let new : ListHistory = with_call number c next in
-    let told : answer c (slots_of next) ≡ given = ap (λ (x : ListHistory). answer c (slots_of x)) (sym opened) ∙ (ap (answer c) (slots_of-open h) ∙ is) in
-    subst (λ (x : ListHistory). Changes meaning number (m ∷ []) h (with_call number c x)) (sym opened)
-    (changes_by meaning number (m ∷ []) h new
-    (inr (record { chapter = refl; base = refl }))
-    (added-next (slots_of h) h new (record { chapter = refl; base = refl }) ∙ ap (λ (r : Result ℕ ListFault). record { number = number; call = c; answer = r } ∷ []) told)
-    (refl, tt)
-    (λ j other. ap (λ (x : ListHistory). holds_of j (slots_of (with_call number c x))) (sym opened) ∙ (ap (holds_of j) (slots_of-marked number c h) ∙ others_hold_the_same number j c (answer c (slots_of h)) (slots_of h) other))))
-    (cases_lt (length h.marks) 4096)
+marked_changes number c given h is = subst (λ (r : Result ℕ ListFault). Changes meaning number (record { number = number; call = c; answer = r } ∷ []) h (with_call number c (open_chapter h))) (ap (answer c) (slots_of-open h) ∙ is)
+    (mark_changes {B = Slots} {M = ListMark} {S = List ℕ} (λ h. slots_of h) (λ m. m.number) (λ h n. holds_of n (slots_of h)) no_holds [] (mark number c (open_chapter h)) h (others_keep number c h (with_call number c (open_chapter h)) (slots_of-marked number c h)))
 
 -- whatever the answer
 asked_changes : (number : ℕ) (c : ListCall) (result : Result ℕ (OrNoMemory ListFault)) (old new : ListHistory) → UnlessNoMemory result (answer c (slots_of old)) → LeavesMark number c result old new → Changes meaning number (marks_of number c result) old new
@@ -112,17 +93,11 @@ has_released slot front occupied before turn now after enters some called same l
     }
 
 -- what is left may be left
-change_of : (more : List ListMark) (before : ListPassed) (turn now : ListTurned) → Enters meaning before turn → now ≡ record turn { value = now.value } → Changes meaning turn.pass.number more turn.value now.value → Changes meaning now.pass.number more now.entry now.value
-change_of more before turn now enters same changes =
-    let number : turn.pass.number ≡ now.pass.number = sym (ap (λ (t : ListTurned). t.pass.number) same) in
-    let entry : turn.value ≡ now.entry = enters.value ∙ sym (ap (λ (t : ListTurned). t.entry) same) in
-    subst (λ (x : ℕ × ListHistory). Changes meaning x.0 more x.1 now.value) (λ i. (number i, entry i)) changes
-
 pub asked_leaves : (c : ListCall) (result : Result ℕ (OrNoMemory ListFault)) (before : ListPassed) (turn now : ListTurned) → Enters meaning before turn → UnlessNoMemory result (answer c (slots_of turn.value)) → LeavesMark turn.pass.number c result turn.value now.value → now ≡ record turn { value = now.value } → Changes meaning now.pass.number (marks_of turn.pass.number c result) now.entry now.value
-asked_leaves c result before turn now enters given marked same = change_of (marks_of turn.pass.number c result) before turn now enters same (asked_changes turn.pass.number c result turn.value now.value given marked)
+asked_leaves c result before turn now enters given marked same = change_of meaning (marks_of turn.pass.number c result) before turn now enters same (asked_changes turn.pass.number c result turn.value now.value given marked)
 
 pub release_leaves : (slot : ℕ) (front : Front) (occupied : Bool) (before : ListPassed) (turn now : ListTurned) → Enters meaning before turn → now.value ≡ with_call turn.pass.number (call.Release slot front occupied) turn.value → now ≡ record turn { value = now.value } → Changes meaning now.pass.number (marks_of turn.pass.number (call.Release slot front occupied) (Ok slot)) now.entry now.value
 release_leaves slot front occupied before turn now enters called same =
     let c : ListCall = call.Release slot front occupied in
     let n : ℕ = turn.pass.number in
-    change_of (marks_of n c (Ok slot)) before turn now enters same (subst (Changes meaning n (marks_of n c (Ok slot)) turn.value) (sym called) (call_changes n c (Ok slot) turn.value (answer-release slot front occupied (slots_of turn.value))))
+    change_of meaning (marks_of n c (Ok slot)) before turn now enters same (subst (Changes meaning n (marks_of n c (Ok slot)) turn.value) (sym called) (call_changes n c (Ok slot) turn.value (answer-release slot front occupied (slots_of turn.value))))

@@ -1,7 +1,6 @@
 //! The list of domains: which slot is whose. Threads change it in turns, and each call is one mark.
 #![tactic(auto)]
 
-mod chronicle;
 mod free_slots;
 mod index;
 mod kept;
@@ -9,7 +8,6 @@ mod list;
 mod opening;
 mod row;
 mod slot_name;
-mod story;
 mod table;
 mod turns;
 

@@ -3,28 +3,31 @@ ghost use Rattle.types_base.specs.Memory.{UnlessNoMemory};
 ghost use Rattle.types_base.specs.declared.memory.OrNoMemory.TheVariants as or;
 ghost use Rattle.book_spec.specs.declared.list.ListCall.{ListCall};
 ghost use Rattle.book_spec.specs.declared.list.ListCall.TheVariants as call;
-ghost use Rattle.book_spec.specs.Slots.{Slots, all_holders, entry_in};
+ghost use Rattle.book_spec.specs.Slots.{Slots as TheSlots, all_holders, entry_in};
 ghost use Rattle.book_spec.specs.ListCalls.{answer, claim_held, claim_of_other, found, slots_after};
 ghost use Rattle.book_spec.specs.ListHistory.{LeavesMark, slots_of, with_call};
 ghost use Rattle.object_list.specs.Names.{AreNames};
 ghost use Rattle.object_list.specs.Opening.{CanOpen, opened};
 ghost use Rattle.object_list.specs.Table.{Holds, HoldsFound, MayLackMemory, TakesEffect};
 
-use crate::chronicle::Chronicle;
 use crate::row::Row;
 use crate::slot_name::{FoundDomain, SlotNameList};
 use crate::table::Table;
-use book_spec::ListFault;
+use book_spec::{ListFault, ListMark, Slots};
 use std::alloc::Global;
 use std::marker::Model;
+use turn_book::Chronicle;
 use types_base::{Front, ListOf, MOST_DOMAINS, Name, NoMemory, OrNoMemory, TryCopy, Uuid};
+
+/// What happened to the list.
+type ListChronicle = Chronicle<Slots, ListMark>;
 
 /// The list of domains. Contracts see its history: what a slot holds is told by the chapter's base
 /// and its marks.
 #[derive(Drop)]
 pub struct ObjectList {
     table: Table,
-    chronicle: Chronicle,
+    chronicle: ListChronicle,
 }
 
 impl Model for ObjectList {
@@ -130,8 +133,8 @@ impl ObjectList {
 }
 
 // A history that begins with the slots of this table.
-fn begin(_table: &Table) -> Chronicle
-    ghost base: { Slots }
+fn begin(_table: &Table) -> ListChronicle
+    ghost base: { TheSlots }
     ensures { result ≡ record { chapter = 0; base = base; marks = [] } }
 {
     Chronicle::begin()
@@ -152,7 +155,7 @@ fn open(alloc: Global, found: &[FoundDomain]) -> Result<Table, NoMemory>
 
 // Leaves the mark of a hold or a claim, but where there was no memory. Who calls it says what was
 // asked; a pick sees the callee's arguments alone, so the functions after it take what was asked.
-fn leave_mark(chronicle: &mut Chronicle, held: &Result<u32, OrNoMemory<ListFault>>)
+fn leave_mark(chronicle: &mut ListChronicle, held: &Result<u32, OrNoMemory<ListFault>>)
     ghost asked: { ℕ × ListCall }
     requires { chronicle.old.chapter < 2 ^ 62 }
     ensures { LeavesMark asked.0 asked.1 held.now chronicle.old chronicle.new }
@@ -166,7 +169,7 @@ fn leave_mark(chronicle: &mut Chronicle, held: &Result<u32, OrNoMemory<ListFault
     }
 }
 
-fn mark_name(chronicle: &mut Chronicle, _name: &[u8], held: &Result<u32, OrNoMemory<ListFault>>)
+fn mark_name(chronicle: &mut ListChronicle, _name: &[u8], held: &Result<u32, OrNoMemory<ListFault>>)
     ghost asked: { ℕ × ListCall }
     requires { chronicle.old.chapter < 2 ^ 62 }
     ensures { LeavesMark asked.0 asked.1 held.now chronicle.old chronicle.new }
@@ -174,7 +177,7 @@ fn mark_name(chronicle: &mut Chronicle, _name: &[u8], held: &Result<u32, OrNoMem
     leave_mark(chronicle, held);
 }
 
-fn mark_uuid(chronicle: &mut Chronicle, _uuid: Uuid, held: &Result<u32, OrNoMemory<ListFault>>)
+fn mark_uuid(chronicle: &mut ListChronicle, _uuid: Uuid, held: &Result<u32, OrNoMemory<ListFault>>)
     ghost asked: { ℕ × ListCall }
     requires { chronicle.old.chapter < 2 ^ 62 }
     ensures { LeavesMark asked.0 asked.1 held.now chronicle.old chronicle.new }
@@ -183,7 +186,7 @@ fn mark_uuid(chronicle: &mut Chronicle, _uuid: Uuid, held: &Result<u32, OrNoMemo
 }
 
 fn mark_claim(
-    chronicle: &mut Chronicle,
+    chronicle: &mut ListChronicle,
     _name: &Name,
     _uuid: Uuid,
     held: &Result<u32, OrNoMemory<ListFault>>,
@@ -195,7 +198,7 @@ fn mark_claim(
     leave_mark(chronicle, held);
 }
 
-fn mark_release(chronicle: &mut Chronicle, _slot: u32, _front: Front, _occupied: bool)
+fn mark_release(chronicle: &mut ListChronicle, _slot: u32, _front: Front, _occupied: bool)
     ghost asked: { ℕ × ListCall }
     requires { length chronicle.old.marks < 2 ^ 63 }
     ensures { chronicle.new ≡ with_call asked.0 asked.1 chronicle.old }

@@ -1,4 +1,0 @@
-use Rattle.object_list.proofs.chronicle.next_chapter.Given as goal
-
-abbrev pub ghost-named : goal.ghost-named
-ghost-named g a = g.told

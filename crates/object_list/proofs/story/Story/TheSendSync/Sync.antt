@@ -1,7 +1,0 @@
--- A story owns nothing, so threads may share it.
-use denote.Param.Send.{IsSync, part_keyless}
-use Rattle.object_list.specs.contracts.story.Story.{the_row}
-use Rattle.object_list.proofs.story.Story.TheSendSync.Send.{send}
-
-pub sync : IsSync the_row
-sync = record { shared = λ d b o κ q. part_keyless the_row send q d b o }
