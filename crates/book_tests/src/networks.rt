@@ -1,13 +1,11 @@
 // Calls on a book of networks.
 ghost use Rattle.std.specs.Prelude.{◌<◌, ◌^◌};
-ghost use Rattle.book_spec.specs.declared.book.NetCall.{NetCall};
-ghost use Rattle.book_spec.specs.NetCalls.{IsStored};
-ghost use Rattle.book_spec.specs.NetHistory.{CanCall};
 
 use crate::calls::{Verb, Words, address_of, call_of, name_of, number_of, uuid_of};
+use crate::changes::{make_change, refuse_change};
 use crate::lines::Lines;
 use book_spec::{LeaseFault, NetRowList};
-use net_core::NetBook;
+use net_core::{Autostart, Define, Lease, NetBook, Start, Stop, Undefine, open};
 use std::alloc::Global;
 use virt_types::{
     AddressRange, Dhcp, HostLine, LeaseRowList, ListOf, Mac, NetDef, NetIp, NoMemory, OrNoMemory,
@@ -63,31 +61,6 @@ fn full(alloc: Global) -> Refusal {
     }
 }
 
-fn define(book: &mut NetBook, def: NetDef) -> Result<(), Refusal>
-    requires { book.old.chapter < 2 ^ 62 }
-{
-    book.may_define(&def)?;
-    book.define(def)
-}
-
-// The store refused the definition of this network.
-fn refuse(book: &mut NetBook, _def: &NetDef, refusal: Refusal)
-    ghost asked: { NetCall }
-    requires stored { IsStored asked }
-    requires can { CanCall asked book.old }
-{
-    book.refuse(refusal);
-}
-
-// Where the network may be defined, the store refuses.
-fn define_refused(alloc: Global, book: &mut NetBook, def: NetDef) -> Result<(), Refusal>
-    requires { book.old.chapter < 2 ^ 62 }
-{
-    book.may_define(&def)?;
-    refuse(book, &def, full(alloc));
-    Ok(())
-}
-
 fn put_lease(lines: &mut Lines, answer: Result<u32, OrNoMemory<LeaseFault>>) {
     match answer {
         Ok(address) => lines.put_address(address),
@@ -131,23 +104,17 @@ fn change(alloc: Global, book: &mut NetBook, verb: Verb, words: Words<'_>) -> Re
     let uuid = uuid_of(words.first);
     match verb {
         Verb::Define => match network(alloc, words) {
-            Ok(def) => define(book, def),
+            Ok(def) => make_change(book, Define { def }),
             Err(NoMemory) => Err(full(alloc)),
         },
         Verb::DefineRefused => match network(alloc, words) {
-            Ok(def) => define_refused(alloc, book, def),
+            Ok(def) => refuse_change(book, &Define { def }, &full(alloc)),
             Err(NoMemory) => Err(full(alloc)),
         },
-        Verb::Undefine => {
-            book.may_undefine(uuid)?;
-            book.undefine(uuid)
-        }
-        Verb::Autostart => {
-            book.may_autostart(uuid, true)?;
-            book.autostart(uuid, true)
-        }
-        Verb::Start => book.start(uuid),
-        _ => book.stop(uuid),
+        Verb::Undefine => make_change(book, Undefine { uuid }),
+        Verb::Autostart => make_change(book, Autostart { uuid, on: true }),
+        Verb::Start => book.call(Start { uuid }),
+        _ => book.call(Stop { uuid }),
     }
 }
 
@@ -159,18 +126,21 @@ fn call(lines: &mut Lines, alloc: Global, book: &mut NetBook, verb: Verb, words:
     }
     match verb {
         Verb::Lease => match Text::copy_of(alloc, words.first) {
-            Ok(name) => put_lease(lines, book.lease(&name, mac_of(words.second))),
+            Ok(name) => {
+                let mac = mac_of(words.second);
+                put_lease(lines, book.call(Lease { name: &name, mac }));
+            }
             Err(NoMemory) => lines.lose(),
         },
-        Verb::Leases => put_leases(lines, book.leases(uuid_of(words.first))),
-        Verb::List => put_list(lines, book.list(), book.marks()),
+        Verb::Leases => put_leases(lines, book.table().leases(uuid_of(words.first))),
+        Verb::List => put_list(lines, book.table().list(), book.marks()),
         _ => lines.put_done(change(alloc, book, verb, words)),
     }
 }
 
 /// Plays a story on a new book of networks.
 pub(crate) fn play(lines: &mut Lines, alloc: Global, story: &str) {
-    let Ok(mut book) = NetBook::new(alloc, ListOf::new(alloc)) else {
+    let Ok(mut book) = open(alloc, ListOf::new(alloc)) else {
         lines.lose();
         return;
     };

@@ -2,8 +2,9 @@
 ghost use Rattle.std.specs.Prelude.{◌<◌, ◌^◌};
 
 use crate::calls::{Verb, Words, call_of, name_of, number_of, uuid_of};
+use crate::changes::make_change;
 use crate::lines::Lines;
-use pool_core::PoolBook;
+use pool_core::{Define, DropVolume, MakeVolume, PoolBook, Start, Stop, open};
 use std::alloc::Global;
 use virt_types::{
     ListOf, Name, NameList, NoMemory, PoolDef, PoolType, Refusal, Text, VolDef, both,
@@ -33,13 +34,6 @@ fn volume(alloc: Global, words: Words<'_>) -> Result<VolDef, NoMemory> {
     })
 }
 
-fn define(book: &mut PoolBook, def: PoolDef) -> Result<(), Refusal>
-    requires { book.old.chapter < 2 ^ 62 }
-{
-    book.may_define(&def)?;
-    book.define(def)
-}
-
 fn put_names(lines: &mut Lines, answer: Result<NameList, Refusal>) {
     match answer {
         Ok(names) => {
@@ -64,8 +58,8 @@ fn call_volume(lines: &mut Lines, book: &mut PoolBook, verb: Verb, words: Words<
 {
     let uuid = uuid_of(words.first);
     match verb {
-        Verb::Drop => lines.put_done(book.drop_volume(uuid, name)),
-        _ => put_volume(lines, book.volume(uuid, name)),
+        Verb::Drop => lines.put_done(book.call(DropVolume { pool: uuid, name })),
+        _ => put_volume(lines, book.table().volume(uuid, name)),
     }
 }
 
@@ -78,16 +72,16 @@ fn call(lines: &mut Lines, alloc: Global, book: &mut PoolBook, verb: Verb, words
     let uuid = uuid_of(words.first);
     match verb {
         Verb::Define => match pool(alloc, words) {
-            Ok(def) => lines.put_done(define(book, def)),
+            Ok(def) => lines.put_done(make_change(book, Define { def })),
             Err(NoMemory) => lines.lose(),
         },
-        Verb::Start => lines.put_done(book.start(uuid)),
-        Verb::Stop => lines.put_done(book.stop(uuid)),
+        Verb::Start => lines.put_done(book.call(Start { uuid })),
+        Verb::Stop => lines.put_done(book.call(Stop { uuid })),
         Verb::Make => match volume(alloc, words) {
-            Ok(def) => lines.put_done(book.make_volume(uuid, def)),
+            Ok(def) => lines.put_done(book.call(MakeVolume { pool: uuid, def })),
             Err(NoMemory) => lines.lose(),
         },
-        Verb::Volumes => put_names(lines, book.volumes(uuid)),
+        Verb::Volumes => put_names(lines, book.table().volumes(uuid)),
         _ => match name_of(alloc, words.second) {
             Ok(name) => call_volume(lines, book, verb, words, &name),
             Err(NoMemory) => lines.lose(),
@@ -97,7 +91,7 @@ fn call(lines: &mut Lines, alloc: Global, book: &mut PoolBook, verb: Verb, words
 
 /// Plays a story on a new book of pools.
 pub(crate) fn play(lines: &mut Lines, alloc: Global, story: &str) {
-    let Ok(mut book) = PoolBook::new(alloc, ListOf::new(alloc)) else {
+    let Ok(mut book) = open(alloc, ListOf::new(alloc)) else {
         lines.lose();
         return;
     };

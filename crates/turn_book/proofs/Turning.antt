@@ -4,6 +4,7 @@ use Rattle.std.proofs.lemmas.Bool.{cases_lt}
 use Rattle.history_spec.specs.declared.history.History.{History}
 use Rattle.history_spec.specs.Chapter.{tagged}
 use Rattle.history_spec.proofs.Marks.{added-more, added-next}
+use Rattle.turn_cell.specs.Known.{IsBegun}
 use Rattle.turn_cell.specs.Meaning.{Meaning}
 use Rattle.turn_cell.specs.Passes.{Passed, Turned, Enters, left_by}
 use Rattle.turn_cell.specs.Turning.{Changes, Went}
@@ -87,8 +88,9 @@ module _ {S C A : Type 0} (R : Rules S C A) (empty : S) where
       (λ (is : IsCalled R turn.pass.number c given turn.value now.value).
       let told = turn_tells (meaning R empty) (no_mark_lowers R empty) (new_base_keeps R empty) (record { number = turn.pass.number; call = c; answer = given } ∷ []) before after turn now enters same (call_changes turn.pass.number c given turn.value now.value is) left in
       inl (record {
-        state = state_of R turn.value;
-        answered = is.0;
+        found = turn.value;
+        begun = subst (λ (x : History S (Mark C A)). IsBegun (meaning R empty) before.seen x) (sym enters.value) enters.seen;
+        called = subst (λ (x : History S (Mark C A) × ℕ). IsCalled R x.1 c given turn.value x.0) (λ i. (sym told.0.seen i, number i)) is;
         went = subst (λ (x : History S (Mark C A) × ℕ). Went (meaning R empty) 1 (tagged x.0.chapter (record { number = x.1; call = c; answer = given } ∷ [])) before after) (λ i. (sym told.0.seen i, number i)) told.1;
       }))
       (λ (lacks : LacksMemory R given turn.value now.value). inr (lacks.0, (turn_tells (meaning R empty) (no_mark_lowers R empty) (new_base_keeps R empty) [] before after turn now enters same (nothing_changes (meaning R empty) turn.pass.number turn.value now.value lacks.1) left).1))

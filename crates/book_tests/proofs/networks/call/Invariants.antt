@@ -1,4 +1,4 @@
 use Rattle.book_tests.proofs.networks.call.Given as goal
 
-abbrev pub ghost-lease : goal.ghost-lease
-ghost-lease a = 0
+abbrev pub ghost-call : goal.ghost-call
+ghost-call a = 0
