@@ -2,14 +2,14 @@
 ghost use Rattle.std.specs.Prelude.{◌<◌, ◌^◌};
 
 use crate::calls::{Verb, Words, address_of, call_of, name_of, number_of, uuid_of};
-use crate::changes::{make_change, refuse_change};
+use crate::changes::{full, make_change, refuse_change};
 use crate::lines::Lines;
 use book_spec::{LeaseFault, NetRowList};
 use net_core::{Autostart, Define, Lease, NetBook, Start, Stop, Undefine, open};
 use std::alloc::Global;
 use virt_types::{
     AddressRange, Dhcp, HostLine, LeaseRowList, ListOf, Mac, NetDef, NetIp, NoMemory, OrNoMemory,
-    Refusal, RefusalCode, Text,
+    Refusal, Text,
 };
 
 // The interface whose address ends with this byte.
@@ -51,14 +51,6 @@ fn network(alloc: Global, words: Words<'_>) -> Result<NetDef, NoMemory> {
             }),
         }),
     })
-}
-
-// What the store refuses with.
-fn full(alloc: Global) -> Refusal {
-    Refusal {
-        code: RefusalCode::NoMemory,
-        kept: Text::of(String::new(alloc)),
-    }
 }
 
 fn put_lease(lines: &mut Lines, answer: Result<u32, OrNoMemory<LeaseFault>>) {

@@ -2,12 +2,12 @@
 ghost use Rattle.std.specs.Prelude.{◌<◌, ◌^◌};
 
 use crate::calls::{Verb, Words, call_of, name_of, number_of, uuid_of};
-use crate::changes::make_change;
+use crate::changes::{full, make_change, refuse_change};
 use crate::lines::Lines;
-use pool_core::{Define, DropVolume, MakeVolume, PoolBook, Start, Stop, open};
+use pool_core::{Autostart, Define, DropVolume, MakeVolume, PoolBook, Start, Stop, Undefine, open};
 use std::alloc::Global;
 use virt_types::{
-    ListOf, Name, NameList, NoMemory, PoolDef, PoolType, Refusal, Text, VolDef, both,
+    ListOf, Name, NameList, NoMemory, PoolDef, PoolRowList, PoolType, Refusal, Text, VolDef, both,
 };
 
 // The pool of the words of a `define`.
@@ -32,6 +32,19 @@ fn volume(alloc: Global, words: Words<'_>) -> Result<VolDef, NoMemory> {
         allocation: bytes,
         format,
     })
+}
+
+fn put_list(lines: &mut Lines, answer: Result<PoolRowList, NoMemory>, marks: u64) {
+    match answer {
+        Ok(rows) => {
+            for row in rows.as_slice() {
+                lines.put_name(&row.name);
+            }
+            lines.put(";");
+            lines.put_number(marks);
+        }
+        Err(NoMemory) => lines.lose(),
+    }
 }
 
 fn put_names(lines: &mut Lines, answer: Result<NameList, Refusal>) {
@@ -63,29 +76,48 @@ fn call_volume(lines: &mut Lines, book: &mut PoolBook, verb: Verb, words: Words<
     }
 }
 
+// A call that changes the book, but for its volumes.
+fn change(alloc: Global, book: &mut PoolBook, verb: Verb, words: Words<'_>) -> Result<(), Refusal>
+    requires { book.old.chapter < 2 ^ 62 }
+{
+    let uuid = uuid_of(words.first);
+    match verb {
+        Verb::Define => match pool(alloc, words) {
+            Ok(def) => make_change(book, Define { def }),
+            Err(NoMemory) => Err(full(alloc)),
+        },
+        Verb::DefineRefused => match pool(alloc, words) {
+            Ok(def) => refuse_change(book, &Define { def }, &full(alloc)),
+            Err(NoMemory) => Err(full(alloc)),
+        },
+        Verb::Undefine => make_change(book, Undefine { uuid }),
+        Verb::Autostart => make_change(book, Autostart { uuid, on: true }),
+        Verb::Start => book.call(Start { uuid }),
+        _ => book.call(Stop { uuid }),
+    }
+}
+
 // A call, and what it was answered.
 fn call(lines: &mut Lines, alloc: Global, book: &mut PoolBook, verb: Verb, words: Words<'_>) {
     if book.chapter() >= 1 << 62 {
         lines.lose();
         return;
     }
-    let uuid = uuid_of(words.first);
     match verb {
-        Verb::Define => match pool(alloc, words) {
-            Ok(def) => lines.put_done(make_change(book, Define { def })),
-            Err(NoMemory) => lines.lose(),
-        },
-        Verb::Start => lines.put_done(book.call(Start { uuid })),
-        Verb::Stop => lines.put_done(book.call(Stop { uuid })),
         Verb::Make => match volume(alloc, words) {
-            Ok(def) => lines.put_done(book.call(MakeVolume { pool: uuid, def })),
+            Ok(def) => {
+                let pool = uuid_of(words.first);
+                lines.put_done(book.call(MakeVolume { pool, def }));
+            }
             Err(NoMemory) => lines.lose(),
         },
-        Verb::Volumes => put_names(lines, book.table().volumes(uuid)),
-        _ => match name_of(alloc, words.second) {
+        Verb::Drop | Verb::Volume => match name_of(alloc, words.second) {
             Ok(name) => call_volume(lines, book, verb, words, &name),
             Err(NoMemory) => lines.lose(),
         },
+        Verb::Volumes => put_names(lines, book.table().volumes(uuid_of(words.first))),
+        Verb::List => put_list(lines, book.table().list(), book.marks()),
+        _ => lines.put_done(change(alloc, book, verb, words)),
     }
 }
 
