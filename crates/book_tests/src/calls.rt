@@ -17,7 +17,7 @@ pub(crate) enum Verb {
     Start,
     /// `stop N`
     Stop,
-    /// `lease NETWORK MAC`, of the last byte of the interface's address.
+    /// `lease NETWORK MAC`, of the number with which the interface's address ends, in two bytes.
     Lease,
     /// `leases N`
     Leases,

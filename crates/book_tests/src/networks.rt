@@ -12,10 +12,18 @@ use virt_types::{
     Refusal, Text,
 };
 
-// The interface whose address ends with this byte.
+// The interface whose address ends with this number, in two bytes.
 fn mac_of(word: &str) -> Mac {
+    let number = number_of(word);
     Mac {
-        bytes: [0x52, 0x54, 0, 0, 0, (number_of(word) % 256) as u8],
+        bytes: [
+            0x52,
+            0x54,
+            0,
+            0,
+            (number / 256 % 256) as u8,
+            (number % 256) as u8,
+        ],
     }
 }
 
@@ -68,7 +76,8 @@ fn put_leases(lines: &mut Lines, answer: Result<LeaseRowList, Refusal>) {
     match answer {
         Ok(rows) => {
             for row in rows.as_slice() {
-                lines.put_number(row.mac.bytes[5] as u64);
+                let [_, _, _, _, high, low] = row.mac.bytes;
+                lines.put_number(high as u64 * 256 + low as u64);
                 lines.put_address(row.address);
             }
         }
