@@ -8,7 +8,7 @@ use Rattle.command_spec.specs.declared.fault.WordFault.{WordFault}
 use Rattle.rpc_client.specs.Calling.{Connection, fresh}
 use Rattle.virsh.specs.Ends.{Ends, HasRun, SaysEnd}
 use Rattle.virsh.specs.Outside.{IsUnanswered, Outside, with_back, with_line, with_made, with_out, with_read, with_said}
-use Rattle.virsh.specs.Top.{AsksFor, Does, DoesContent, DoesFile, DoesWith, IsBadFile, IsStarved, UsesEnds, address_of, file_of}
+use Rattle.virsh.specs.Top.{AsksFor, Does, DoesContent, DoesFile, DoesWith, IsBadFile, IsServedCommand, IsServedOption, IsStarved, UsesEnds, address_of, file_of}
 use Rattle.virsh.specs.Said.{link_line}
 use Rattle.virsh.specs.declared.stop.Stop.{Stop}
 use Rattle.virsh.proofs.Telling.{has_ended}
@@ -25,6 +25,12 @@ same_job words job other is asks = same_ok words job other is asks.job_is
 
 pub no_job : (words : List Word) (fault : WordFault) → job_of words ≡ Err fault → (job : Job) → AsksFor words job → ⊥
 no_job words fault failed job asks = no_ok words job fault asks.job_is failed
+
+-- the job of words that ask for none that is served
+pub not_served : (words : List Word) (job : Job) → job_of words ≡ Ok job → (IsServedCommand job.command → IsServedOption job.option → ⊥) → (other : Job) → AsksFor words other → ⊥
+not_served words job read unserved other asks =
+    let same : other ≡ job = sym (same_job words job other read asks) in
+    unserved (subst (λ (j : Job). IsServedCommand j.command) same asks.command) (subst (λ (j : Job). IsServedOption j.option) same asks.option)
 
 module _ {S K O : Type 0} (left : S → Option (List ℕ)) (source_faults : S → ℕ) (held : K → Option (List ℕ)) (sink_faults : K → ℕ)
     (shown : O → Option (List ℕ)) (out_faults : O → ℕ) where

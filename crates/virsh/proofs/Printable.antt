@@ -89,7 +89,7 @@ single : (asked : Request) (next : List Value → Option Request) (values : List
     → Shaped next [] values → next values ≡ None → Single values asked
 single asked next [] first then shaped over = none_left asked (sym first ∙ over)
 single asked next (v ∷ []) first then (made, was, is, more) over = record { v = v; are = refl; shaped = shape_at v (next []) asked made first was is }
-single asked next (v ∷ w ∷ values) first then (made, was, is, (other, no, has, more)) over = none_asked other (sym (then v w values) ∙ no)
+single asked next (v ∷ w ∷ values) first then (made, was, is, (other, follows, has, more)) over = none_asked other (sym (then v w values) ∙ follows)
 
 pub record Double (values : List Value) (one other : Request) : Type 0 where
   pub v : Value
@@ -109,7 +109,7 @@ double one other next (v ∷ w ∷ []) first second then (made, was, is, (made2,
   shaped = shape_at v (next []) one made first was is;
   after = shape_at w (next (v ∷ [])) other made2 (second v) was2 is2;
 }
-double one other next (v ∷ w ∷ u ∷ values) first second then (made, was, is, (made2, was2, is2, (made3, no, has, more))) over = none_asked made3 (sym (then v w) ∙ no)
+double one other next (v ∷ w ∷ u ∷ values) first second then (made, was, is, (made2, was2, is2, (made3, follows, has, more))) over = none_asked made3 (sym (then v w) ∙ follows)
 
 -- ---- commands with a lookup
 
@@ -132,7 +132,7 @@ pair make lookup asked next (v ∷ w ∷ []) found first second then (made, was,
     let x = found v (shape_at v (next []) lookup made first was is) in
     let at : next (v ∷ []) ≡ Some (asked x.0) = ap (λ (y : Value). next (y ∷ [])) x.1 ∙ second x.0 in
     record { x = x.0; v = w; are = ap (λ (y : Value). y ∷ w ∷ []) x.1; shaped = shape_at w (next (v ∷ [])) (asked x.0) made2 at was2 is2 }
-pair make lookup asked next (v ∷ w ∷ u ∷ values) found first second then (made, was, is, (made2, was2, is2, (made3, no, has, more))) over = none_asked made3 (sym (then v w) ∙ no)
+pair make lookup asked next (v ∷ w ∷ u ∷ values) found first second then (made, was, is, (made2, was2, is2, (made3, follows, has, more))) over = none_asked made3 (sym (then v w) ∙ follows)
 
 domain_pair : (name : List ℕ) (a : DomainRequest) (values : List Value) → Shaped (of_domain name (a ∷ [])) [] values → of_domain name (a ∷ []) values ≡ None
     → Pair value.Domain values (λ (d : DomainRef). request.OnDomain (domain_target d) a)
@@ -186,7 +186,7 @@ info_text_of name option (v ∷ w ∷ u ∷ []) (made, was, is, (made2, was2, is
     let b = is_autostart u (shape_at u (on_domain v (Some ask.GetAutostart)) (request.OnDomain (domain_target d.0) ask.GetAutostart) made3 other was3 is3) in
     let are : v ∷ w ∷ u ∷ [] ≡ value.Domain d.0 ∷ value.Info i.0 ∷ value.Autostart b.0 ∷ [] = cc (d.1, i.1, b.1) in
     at (command.Domain domain.Info name) option (v ∷ w ∷ u ∷ []) (value.Domain d.0 ∷ value.Info i.0 ∷ value.Autostart b.0 ∷ []) are (said _)
-info_text_of name option (v ∷ w ∷ u ∷ z ∷ values) (made, was, is, (made2, was2, is2, (made3, was3, is3, (made4, no, has, more)))) over = none_asked made4 no
+info_text_of name option (v ∷ w ∷ u ∷ z ∷ values) (made, was, is, (made2, was2, is2, (made3, was3, is3, (made4, follows, has, more)))) over = none_asked made4 follows
 
 domain_text : (verb : DomainVerb) (name : List ℕ) (option : Option Flag) (values : List Value) → Shaped (of_domain name (domain_asks verb option)) [] values → of_domain name (domain_asks verb option) values ≡ None
     → HasText (command.Domain verb name) option values

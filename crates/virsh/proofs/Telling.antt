@@ -15,7 +15,7 @@ use Rattle.command_spec.specs.declared.form.NumberVerb.TheVariants as number
 use Rattle.packet.proofs.Known.{Appends-none, Appends-then}
 use Rattle.rpc_client.specs.Calling.{Connection}
 use Rattle.virsh.specs.Calls.{IsAsked, StopsOrNoMemory}
-use Rattle.virsh.specs.Ends.{Ends, HasEnough, HasRun, HasTold, HearsOf, IsCutShort, IsOutOfMemory, SaysEnd, Tells}
+use Rattle.virsh.specs.Ends.{Ends, HasEnough, HasRun, HasTold, HearsOf, IsCutShort, IsOutOfMemory, IsPrintable, SaysEnd, Tells}
 use Rattle.virsh.specs.Listening.{HasListened, heard_of}
 use Rattle.virsh.specs.Outside.{Outside, with_said}
 use Rattle.virsh.specs.Printing.{IsCutOff, IsPut}
@@ -24,6 +24,14 @@ use Rattle.virsh.specs.declared.stop.Stop.{Stop}
 use Rattle.virsh.specs.declared.stop.Stop.TheVariants as stop
 use Rattle.virsh.proofs.InTurn.{heard_none}
 use Rattle.virsh.proofs.Put.{cut_more, put_more}
+
+-- what was made of the list of a job's answers is their text
+pub has_text : (job : Job) (values seen : List Value) (text : List ℕ) → seen ≡ values → Prints job.command job.option seen [] text → Prints job.command job.option values [] text
+has_text job values seen text same prints = subst (λ (vs : List Value). Prints job.command job.option vs [] text) same prints
+
+-- answers that have a text have one
+pub no_text : (job : Job) (values seen : List Value) → seen ≡ values → ((text : List ℕ) → Prints job.command job.option seen [] text → ⊥) → IsPrintable job values → ⊥
+no_text job values seen same none has = none has.0 (subst (λ (vs : List Value). Prints job.command job.option vs [] has.0) (sym same) has.1)
 
 -- a command that waits for events prints nothing before them, and then their lines
 pub event_of : (c : Command) (values : List Value) (h : DomainRef × ℕ) (option : Option Flag) (text : List ℕ) → heard_of c values ≡ Some h → Prints c option values [] text
