@@ -11,7 +11,7 @@ use Rattle.sink_turns.specs.declared.mark.Mark.{Mark}
 use Rattle.sink_turns.specs.declared.message.Message.{Message}
 use Rattle.sink_turns.specs.declared.spoken.Unsaid.TheVariants as unsaid
 use Rattle.sink_turns.specs.declared.turns.NotSaid.{NotSaid}
-use Rattle.sink_turns.specs.declared.turns.NotSaid.TheVariants as not
+use Rattle.sink_turns.specs.declared.turns.NotSaid.TheVariants as reason
 use Rattle.sink_turns.specs.Keeping.{OutPass, meaning, no_mark_lowers}
 use Rattle.sink_turns.specs.Marks.{marks_by, said}
 use Rattle.sink_turns.specs.Saying.{does_wait}
@@ -87,22 +87,22 @@ said_continues m more (Ok u) before after h = (
   continues_done _ before after h,
   ap messages_of h.so.1 ∙ one_message m (does_wait (text (before.seen.marks ++ h.others)) m more),
 )
-said_continues m more (Err not.Spent) before after h = ([], subst (Continues [] before) (sym h) (continues_spent before), refl)
-said_continues m more (Err (not.Fault unsaid.SinkFault)) before after h = (
+said_continues m more (Err reason.Spent) before after h = ([], subst (Continues [] before) (sym h) (continues_spent before), refl)
+said_continues m more (Err (reason.Fault unsaid.SinkFault)) before after h = (
   messages_of h.deeds,
   continues_done _ before after h,
   ⊎_elim (λ x. inl (ap messages_of x.1)) (λ x. inr (ap messages_of x.3)) h.so,
 )
-said_continues m more (Err (not.Fault unsaid.NoMemory)) before after h = (messages_of h.deeds, continues_done _ before after h, ap messages_of h.so)
+said_continues m more (Err (reason.Fault unsaid.NoMemory)) before after h = (messages_of h.deeds, continues_done _ before after h, ap messages_of h.so)
 
 pub said_cell : (m : Message) (more : Bool) (r : Result (Unit {0}) NotSaid) (before after : OutPass) → IsSaid m more r before after → after.cell ≡ before.cell
 said_cell m more (Ok u) before after h = h.went.same.cell
-said_cell m more (Err not.Spent) before after h = ap (λ (p : OutPass). p.cell) h
-said_cell m more (Err (not.Fault unsaid.SinkFault)) before after h = h.went.same.cell
-said_cell m more (Err (not.Fault unsaid.NoMemory)) before after h = h.went.same.cell
+said_cell m more (Err reason.Spent) before after h = ap (λ (p : OutPass). p.cell) h
+said_cell m more (Err (reason.Fault unsaid.SinkFault)) before after h = h.went.same.cell
+said_cell m more (Err (reason.Fault unsaid.NoMemory)) before after h = h.went.same.cell
 
 -- where the sink failed, the history that the pass has seen says so
-pub sees_fault : (m : Message) (more : Bool) (before after : OutPass) → IsSaid m more (Err (not.Fault unsaid.SinkFault)) before after → (text after.seen.marks).cut ≡ true
+pub sees_fault : (m : Message) (more : Bool) (before after : OutPass) → IsSaid m more (Err (reason.Fault unsaid.SinkFault)) before after → (text after.seen.marks).cut ≡ true
 sees_fault m more before after h =
     let front : List Mark = before.seen.marks ++ h.others in
     let whole : text after.seen.marks ≡ text_after (text front) (marks_by before.number h.deeds) = ap text h.seen ∙ text_more nothing front (marks_by before.number h.deeds) in
@@ -117,13 +117,13 @@ flushed_continues (Ok u) before after h =
     subst (λ (l : List Message). Continues l before after)
     (⊎_elim (λ (x : ((text (before.seen.marks ++ h.others)).waits ≡ []) × (h.deeds ≡ [])). ap messages_of x.1) (λ (x : h.deeds ≡ Put ∷ []). ap messages_of x) h.so.1)
     (continues_done _ before after h)
-flushed_continues (Err not.Spent) before after h = subst (Continues [] before) (sym h) (continues_spent before)
-flushed_continues (Err (not.Fault unsaid.SinkFault)) before after h =
+flushed_continues (Err reason.Spent) before after h = subst (Continues [] before) (sym h) (continues_spent before)
+flushed_continues (Err (reason.Fault unsaid.SinkFault)) before after h =
     subst (λ (l : List Message). Continues l before after) (⊎_elim (λ x. ap messages_of x.1) (λ x. ap messages_of x.3) h.so) (continues_done _ before after h)
-flushed_continues (Err (not.Fault unsaid.NoMemory)) before after h = subst (λ (l : List Message). Continues l before after) (ap messages_of h.so) (continues_done _ before after h)
+flushed_continues (Err (reason.Fault unsaid.NoMemory)) before after h = subst (λ (l : List Message). Continues l before after) (ap messages_of h.so) (continues_done _ before after h)
 
 pub flushed_cell : (r : Result (Unit {0}) NotSaid) (before after : OutPass) → IsFlushed r before after → after.cell ≡ before.cell
 flushed_cell (Ok u) before after h = h.went.same.cell
-flushed_cell (Err not.Spent) before after h = ap (λ (p : OutPass). p.cell) h
-flushed_cell (Err (not.Fault unsaid.SinkFault)) before after h = h.went.same.cell
-flushed_cell (Err (not.Fault unsaid.NoMemory)) before after h = h.went.same.cell
+flushed_cell (Err reason.Spent) before after h = ap (λ (p : OutPass). p.cell) h
+flushed_cell (Err (reason.Fault unsaid.SinkFault)) before after h = h.went.same.cell
+flushed_cell (Err (reason.Fault unsaid.NoMemory)) before after h = h.went.same.cell

@@ -7,7 +7,7 @@ use Rattle.lanes.specs.Ends.{End, has_taken}
 use Rattle.sink_turns.specs.declared.message.Message.{Message}
 use Rattle.sink_turns.specs.declared.spoken.Unsaid.TheVariants as unsaid
 use Rattle.sink_turns.specs.declared.turns.NotSaid.{NotSaid}
-use Rattle.sink_turns.specs.declared.turns.NotSaid.TheVariants as not
+use Rattle.sink_turns.specs.declared.turns.NotSaid.TheVariants as reason
 use Rattle.sink_turns.specs.Keeping.{OutPass}
 use Rattle.sink_turns.specs.Told.{IsFlushed, IsSaid}
 use Rattle.lane_workers.specs.Answering.{Answered, AnswersAll, answered}
@@ -46,9 +46,9 @@ module _ {T W K : Type 0} where
 
   why_shown : (m : Message) (more : Bool) (r : Result (Unit {0}) NotSaid) (w : Worker T W K) (before : OutPass) → IsSaid m more r before w.pass → ShowsWhy (stop_of r) w
   why_shown m more (Ok u) w before h = tt
-  why_shown m more (Err not.Spent) w before h = ap (λ (p : OutPass). p.spent) h
-  why_shown m more (Err (not.Fault unsaid.SinkFault)) w before h = sees_fault m more before w.pass h
-  why_shown m more (Err (not.Fault unsaid.NoMemory)) w before h = tt
+  why_shown m more (Err reason.Spent) w before h = ap (λ (p : OutPass). p.spent) h
+  why_shown m more (Err (reason.Fault unsaid.SinkFault)) w before h = sees_fault m more before w.pass h
+  why_shown m more (Err (reason.Fault unsaid.NoMemory)) w before h = tt
 
   pub has_said : (m : Message) (more : Bool) (lane lane' : End T) (row : W) (r : Result (Unit {0}) NotSaid) (stop : Option Stop) (before after : OutPass) → IsSaid m more r before after → lane' ≡ lane → stop ≡ stop_of r
       → HasSaid m stop (worker_of lane before row) (worker_of lane' after row)

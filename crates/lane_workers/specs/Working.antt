@@ -8,7 +8,7 @@ use Rattle.sink_turns.specs.declared.mark.Deed.{Deed}
 use Rattle.sink_turns.specs.declared.message.Message.{Message}
 use Rattle.sink_turns.specs.declared.spoken.Unsaid.TheVariants as unsaid
 use Rattle.sink_turns.specs.declared.turns.NotSaid.{NotSaid}
-use Rattle.sink_turns.specs.declared.turns.NotSaid.TheVariants as not
+use Rattle.sink_turns.specs.declared.turns.NotSaid.TheVariants as reason
 use Rattle.sink_turns.specs.Keeping.{OutPass, meaning}
 use Rattle.sink_turns.specs.Marks.{marks_by, said}
 use Rattle.sink_turns.specs.Text.{text}
@@ -29,7 +29,7 @@ HasGone turns deeds before after = (pass : OutPass) × Went meaning turns (tagge
 -- what is in the history of a message that stopped the worker: nothing, or where the sink failed the message, which was not
 -- put whole
 abbrev pub IsCut : Message → NotSaid → List Message → Type 0
-IsCut message (not.Fault unsaid.SinkFault) cut = (cut ≡ []) ⊎ (cut ≡ message ∷ [])
+IsCut message (reason.Fault unsaid.SinkFault) cut = (cut ≡ []) ⊎ (cut ≡ message ∷ [])
 IsCut message other cut = cut ≡ []
 
 module _ {T W K : Type 0} where
@@ -41,8 +41,8 @@ module _ {T W K : Type 0} where
 
   -- where no ticket is left, the pass says so; where the sink failed, it has seen that
   abbrev pub ShowsWhy : Option Stop → Worker T W K → Type 0
-  ShowsWhy (Some (Unheard not.Spent)) worker = worker.pass.spent ≡ true
-  ShowsWhy (Some (Unheard (not.Fault unsaid.SinkFault))) worker = (text worker.pass.seen.marks).cut ≡ true
+  ShowsWhy (Some (Unheard reason.Spent)) worker = worker.pass.spent ≡ true
+  ShowsWhy (Some (Unheard (reason.Fault unsaid.SinkFault))) worker = (text worker.pass.seen.marks).cut ≡ true
   ShowsWhy other worker = Unit {0}
 
 module _ {T W : Type 0} (HasAnswered : W → T → Option Message → W → Type 0) where

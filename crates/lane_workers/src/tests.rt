@@ -142,7 +142,8 @@ fn what_waits_is_put_before_an_answer_that_may_take_long(rt: HostRuntime) -> Res
     Ok(())
 }
 
-// Starts a worker, puts three amounts and closes the lane. What the row is then, and why it stopped.
+// Puts an amount, starts a worker, puts two more and closes the lane. What the row is then, why it
+// stopped, and whether it had a thread.
 fn add_three<'s, E, R: Threads + Wait + Sync + 's>(
     scope: &Scope<'s, E>,
     rt: &'s R,
@@ -150,20 +151,22 @@ fn add_three<'s, E, R: Threads + Wait + Sync + 's>(
     cell: &'s TurnCell<Out<MemorySink>>,
     worker: Worker<u32, u32, MemorySink>,
     puts: Lane<u32>,
-) -> (u32, Option<Stop>)
+) -> (u32, Option<Stop>, bool)
     requires puts { puts.puts ≡ true }
     requires takes { worker.lane.takes ≡ true }
     requires own { worker.pass.cell ≡ cell.now }
 {
-    let started = start(scope, rt, service, cell, worker, &puts);
     let puts = put_in(rt, puts, 1);
+    let started = start(scope, rt, service, cell, worker, &puts);
+    let is_running = started.is_running();
     let puts = put_in(rt, puts, 2);
     let puts = put_in(rt, puts, 3);
     puts.close();
     let worked = wait(rt, started);
-    (worked.worker.row, worked.stop)
+    (worked.worker.row, worked.stop, is_running)
 }
 
+// Whether threads are refused here depends on the limits of the process.
 #[test]
 fn a_worker_in_a_thread_answers_what_is_put(rt: HostRuntime) -> Result<(), Fail> {
     let alloc = rt.alloc();
@@ -173,14 +176,15 @@ fn a_worker_in_a_thread_answers_what_is_put(rt: HostRuntime) -> Result<(), Fail>
     };
     let service = Adder { alloc };
     let worker = Worker { lane, pass, row: 0 };
-    let (total, stop) = thread::scope(
+    let (total, stop, is_running) = thread::scope(
         thread::scope_env(),
         &rt,
-        |scope| -> (u32, Option<Stop>)
+        |scope| -> (u32, Option<Stop>, bool)
             requires { (puts.puts ≡ true) × (worker.lane.takes ≡ true) × (worker.pass.cell ≡ cell) }
         { add_three(scope, &rt, &service, &cell, worker, puts) },
     );
-    assert_eq!(rt; total, 6);
+    // Without a thread it answers what was put before, and ends.
+    assert_eq!(rt; total, if is_running { 6 } else { 1 });
     assert_eq!(rt; stop, None);
     Ok(())
 }
