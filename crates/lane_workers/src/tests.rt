@@ -70,6 +70,18 @@ fn put_in<R: Wait>(rt: &R, puts: Lane<u32>, amount: u32) -> Lane<u32>
     puts
 }
 
+// Puts these amounts, as far as there is room for them.
+fn put_all<R: Wait>(rt: &R, puts: Lane<u32>, amounts: &[u32]) -> Lane<u32>
+    requires { puts.puts ≡ true }
+    ensures { result.puts ≡ true }
+{
+    let mut puts = puts;
+    for amount in amounts {
+        puts = put_in(rt, puts, *amount);
+    }
+    puts
+}
+
 // A worker answers these amounts, and its lane is closed. What the sink holds then, what the row is,
 // and why it stopped.
 fn answer_all<R: Wait>(
@@ -78,10 +90,8 @@ fn answer_all<R: Wait>(
     sink: MemorySink,
     amounts: &[u32],
 ) -> Result<(MemorySink, u32, Option<Stop>), Fail> {
-    let (mut puts, takes) = Lane::new(alloc, ROOM)?;
-    for amount in amounts {
-        puts = put_in(rt, puts, *amount);
-    }
+    let (puts, takes) = Lane::new(alloc, ROOM)?;
+    let puts = put_all(rt, puts, amounts);
     puts.close();
     let Ok((cell, pass)) = open(alloc, sink) else {
         return Err("memory".into());
