@@ -1,6 +1,6 @@
 ghost use Rattle.std.specs.Prelude.{◌≡◌, true};
 
-use crate::{Answers, Stop, Worker, start, work};
+use crate::{Answers, Stop, Worked, Worker, start, work};
 use lanes::{Lane, ROOM};
 use packet::memory::{Failing, MemorySink};
 use packet::{Header, OK, REPLY};
@@ -102,9 +102,11 @@ fn answer_all<R: Wait>(
         row: 0,
     };
     let service = Adder { alloc };
-    let worked = work(rt, &service, &cell, worker);
-    let (sink, _) = close(cell, worked.worker.pass);
-    Ok((sink, worked.worker.row, worked.stop))
+    let Worked { worker, stop } = work(rt, &service, &cell, worker);
+    let Worker { lane, pass, row } = worker;
+    drop(lane);
+    let (sink, _) = close(cell, pass);
+    Ok((sink, row, stop))
 }
 
 #[test]
