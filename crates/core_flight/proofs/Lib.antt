@@ -1,3 +1,4 @@
+pub mod Asides
 pub mod Beginning
 pub mod Entering
 pub mod Histories
@@ -8,6 +9,7 @@ pub mod PhaseEntering
 pub mod PhaseHistories
 pub mod Rotating
 pub mod Silent
+pub mod Starving
 pub mod Told
 pub mod Turned
 pub mod Below
