@@ -12,4 +12,5 @@ pub mod Silent
 pub mod Starving
 pub mod Told
 pub mod Turned
+pub mod Wholes
 pub mod Below

@@ -12,7 +12,7 @@ resume-requires-clause-may c =
     let i = c.self.inside in
     let w = c.in-Some-Call.away in
     let is : i.away ≡ Some (gone.Call w) = sym c.take.ensures.value ∙ c.in-Some-Call.is ∙ ap (λ (u : Out). Some u) c.in-Some-Call.field-0-is in
-    may_answer i.chapter i.away w a.by.number a.answer is c.self.invariant
+    may_answer i.chapter i.away w a.by.number a.answer is c.self.invariant.out
     (subst (λ (v : Ledgered). MayAnswer (now_in v) (now_in v).job v.course a.by.number a.answer) (sym c.self.view_is) c.requires.may)
 
 pub resume_phase-requires-clause-may : goal.resume_phase-requires-clause-may
@@ -21,7 +21,7 @@ resume_phase-requires-clause-may c =
     let i = c.self.inside in
     let w = c.in-Some-Phase.away in
     let is : i.away ≡ Some (gone.Phase w) = sym c.take.ensures.value ∙ c.in-Some-Phase.is ∙ ap (λ (u : Out). Some u) c.in-Some-Phase.field-0-is in
-    may_answer_phase i.chapter i.away w a.by.number a.answer is c.self.invariant
+    may_answer_phase i.chapter i.away w a.by.number a.answer is c.self.invariant.out
     (subst (λ (v : Ledgered). MayAnswer (now_in v) (now_in v).job v.course a.by.number a.answer) (sym c.self.view_is) c.requires.may)
 
 pub returns-in-Away-clause-back : goal.returns-in-Away-clause-back
@@ -31,7 +31,7 @@ returns-in-Away-clause-back c =
     let w = c.in-Some-Call.away in
     let is : i.away ≡ Some (gone.Call w) = sym c.take.ensures.value ∙ c.in-Some-Call.is ∙ ap (λ (u : Out). Some u) c.in-Some-Call.field-0-is in
     subst (λ (v : Ledgered). GoesBack a.by.number v.course a.answer v (seen c.resume.new.chapter c.set.new.slot) (back.Away c.in-Away.ask)) c.self.view_is
-    (back_away i.chapter c.resume.new.chapter i.away c.set.new.slot a.by.number w a.answer c.in-Away.away c.in-Away.ask is c.self.invariant c.set.ensures c.in-Away.ensures.turn)
+    (back_away i.chapter c.resume.new.chapter i.away c.set.new.slot a.by.number w a.answer c.in-Away.away c.in-Away.ask is c.self.invariant.out c.set.ensures c.in-Away.ensures.turn)
 
 pub returns-in-Away-resume_phase-clause-back : goal.returns-in-Away-resume_phase-clause-back
 returns-in-Away-resume_phase-clause-back c =
@@ -40,5 +40,5 @@ returns-in-Away-resume_phase-clause-back c =
     let w = c.in-Some-Phase.away in
     let is : i.away ≡ Some (gone.Phase w) = sym c.take.ensures.value ∙ c.in-Some-Phase.is ∙ ap (λ (u : Out). Some u) c.in-Some-Phase.field-0-is in
     subst (λ (v : Ledgered). GoesBack a.by.number v.course a.answer v (seen c.resume_phase.new.chapter c.set-in-Away-resume_phase.new.slot) (back.Away c.in-Away-resume_phase.ask)) c.self.view_is
-    (back_phase_away i.chapter c.resume_phase.new.chapter i.away c.set-in-Away-resume_phase.new.slot a.by.number w a.answer c.in-Away-resume_phase.away c.in-Away-resume_phase.ask is c.self.invariant
+    (back_phase_away i.chapter c.resume_phase.new.chapter i.away c.set-in-Away-resume_phase.new.slot a.by.number w a.answer c.in-Away-resume_phase.away c.in-Away-resume_phase.ask is c.self.invariant.out
     c.set-in-Away-resume_phase.ensures c.in-Away-resume_phase.ensures.turn)

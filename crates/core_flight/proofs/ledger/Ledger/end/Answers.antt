@@ -1,6 +1,5 @@
-use Rattle.std.proofs.Common.{◌≡◌, [], ◌∷◌, Option, sym, ap, ◌∙◌, subst}
+use Rattle.std.proofs.Common.{◌≡◌, [], ◌∷◌, sym, ap, ◌∙◌, subst}
 use Rattle.domain_spec.specs.declared.mark.Mark.TheVariants as mark
-use Rattle.domain_spec.specs.declared.open.OpenOperation.{OpenOperation}
 use Rattle.domain_spec.specs.declared.standing.Standing.{Standing}
 use Rattle.domain_spec.specs.Legal.{IsLawful}
 use Rattle.core_chapter.specs.Closing.{reply_in}
@@ -8,7 +7,9 @@ use Rattle.core_flight.specs.Ledger.{Ledgered, now_in, with_marks}
 use Rattle.core_flight.specs.Operations.{IsToldAtEnd}
 use Rattle.core_flight.specs.Turn.{force_in, shown}
 use Rattle.core_flight.proofs.Histories.{in_shown, shown_more}
-use Rattle.core_flight.proofs.Ledgers.{end_lawful, kept_end}
+use Rattle.core_flight.proofs.Asides.{told_at_end}
+use Rattle.core_flight.proofs.Ledgers.{end_lawful}
+use Rattle.core_flight.proofs.Wholes.{whole_end}
 use Rattle.core_flight.proofs.ledger.Ledger.end.Goals as goal
 
 pub end_over-requires-clause-lawful : goal.end_over-requires-clause-lawful
@@ -22,7 +23,7 @@ invariant_of-self c =
     let a = c.args in
     let i = c.self.inside in
     let lawful = end_lawful i.chapter i.away a.by.number a.who (subst (λ (v : Ledgered). IsLawful (now_in v) (mark.End a.by.number a.who (reply_in (now_in v).operation))) (sym c.self.view_is) c.requires.lawful) in
-    kept_end i.chapter c.end_over.new.self a.by a.who (reply_in (force_in i.chapter).operation) i.away lawful c.self.invariant c.end_over.ensures.history
+    whole_end i.chapter c.end_over.new.self a.by a.who (reply_in (force_in i.chapter).operation) i.away i.aside c.take_told-told.new.aside lawful c.self.invariant c.take_told-told.ensures.nothing c.end_over.ensures.history
 
 pub returns-clause-history : goal.returns-clause-history
 returns-clause-history c =
@@ -34,7 +35,10 @@ returns-clause-history c =
 
 pub returns-clause-told : goal.returns-clause-told
 returns-clause-told c =
+    let a = c.args in
     let i = c.self.inside in
-    subst (λ (v : Ledgered). IsToldAtEnd (reply_in (now_in v).operation) c.told_at_end-told.result) c.self.view_is
-    (subst (λ (s : Standing). IsToldAtEnd (reply_in s.operation) c.told_at_end-told.result) (sym (in_shown i.chapter))
-    (subst (λ (o : Option OpenOperation). IsToldAtEnd (reply_in o) c.told_at_end-told.result) c.operation.ensures.operation c.told_at_end-told.ensures))
+    let lawful = end_lawful i.chapter i.away a.by.number a.who (subst (λ (v : Ledgered). IsLawful (now_in v) (mark.End a.by.number a.who (reply_in (now_in v).operation))) (sym c.self.view_is) c.requires.lawful) in
+    subst (λ (v : Ledgered). IsToldAtEnd (reply_in (now_in v).operation) c.take_told-told.result) c.self.view_is
+    (subst (λ (s : Standing). IsToldAtEnd (reply_in s.operation) c.take_told-told.result) (sym (in_shown i.chapter))
+    (c.take_told-told.ensures.told
+    ∙ told_at_end (force_in i.chapter) (force_in i.chapter).operation a.by.number a.who (reply_in (force_in i.chapter).operation) i.aside lawful.in_order c.self.invariant.aside))

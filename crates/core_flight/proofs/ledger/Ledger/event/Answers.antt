@@ -1,4 +1,4 @@
-use Rattle.std.proofs.Common.{◌≡◌, [], ◌∷◌, None, true, sym, ap, ◌∙◌, subst}
+use Rattle.std.proofs.Common.{◌≡◌, ◌<◌, [], ◌∷◌, None, true, sym, ap, ◌∙◌, subst}
 use Rattle.domain_spec.specs.declared.mark.Mark.TheVariants as mark
 use Rattle.domain_spec.specs.declared.standing.Standing.{Standing}
 use Rattle.domain_spec.specs.Exit.{event_transitions}
@@ -6,7 +6,8 @@ use Rattle.domain_spec.specs.Reading.{is_live}
 use Rattle.core_flight.specs.Ledger.{Ledgered, now_in, with_marks}
 use Rattle.core_flight.specs.Turn.{force_in, shown}
 use Rattle.core_flight.proofs.Histories.{in_shown, shown_more}
-use Rattle.core_flight.proofs.Ledgers.{event_lawful, is_live_in, kept_event, none_open_in}
+use Rattle.core_flight.proofs.Ledgers.{event_lawful, is_live_in, none_open_in}
+use Rattle.core_flight.proofs.Wholes.{whole_event}
 use Rattle.core_flight.proofs.ledger.Ledger.event.Goals as goal
 
 pub event-requires-clause-lawful : goal.event-requires-clause-lawful
@@ -22,7 +23,8 @@ invariant_of-self c =
     let a = c.args in
     let i = c.self.inside in
     let free = none_open_in i.chapter i.away (subst (λ (v : Ledgered). (now_in v).job ≡ None) (sym c.self.view_is) c.requires.free) in
-    kept_event i.chapter c.event.new.self a.boot a.event (event_transitions (force_in i.chapter).state a.event) i.away free c.self.invariant c.event.ensures.history
+    whole_event i.chapter c.event.new.self a.boot a.event (event_transitions (force_in i.chapter).state a.event) i.away i.aside free c.self.invariant
+    (subst (λ (v : Ledgered). 0 < v.spare) (sym c.self.view_is) c.requires.room) c.event.ensures.spare c.event.ensures.history
 
 pub returns-clause-history : goal.returns-clause-history
 returns-clause-history c =

@@ -1,9 +1,10 @@
-use Rattle.std.proofs.Common.{◌≡◌, List, [], ◌∷◌, ◌++◌, true, sym, ap, ◌∙◌, subst}
+use Rattle.std.proofs.Common.{◌≡◌, ◌<◌, List, [], ◌∷◌, ◌++◌, true, sym, ap, ◌∙◌, subst}
 use Rattle.domain_spec.specs.Types.{Transition}
 use Rattle.domain_spec.specs.Exit.{exit_transitions}
 use Rattle.domain_spec.specs.Reading.{is_live}
 use Rattle.core_flight.specs.Ledger.{Ledgered, now_in}
-use Rattle.core_flight.proofs.Ledgers.{exit_lawful, is_live_in, kept_exit}
+use Rattle.core_flight.proofs.Ledgers.{exit_lawful, is_live_in}
+use Rattle.core_flight.proofs.Wholes.{whole_exit}
 use Rattle.core_flight.proofs.ledger.Ledger.exit.Goals as goal
 
 pub exit-requires-clause-lawful : goal.exit-requires-clause-lawful
@@ -20,4 +21,5 @@ invariant_of-self c =
     let a = c.args in
     let i = c.self.inside in
     let live = is_live_in i.chapter i.away a.boot (subst (λ (v : Ledgered). is_live (now_in v).state a.boot ≡ true) (sym c.self.view_is) c.requires.live) in
-    kept_exit i.chapter c.exit.new.self i.away a.boot a.why c.into_list.result c.settled.ensures.tidy live c.self.invariant c.exit.ensures.history
+    whole_exit i.chapter c.exit.new.self i.away a.boot a.why c.into_list.result i.aside c.settled.ensures.tidy live c.self.invariant
+    (subst (λ (v : Ledgered). 0 < v.spare) (sym c.self.view_is) c.requires.room) c.exit.ensures.spare c.exit.ensures.history

@@ -12,4 +12,4 @@ returns-clause-waits c =
     let i = c.self.inside in
     subst (λ (v : Ledgered). WaitsWith (now_in v) (now_in v).job v.course) c.self.view_is
     (subst (λ (s : Standing). WaitsWith s s.job (option_map course_out i.away)) (sym (in_shown i.chapter))
-    (waits_with (force_in i.chapter) (force_in i.chapter).job i.away c.self.invariant))
+    (waits_with (force_in i.chapter) (force_in i.chapter).job i.away c.self.invariant.out))

@@ -30,5 +30,5 @@ pub returns-in-Phased-clause-phased : goal.returns-in-Phased-clause-phased
 returns-in-Phased-clause-phased c =
     let a = c.args in
     let i = c.self.inside in
-    subst (λ (v : Ledgered). EntersPhase a.by.number a.who v (seen c.enter_phase.new.chapter c.set-in-Phased.new.slot) (begins.Phased c.in-Phased.step)) c.self.view_is
-    (phase_done i.chapter c.enter_phase.new.chapter i.away c.set-in-Phased.new.slot a.by.number a.who c.in-Phased.step c.set-in-Phased.ensures c.in-Phased.ensures.turn)
+    subst (λ (v : Ledgered). EntersPhase a.by.number a.who v (seen c.enter_phase.new.chapter c.set-in-Phased.new.slot) (begins.Phased c.lead.result)) c.self.view_is
+    (phase_done i.chapter c.enter_phase.new.chapter i.away c.set-in-Phased.new.slot a.by.number a.who c.in-Phased.left c.lead.result c.set-in-Phased.ensures c.in-Phased.ensures.turn c.lead.ensures.step)

@@ -1,8 +1,9 @@
-use Rattle.std.proofs.Common.{refl, sym, subst}
+use Rattle.std.proofs.Common.{◌<◌, refl, sym, subst}
 use Rattle.domain_spec.specs.declared.mark.Mark.TheVariants as mark
 use Rattle.domain_spec.specs.Legal.{IsLawful}
 use Rattle.core_flight.specs.Ledger.{Ledgered, now_in}
-use Rattle.core_flight.proofs.Ledgers.{is_lawful, kept_mark}
+use Rattle.core_flight.proofs.Ledgers.{is_lawful}
+use Rattle.core_flight.proofs.Wholes.{whole_mark}
 use Rattle.core_flight.proofs.ledger.Ledger.refuse.Goals as goal
 
 pub refuse-requires-clause-lawful : goal.refuse-requires-clause-lawful
@@ -16,4 +17,4 @@ pub invariant_of-self : goal.invariant_of-self
 invariant_of-self c =
     let a = c.args in
     let i = c.self.inside in
-    kept_mark i.chapter c.refuse.new.self (mark.Refused a.by a.who a.call a.code a.held) i.away refl refl refl c.self.invariant c.refuse.ensures.history
+    whole_mark i.chapter c.refuse.new.self (mark.Refused a.by a.who a.call a.code a.held) i.away i.aside refl refl refl c.self.invariant (subst (λ (v : Ledgered). 0 < v.spare) (sym c.self.view_is) c.requires.room) c.refuse.ensures.spare c.refuse.ensures.history

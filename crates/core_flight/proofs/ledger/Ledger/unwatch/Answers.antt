@@ -1,8 +1,9 @@
-use Rattle.std.proofs.Common.{refl, sym, subst}
+use Rattle.std.proofs.Common.{◌<◌, refl, sym, subst}
 use Rattle.domain_spec.specs.declared.mark.Mark.TheVariants as mark
 use Rattle.domain_spec.specs.Legal.{IsLawful}
 use Rattle.core_flight.specs.Ledger.{Ledgered, now_in}
-use Rattle.core_flight.proofs.Ledgers.{is_lawful, kept_mark}
+use Rattle.core_flight.proofs.Ledgers.{is_lawful}
+use Rattle.core_flight.proofs.Wholes.{whole_mark}
 use Rattle.core_flight.proofs.ledger.Ledger.unwatch.Goals as goal
 
 pub unwatch-requires-clause-lawful : goal.unwatch-requires-clause-lawful
@@ -16,4 +17,4 @@ pub invariant_of-self : goal.invariant_of-self
 invariant_of-self c =
     let a = c.args in
     let i = c.self.inside in
-    kept_mark i.chapter c.unwatch.new.self (mark.Unwatch a.by a.client) i.away refl refl refl c.self.invariant c.unwatch.ensures.history
+    whole_mark i.chapter c.unwatch.new.self (mark.Unwatch a.by a.client) i.away i.aside refl refl refl c.self.invariant (subst (λ (v : Ledgered). 0 < v.spare) (sym c.self.view_is) c.requires.room) c.unwatch.ensures.spare c.unwatch.ensures.history
