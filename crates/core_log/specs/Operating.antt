@@ -34,9 +34,8 @@ TakesUp n who c boot old new (begun.Done r) =
     (takes_it_up (force_of old) c boot ≡ false)
     × IsDoneWith old (admit_of n who c boot ∷ []) n (first_course (force_of old).state c boot) new r
 
--- the due phase was let in: it is done at once, or asks somebody; for some asks there was no memory
+-- the due phase was let in: it is done at once, or asks somebody; for some asks, or for all, there was no memory
 abbrev pub EntersPhase : ℕ → Who → Recorded → Recorded → PhaseEntry → Type 0
-EntersPhase n who old new entry.NoMemory = new ≡ old
 EntersPhase n who old new (entry.Away x) =
     (a : Asked) × IsFirst (force_of old) (force_of old).operation a
     × (count : ℕ) × IsAsking old (nested_in (force_of old) (force_of old).operation n who) (starved count a) new x

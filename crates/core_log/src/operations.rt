@@ -6,12 +6,13 @@ ghost use Rattle.domain_spec.specs.declared.mark.Mark.TheVariants as mark;
 ghost use Rattle.core_flight.specs.Below.core_chapter.Closing.{reply_in};
 ghost use Rattle.core_flight.specs.Ledger.{now_in};
 ghost use Rattle.core_flight.specs.Operations.{IsToldAtEnd, MayPhase};
+ghost use Rattle.core_flight.specs.declared.ledger.PhaseEntry.TheVariants as phase_entry;
 ghost use Rattle.event_queue.specs.Listening.{registrations};
 ghost use Rattle.core_log.specs.Operating.{Begins, EntersPhase, TakesUp};
 ghost use Rattle.core_log.specs.Record.{HasMarked, IsHeld, open_ends, recorded};
 
 use crate::telling::{settled, tell};
-use core_flight::{Begun, Ledger, PhaseEntry};
+use core_flight::{Begun, Ledger, PhaseEntry, Step};
 use event_queue::Listeners;
 use history_spec::Stamp;
 use std::alloc::Global;
@@ -28,12 +29,12 @@ pub fn begin(
     boot: Option<u64>,
 ) -> Begun
     requires held { IsHeld ledger.old listeners.old.listeners }
-    requires room { 3 + open_ends (registrations listeners.old.listeners) ≤ ledger.old.spare }
+    requires room { 7 + open_ends (registrations listeners.old.listeners) ≤ ledger.old.spare }
     requires begins { is_some (begins call.now) ≡ true }
     requires lawful { IsLawful (now_in ledger.old) (mark.Admit by.number who (job_of call.now) call.now boot) }
     ensures begun { Begins by.number who call.now boot (recorded ledger.old listeners.old.listeners) (recorded ledger.new listeners.new.listeners) result }
     ensures held { IsHeld ledger.new listeners.new.listeners }
-    ensures spare { (recorded ledger.old listeners.old.listeners).spare ≤ (recorded ledger.new listeners.new.listeners).spare + 3 }
+    ensures spare { (recorded ledger.old listeners.old.listeners).spare ≤ (recorded ledger.new listeners.new.listeners).spare + 7 }
 {
     match ledger.begin(alloc, by, who, call, boot) {
         Begun::Done(reply) => {
@@ -60,12 +61,12 @@ pub fn take_up(
     boot: Option<u64>,
 ) -> Begun
     requires held { IsHeld ledger.old listeners.old.listeners }
-    requires room { 3 + open_ends (registrations listeners.old.listeners) ≤ ledger.old.spare }
+    requires room { 7 + open_ends (registrations listeners.old.listeners) ≤ ledger.old.spare }
     requires takes { is_some (takes_up call.now) ≡ true }
     requires lawful { IsLawful (now_in ledger.old) (mark.Admit by.number who (job_of call.now) call.now boot) }
     ensures begun { TakesUp by.number who call.now boot (recorded ledger.old listeners.old.listeners) (recorded ledger.new listeners.new.listeners) result }
     ensures held { IsHeld ledger.new listeners.new.listeners }
-    ensures spare { (recorded ledger.old listeners.old.listeners).spare ≤ (recorded ledger.new listeners.new.listeners).spare + 3 }
+    ensures spare { (recorded ledger.old listeners.old.listeners).spare ≤ (recorded ledger.new listeners.new.listeners).spare + 7 }
 {
     match ledger.take_up(alloc, by, who, call, boot) {
         Begun::Done(reply) => {
@@ -106,12 +107,25 @@ pub fn phase(
             settled(ledger);
             PhaseEntry::Away(ask)
         }
-        PhaseEntry::NoMemory => PhaseEntry::NoMemory,
     }
 }
 
+/// The due phase of the open operation is let in without any memory.
+pub fn starve(ledger: &mut Ledger, listeners: &mut Listeners, by: Stamp, who: Who) -> Step
+    requires held { IsHeld ledger.old listeners.old.listeners }
+    requires may { MayPhase (now_in ledger.old) (now_in ledger.old).operation by.number who }
+    ensures phased { EntersPhase by.number who (recorded ledger.old listeners.old.listeners) (recorded ledger.new listeners.new.listeners) (phase_entry.Phased result) }
+    ensures held { IsHeld ledger.new listeners.new.listeners }
+    ensures spare { (recorded ledger.old listeners.old.listeners).spare ≤ (recorded ledger.new listeners.new.listeners).spare }
+{
+    let step = ledger.starve(by, who);
+    settled(ledger);
+    tell(ledger, listeners);
+    step
+}
+
 /// The operation, which is over, ends. Listeners hear nothing of it.
-pub fn end(ledger: &mut Ledger, listeners: &Listeners, alloc: Global, by: Stamp, who: Who) -> Reply
+pub fn end(ledger: &mut Ledger, listeners: &Listeners, by: Stamp, who: Who) -> Reply
     requires held { IsHeld ledger.old listeners.now.listeners }
     requires room { 1 + open_ends (registrations listeners.now.listeners) ≤ ledger.old.spare }
     requires lawful { IsLawful (now_in ledger.old) (mark.End by.number who (reply_in (now_in ledger.old).operation)) }
@@ -122,7 +136,7 @@ pub fn end(ledger: &mut Ledger, listeners: &Listeners, alloc: Global, by: Stamp,
     ensures spare { ledger.new.spare + 1 ≡ ledger.old.spare }
 {
     let _ = listeners.as_slice();
-    let told = ledger.end(alloc, by, who);
+    let told = ledger.end(by, who);
     settled(ledger);
     told
 }

@@ -13,12 +13,13 @@ ghost use Rattle.core_flight.specs.Below.core_chapter.Closing.{reply_in};
 ghost use Rattle.core_flight.specs.Below.core_chapter.Numbered.{all_numbered};
 ghost use Rattle.core_flight.specs.Ledger.{MayAnswer};
 ghost use Rattle.core_flight.specs.Operations.{IsToldAtEnd, MayPhase};
+ghost use Rattle.core_flight.specs.declared.ledger.PhaseEntry.TheVariants as phase_entry;
 ghost use Rattle.event_queue.specs.Listening.{AreAllTaken, AreApart, HandsOut, IsLeastFree, dropped_by, has_client, left_by, listening_of, new_listening, registrations, taken_by};
 ghost use Rattle.core_log.specs.Operating.{Begins, EntersPhase, TakesUp};
 ghost use Rattle.core_log.specs.Record.{GoesBack, HasMarked, IsQuietOf, LetsIn, StaysAway, Tells, force_of};
 
 use crate::{calls, chapters, clients, ends, operations};
-use core_flight::{Back, Begun, Chronicle, Entry, Ledger, LetIn, PhaseEntry, Underway};
+use core_flight::{Back, Begun, Chronicle, Entry, Ledger, LetIn, PhaseEntry, Step, Underway};
 use domain_spec::{HeldJobs, Mark};
 use event_queue::{Listeners, Taken};
 use history_spec::Stamp;
@@ -107,11 +108,11 @@ impl Record {
         call: &Call,
         boot: Option<u64>,
     ) -> Begun
-        requires room { 3 ≤ self.old.spare }
+        requires room { 7 ≤ self.old.spare }
         requires begins { is_some (begins call.now) ≡ true }
         requires lawful { IsLawful (force_of self.old) (mark.Admit by.number who (job_of call.now) call.now boot) }
         ensures begun { Begins by.number who call.now boot self.old self.new result }
-        ensures spare { self.old.spare ≤ self.new.spare + 3 }
+        ensures spare { self.old.spare ≤ self.new.spare + 7 }
     {
         operations::begin(
             &mut self.ledger,
@@ -134,11 +135,11 @@ impl Record {
         call: &Call,
         boot: Option<u64>,
     ) -> Begun
-        requires room { 3 ≤ self.old.spare }
+        requires room { 7 ≤ self.old.spare }
         requires takes { is_some (takes_up call.now) ≡ true }
         requires lawful { IsLawful (force_of self.old) (mark.Admit by.number who (job_of call.now) call.now boot) }
         ensures begun { TakesUp by.number who call.now boot self.old self.new result }
-        ensures spare { self.old.spare ≤ self.new.spare + 3 }
+        ensures spare { self.old.spare ≤ self.new.spare + 7 }
     {
         operations::take_up(
             &mut self.ledger,
@@ -152,8 +153,7 @@ impl Record {
     }
 
     /// The due phase of the open operation is let in: it is done at once, or asks somebody. A want of
-    /// memory for what it asks is its one answer; where there is none even for that nothing is left of
-    /// it, and it may be tried again.
+    /// memory for what it needs is its one answer.
     pub fn phase(&mut self, alloc: Global, by: Stamp, who: Who) -> PhaseEntry
         requires room { 3 ≤ self.old.spare }
         requires may { MayPhase (force_of self.old) (force_of self.old).operation by.number who }
@@ -163,9 +163,19 @@ impl Record {
         operations::phase(&mut self.ledger, &mut self.listeners, alloc, by, who)
     }
 
-    /// The operation, which is over, ends with the reply to which its last phase led. Its caller is told
-    /// that; where there is no memory for one more copy of it, it is told so. The mark takes none.
-    pub fn end(&mut self, alloc: Global, by: Stamp, who: Who) -> Reply
+    /// The due phase of the open operation is let in without any memory: it asks nothing, and its one answer
+    /// is that there is none. What it leads to ends its operation, or lets it rest, or gives it up next.
+    pub fn starve(&mut self, by: Stamp, who: Who) -> Step
+        requires may { MayPhase (force_of self.old) (force_of self.old).operation by.number who }
+        ensures phased { EntersPhase by.number who self.old self.new (phase_entry.Phased result) }
+        ensures spare { self.old.spare ≤ self.new.spare }
+    {
+        operations::starve(&mut self.ledger, &mut self.listeners, by, who)
+    }
+
+    /// The operation, which is over, ends with the reply to which its last phase led, and its caller is told
+    /// that. It takes no memory.
+    pub fn end(&mut self, by: Stamp, who: Who) -> Reply
         requires room { 0 < self.old.spare }
         requires lawful { IsLawful (force_of self.old) (mark.End by.number who (reply_in (force_of self.old).operation)) }
         ensures marked { HasMarked self.old self.new (mark.End by.number who (reply_in (force_of self.old).operation) ∷ []) }
@@ -174,7 +184,7 @@ impl Record {
         ensures course { self.new.course ≡ self.old.course }
         ensures spare { self.new.spare + 1 ≡ self.old.spare }
     {
-        operations::end(&mut self.ledger, &self.listeners, alloc, by, who)
+        operations::end(&mut self.ledger, &self.listeners, by, who)
     }
 
     /// The ask that the call or the phase made last is answered so. It takes no memory but for the next

@@ -33,4 +33,3 @@ pub mod Took
 pub mod Waiting
 pub mod Watched
 pub mod Below
-pub mod OfLedger

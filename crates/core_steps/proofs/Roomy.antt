@@ -25,3 +25,12 @@ end_fits r rooms le =
 pub end_stays : (old new : Recorded) (rooms : ℕ) → new ≡ with_room old new.spare → old.spare ≤ new.spare → HasEnd old rooms → HasEnd new rooms
 end_stays old new rooms same le has =
     subst (λ (r : Recorded). ends_needed (force_of r).operation + (marks_needed r.course + rooms) ≤ new.spare) (sym same) (omega (arith, le, has))
+
+-- a phase that finds no memory takes none of it
+pub end_starved : (old mid new : Recorded) (rooms : ℕ) (o : OpenOperation) → (force_of old).operation ≡ Some o → mid ≡ with_room old mid.spare → old.spare ≤ mid.spare → mid.spare ≤ new.spare → new.course ≡ None
+    → HasEnd old rooms → HasEnd new rooms
+end_starved old mid new rooms o is same le more none has =
+    let one = ends_few (force_of new).operation in
+    let was : ends_needed (force_of old).operation ≡ 1 = ap ends_needed is in
+    let nothing : marks_needed new.course ≡ 0 = ap marks_needed none in
+    omega (arith, one, was, nothing, le, more, has)

@@ -17,7 +17,6 @@ pub mod Phased
 pub mod Phasing
 pub mod Places
 pub mod Refusing
-pub mod Resting
 pub mod Rooms
 pub mod TurnLaws
 pub mod Turning

@@ -25,11 +25,10 @@ abbrev pub IsHeld : Option OpenJob → Type 0
 IsHeld None = ⊥
 IsHeld (Some j) = Unit {0}
 
--- the due phase was let in; where there is no memory even for its one answer, nothing is left of it
+-- the due phase was let in
 abbrev pub EntersSo : ℕ → Who → Recorded → Recorded → PhaseLook → Type 0
 EntersSo n who old new (look.Away x) = (spare : ℕ) × EntersPhase n who (with_room old spare) new (entry.Away x)
 EntersSo n who old new (look.Phased st) = (spare : ℕ) × EntersPhase n who (with_room old spare) new (entry.Phased st)
-EntersSo n who old new look.NoMemory = new ≡ with_room old new.spare
 EntersSo n who old new look.Excluded = ⊥
 
 -- the due phase is let in where no normal job is open, and else excluded: nothing changes then
@@ -44,4 +43,3 @@ Phases n who old new (look.Away x) =
     ((standing_of old.cell).job ≡ None) × Takes old new (step.Phase n who) (λ left. (length left ≡ 1) × AsksLast (share_of new.cell n).call x)
 Phases n who old new (look.Phased st) = ((standing_of old.cell).job ≡ None) × Takes old new (step.Phase n who) (HasPhased n st old new)
 Phases n who old new look.Excluded = IsHeld (standing_of old.cell).job × Takes old new (step.Phase n who) (λ left. left ≡ [])
-Phases n who old new look.NoMemory = ((standing_of old.cell).job ≡ None) × Takes old new (step.Phase n who) (λ left. left ≡ [])

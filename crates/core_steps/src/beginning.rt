@@ -51,11 +51,11 @@ fn begin(
     call: &Call,
     boot: Option<u64>,
 ) -> OperationLook
-    requires room { 3 ≤ kept.old.spare }
+    requires room { 7 ≤ kept.old.spare }
     requires begins { is_some (begins call.now) ≡ true }
     requires lawful { IsLawful (force_of kept.old) (mark.Admit by.number who (job_of call.now) call.now boot) }
     ensures enters { Enters (Begins by.number who call.now boot) by.number who kept.old kept.new queue.old queue.new result }
-    ensures spare { kept.old.spare ≤ kept.new.spare + 3 }
+    ensures spare { kept.old.spare ≤ kept.new.spare + 7 }
 {
     let begun = kept.begin(alloc, by.again(), who, call, boot);
     leave(queue, by, who);
@@ -76,11 +76,11 @@ fn resume(
     call: &Call,
     boot: Option<u64>,
 ) -> OperationLook
-    requires room { 3 ≤ kept.old.spare }
+    requires room { 7 ≤ kept.old.spare }
     requires takes { is_some (takes_up call.now) ≡ true }
     requires lawful { IsLawful (force_of kept.old) (mark.Admit by.number who (job_of call.now) call.now boot) }
     ensures enters { Enters (TakesUp by.number who call.now boot) by.number who kept.old kept.new queue.old queue.new result }
-    ensures spare { kept.old.spare ≤ kept.new.spare + 3 }
+    ensures spare { kept.old.spare ≤ kept.new.spare + 7 }
 {
     let begun = kept.take_up(alloc, by.again(), who, call, boot);
     leave(queue, by, who);
@@ -139,7 +139,7 @@ pub fn begin_op(
 {
     let held = jobs_held(kept);
     if may_begin(&held) {
-        match kept.reserve(6 + rooms) {
+        match kept.reserve(10 + rooms) {
             Ok(()) => {
                 let boot = live_boot(kept.state());
                 begin(kept, queue, alloc, by, who, call, boot)
@@ -176,7 +176,7 @@ pub fn take_up(
 {
     let held = jobs_held(kept);
     if may_take_up(&held) {
-        match kept.reserve(6 + rooms) {
+        match kept.reserve(10 + rooms) {
             Ok(()) => {
                 let boot = live_boot(kept.state());
                 resume(kept, queue, alloc, by, who, call, boot)

@@ -6,12 +6,11 @@ ghost use Rattle.core_steps.specs.OperationEnding.{CanEnd, EndsSo};
 
 use core_log::Record;
 use history_spec::Stamp;
-use std::alloc::Global;
 use virt_types::{Reply, Who};
 
-/// An operation that is over ends, and its caller is told its reply. The mark takes no memory.
+/// An operation that is over ends, and its caller is told its reply. It takes no memory.
 #[tactic(auto, using(crate::proofs::Ended::end_lawful))]
-pub fn end_op(kept: &mut Record, alloc: Global, by: Stamp, who: Who) -> Reply
+pub fn end_op(kept: &mut Record, by: Stamp, who: Who) -> Reply
     requires room { 0 < kept.old.spare }
     requires over { CanEnd (force_of kept.old).operation by.number who }
     ensures ends { EndsSo by.number who kept.old kept.new result }
@@ -19,5 +18,5 @@ pub fn end_op(kept: &mut Record, alloc: Global, by: Stamp, who: Who) -> Reply
 {
     kept.state();
     kept.is_away();
-    kept.end(alloc, by, who)
+    kept.end(by, who)
 }

@@ -19,7 +19,6 @@ mod operation_laws;
 mod phasing;
 mod places;
 mod refusing;
-mod resting;
 mod rotating;
 mod taking;
 mod watching;
@@ -50,7 +49,6 @@ pub use operation_laws::{
 pub use phasing::{PhaseLook, phase};
 pub use places::last;
 pub use refusing::{Refusable, give_up, set_aside};
-pub use resting::rest_reply;
 pub use rotating::rotate;
 pub use taking::{drop_events, take_events};
 pub use watching::{WatchFault, unwatch, watch};

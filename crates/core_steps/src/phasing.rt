@@ -22,8 +22,6 @@ pub enum PhaseLook {
     Phased(Step),
     /// A normal job is open: nothing changed.
     Excluded,
-    /// There was no memory even for the answer that there is none, and nothing is left of it.
-    NoMemory,
 }
 
 // The due phase is let in, where no normal job is open.
@@ -40,13 +38,27 @@ fn enter(kept: &mut Record, alloc: Global, by: Stamp, who: Who) -> PhaseLook
     match kept.phase(alloc, by, who) {
         PhaseEntry::Away(ask) => PhaseLook::Away(ask),
         PhaseEntry::Phased(step) => PhaseLook::Phased(step),
-        PhaseEntry::NoMemory => PhaseLook::NoMemory,
     }
 }
 
+// The due phase is let in without any memory, where no normal job is open.
+#[tactic(auto, using(crate::proofs::Phased::phase_may))]
+fn starve(kept: &mut Record, by: Stamp, who: Who) -> PhaseLook
+    requires free { (force_of kept.old).job ≡ None }
+    requires counted { IsCounted (at_base kept.old.history.base) }
+    requires due { IsDue (force_of kept.old).operation by.number who }
+    ensures enters { EntersSo by.number who kept.old kept.new result }
+    ensures course { kept.new.course ≡ None }
+    ensures spare { kept.old.spare ≤ kept.new.spare }
+{
+    kept.state();
+    PhaseLook::Phased(kept.starve(by, who))
+}
+
 /// The due phase of the open operation: it is let in where no normal job is open, and else it is excluded and leaves
-/// nothing. There is room for its marks and for what the end of its boot tells; ears that are out need `lent` rooms.
-#[tactic(auto, using(crate::proofs::Roomy::end_fits, crate::proofs::Roomy::end_stays))]
+/// nothing. There is room for its marks and for what the end of its boot tells; ears that are out need `lent` rooms. Where
+/// there is no memory for that, the phase is done without any.
+#[tactic(auto, using(crate::proofs::Roomy::end_fits, crate::proofs::Roomy::end_stays, crate::proofs::Roomy::end_starved, crate::proofs::Phased::none_waits))]
 pub fn phase(
     kept: &mut Record,
     rooms: &mut Vec<OneRoom>,
@@ -65,11 +77,12 @@ pub fn phase(
     ensures rooms { (vec_len rooms.old ≤ vec_len rooms.new) × (vec_len rooms.new ≤ 128) }
     ensures room { (1 + lent ≤ vec_len rooms.new) ⊎ (kept.new.course ≡ kept.old.course) }
 {
+    kept.is_away();
     if kept.job().is_some() {
         return PhaseLook::Excluded;
     }
     match make_room(kept, rooms, alloc, lent) {
         Ok(()) => enter(kept, alloc, by, who),
-        Err(NoMemory) => PhaseLook::NoMemory,
+        Err(NoMemory) => starve(kept, by, who),
     }
 }

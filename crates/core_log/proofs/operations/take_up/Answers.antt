@@ -35,7 +35,7 @@ returns-in-Done-clause-held c =
     record { history = c.tell.ensures.history; course = c.tell.ensures.course; listeners = c.tell.ensures.listeners; spare = c.tell.ensures.spare; legal = c.tell.ensures.settled } in
     done_held a.ledger.now c.take_up.new.self c.tell.new.ledger a.listeners.now.listeners c.tell.new.listeners.listeners (admit_of a.by.number a.who a.call.now a.boot ∷ []) a.by.number
     (first_course (now_in a.ledger.now).state a.call.now a.boot) c.in-Done.reply c.requires.held (admit_quiet a.by.number a.who a.call.now a.boot) e.1 c.settled.ensures.lost
-    (still_fits 3 (open_ends (registrations a.listeners.now.listeners)) a.ledger.now.spare c.take_up.new.self.spare c.requires.room c.take_up.ensures.spare) by
+    (still_fits 7 (open_ends (registrations a.listeners.now.listeners)) a.ledger.now.spare c.take_up.new.self.spare c.requires.room c.take_up.ensures.spare) by
 
 pub returns-in-GoesOn-clause-begun : goal.returns-in-GoesOn-clause-begun
 returns-in-GoesOn-clause-begun c =
@@ -57,4 +57,4 @@ returns-in-GoesOn-clause-held c =
     held_quiet a.ledger.now c.take_up.new.self a.listeners.now.listeners (admit_of a.by.number a.who a.call.now a.boot ∷ mark.TakeUp a.by.number a.who a.call.now ∷ []) c.requires.held
     (taken_quiet a.by.number a.who a.call.now a.boot)
     (two_added a.ledger.now.history c.take_up.new.self.history (admit_of a.by.number a.who a.call.now a.boot) (mark.TakeUp a.by.number a.who a.call.now) e.1)
-    (still_fits 3 (open_ends (registrations a.listeners.now.listeners)) a.ledger.now.spare c.take_up.new.self.spare c.requires.room c.take_up.ensures.spare)
+    (still_fits 7 (open_ends (registrations a.listeners.now.listeners)) a.ledger.now.spare c.take_up.new.self.spare c.requires.room c.take_up.ensures.spare)
