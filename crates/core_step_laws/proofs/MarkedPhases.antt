@@ -135,7 +135,6 @@ pub phases_leave : PhasesLeave
 phases_leave old new n who (phase_look.Away x) h = (h.1.0, h.1.1, phase_away old.cell new.cell n who x h.1.0 h.0 h.1.1.turn h.1.1.leads h.1.2.0 h.1.2.1)
 phases_leave old new n who (phase_look.Phased st) h = (h.1.0, h.1.1, phase_done old.cell new.cell n who st h.1.2.0 h.1.0 h.0 h.1.1.turn h.1.2.1 h.1.2.2 h.1.2.3)
 phases_leave old new n who phase_look.Excluded h = (h.1.0, h.1.1, ap (λ (ms : List (Mark ℕ)). own whose n ms) h.1.2)
-phases_leave old new n who phase_look.NoMemory h = (h.1.0, h.1.1, ap (λ (ms : List (Mark ℕ)). own whose n ms) h.1.2)
 
 -- an operation that ends
 

@@ -71,7 +71,6 @@ phases_keep old new n who (phase_look.Phased st) h =
       operation = (h.1.2.0, h.1.2.2, h.1.2.3);
     }
 phases_keep old new n who phase_look.Excluded h = phase_idle old.cell new.cell n who h.1.0 h.1.1.turn h.1.1.leads h.1.2
-phases_keep old new n who phase_look.NoMemory h = phase_idle old.cell new.cell n who h.1.0 h.1.1.turn h.1.1.leads h.1.2
 
 -- an operation that ends
 

@@ -33,6 +33,7 @@ use Rattle.core_log.specs.Below.core_plan.Along.{Asked}
 use Rattle.core_log.specs.Below.core_plan.Starving.{starved}
 use Rattle.core_log.proofs.Below.core_flight.Turned.{starved_find_none}
 use Rattle.core_log.proofs.Below.core_flight.Operated.{phase_let_in_is_left}
+use Rattle.core_log.specs.Below.core_flight.Away.{WaitsWith}
 use Rattle.core_log.specs.Below.core_flight.Ledger.{IsPhaseLawful, loss, phase_closing, phased_by, standing_in, step_in, step_to, with_marks}
 use Rattle.core_log.specs.Below.core_flight.Operations.{IsFirst, MayPhase, nested_admit, nested_in}
 use Rattle.core_log.specs.Below.core_flight.Told.{told_last}
@@ -262,14 +263,6 @@ phases_are old new q held ears n who (look.Away y) h due settled (inl x) =
     (answers_first (force_of old) (force_of old).operation was.0 was.2 was.1)
     (subst (λ (z : Option OpenOperation). IsAsking (with_room old x.1.0) (nested_in (force_of old) z n who) (starved was.2 was.0) new y) one.1 was.3) in
     (x.0, (nested_admit (force_of old) one.0 n who ∷ [], turn.0, (refl, turn.1)))
-phases_are old new q held ears n who look.NoMemory h due settled (inl x) = (
-  x.0,
-  (
-    [],
-    idle (step.Phase n who) old new q q held ears tt tt h.can h.settled h.room h.fits (ap (λ (r : Recorded). r.history) x.1) (ap (λ (r : Recorded). r.listeners) x.1) (ap (λ (r : Recorded). r.course) x.1) refl settled,
-    refl,
-  ),
-)
 phases_are old new q held ears n who look.Excluded h due settled (inl x) = absurd x.1
 phases_are old new q held ears n who look.Excluded h due settled (inr x) = (
   x.0,
@@ -281,4 +274,9 @@ phases_are old new q held ears n who look.Excluded h due settled (inr x) = (
 )
 phases_are old new q held ears n who (look.Away y) h due settled (inr x) = cc
 phases_are old new q held ears n who (look.Phased st) h due settled (inr x) = cc
-phases_are old new q held ears n who look.NoMemory h due settled (inr x) = cc
+
+-- where no call is open none is away
+pub none_waits : (s : Standing) (j : Option OpenJob) (a : Option Asked) → j ≡ None → WaitsWith s j a → a ≡ None
+none_waits s None None free h = refl
+none_waits s None (Some a) free h = absurd h
+none_waits s (Some j) a free h = cc
