@@ -386,8 +386,6 @@ phase_hands old new n who (phase.Phased st) out link h phases =
     stays_hands old new out (kept_link (made_boot (standing_of new.cell)) link) (free_phase old new n who phases.1.0 out link phases.0 phases.1.1 h)
 phase_hands old new n who phase.Excluded out link h phases =
     stays_hands old new out (kept_link (made_boot (standing_of new.cell)) link) (unmarked_linked old new (step.Phase n who) phases.1.0 out link tt phases.1.2 phases.1.1 h)
-phase_hands old new n who phase.NoMemory out link h phases =
-    stays_hands old new out (kept_link (made_boot (standing_of new.cell)) link) (free_phase old new n who phases.1.0 out link phases.0 phases.1.1 h)
 
 -- an answer comes, and the monitor with it
 

@@ -161,7 +161,6 @@ pub phase_turned : (n : ℕ) (who : Who) (old new : Turning) (result : PhaseLook
 phase_turned n who old new (phase_look.Away x) h = (h.1.0, h.1.1)
 phase_turned n who old new (phase_look.Phased st) h = (h.1.0, h.1.1)
 phase_turned n who old new phase_look.Excluded h = (h.1.0, h.1.1)
-phase_turned n who old new phase_look.NoMemory h = (h.1.0, h.1.1)
 
 pub phase_turn : (old new : Recorded) (q : Queue) (held : List HeldEvent) (ears : Option LentEars) (x : Option Refusable) (rooms places n : ℕ) (who : Who) (result : PhaseLook) → IsWhole old q held ears x rooms places
     → IsDue (force_of old).operation n who → (force_of old).lost ≡ None → WaitsWith (force_of old) (force_of old).job old.course → AllHaveRoom (registrations old.listeners)

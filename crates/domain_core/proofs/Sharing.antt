@@ -107,7 +107,6 @@ pub phase_others : {G M E Z : Type 0} (old new : Celled) (n : ℕ) (who : Who) (
 phase_others old new n who (phase.Away t x) keeps h e = others_by old new n keeps (inr (λ m unlike. one_call (cell_in new) n m x h.1.2.1 unlike))
 phase_others old new n who (phase.Phased st) keeps h e = step_others old new n (step.Phase n who) h.1.0 tt h.1.1 keeps e
 phase_others old new n who phase.Excluded keeps h e = step_others old new n (step.Phase n who) h.1.0 tt h.1.1 keeps e
-phase_others old new n who phase.NoMemory keeps h e = step_others old new n (step.Phase n who) h.1.0 tt h.1.1 keeps e
 
 pub back_others : (old new : Celled) (n : ℕ) (x : Answer) → CanTake (cell_in old) (step.Back n x) → KeepsOthers n (cell_in old) (cell_in new) → KeepsOtherShares n old new
 back_others old new n x can keeps =

@@ -11,7 +11,6 @@ pub use Rattle.core_steps.specs.Phased.{HasLedTo, led_to}
 pub use Rattle.core_steps.specs.Phasing.{IsDue, IsHeld, Phases}
 pub use Rattle.core_steps.specs.Places.{is_of_pass, last_place}
 pub use Rattle.core_steps.specs.Refusing.{HasRefused}
-pub use Rattle.core_steps.specs.Resting.{rested_in, rested_of}
 pub use Rattle.core_steps.specs.Turning.{AsksLast, HasDone, HasTurned, Takes, Turning}
 pub use Rattle.core_steps.specs.declared.beginning.OperationLook.{OperationLook}
 pub use Rattle.core_steps.specs.declared.beginning.OperationLook.TheVariants as operation_look_variants

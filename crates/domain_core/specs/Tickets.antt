@@ -7,8 +7,7 @@ use Rattle.domain_spec.specs.Types.reason
 use Rattle.domain_spec.specs.Asks.{is_ended_answer, is_lost_answer, is_ok_answer}
 use Rattle.domain_spec.specs.Cell.{Cell, standing_of}
 use Rattle.domain_spec.specs.Lawful.{IsUnsent}
-use Rattle.domain_spec.specs.declared.open.OpenOperation.{OpenOperation}
-use Rattle.domain_core.specs.Leading.{Leads, step_of}
+use Rattle.domain_core.specs.Leading.{step_of}
 use Rattle.core_steps.specs.OfLedger.back_variants as core_back
 use Rattle.core_steps.specs.OfLedger.{Back as CoreBack}
 use Rattle.core_steps.specs.declared.looking.Looked.{Looked}
@@ -41,21 +40,11 @@ module _ {G M E Z : Type 0} where
   phased_of (phase.Away t x) = core_phase.Away x
   phased_of (phase.Phased said) = core_phase.Phased (step_of said)
   phased_of phase.Excluded = core_phase.Excluded
-  phased_of phase.NoMemory = core_phase.NoMemory
 
   abbrev pub back_of : Back G M E Z → CoreBack
   back_of (back.Done r) = core_back.Done r
   back_of (back.Away t x) = core_back.Away x
   back_of (back.Phased said) = core_back.Phased (step_of said)
-
-  -- what a phase led to is told so, over the operation as it is
-  abbrev pub LeadsOn : Option OpenOperation → PhaseLook G M E Z → Type 0
-  LeadsOn o (phase.Phased said) = Leads o (step_of said) said
-  LeadsOn o other = Unit {0}
-
-  abbrev pub LeadsBack : Option OpenOperation → Back G M E Z → Type 0
-  LeadsBack o (back.Phased said) = Leads o (step_of said) said
-  LeadsBack o other = Unit {0}
 
   -- the ticket that a turn hands out
   abbrev pub look_ticket : Look G M E Z → Option (Ticket G M E Z)

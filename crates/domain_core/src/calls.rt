@@ -10,7 +10,7 @@ ghost use Rattle.domain_core.specs.Celled.{KeepsLink, KeepsOtherShares, cell_in,
 ghost use Rattle.domain_core.specs.Held.{out_by};
 ghost use Rattle.domain_core.specs.Linked.{link_by};
 ghost use Rattle.monitor_link.specs.Views.{link_view, monitor_view};
-ghost use Rattle.domain_core.specs.Tickets.{HandsMonitor, HasMonitor, IsAnswered, IsCounted, IsMadeAsAsked, LeadsBack, back_of, back_ticket, look_ticket, looked_of};
+ghost use Rattle.domain_core.specs.Tickets.{HandsMonitor, HasMonitor, IsAnswered, IsCounted, IsMadeAsAsked, back_of, back_ticket, look_ticket, looked_of};
 ghost use Rattle.core_steps.specs.Answering.{GoesBack};
 ghost use Rattle.core_steps.specs.Looking.{IsKnownFirst, Looks};
 ghost use Rattle.core_steps.specs.Refusing.{HasRefused};
@@ -50,11 +50,9 @@ impl<G: Guests> DomainCell<G> {
 
     /// The ask that the open call, or the phase, made last is answered so: it is done, and then the held events
     /// apply, or it asks on. The ticket comes back; with the answer that a guest was made comes the link of the one that was
-    /// asked for. It takes no
-    /// memory but for the next ask, and for a copy of what the call of an operation is told that rests.
+    /// asked for. It takes no memory but for the next ask.
     pub fn back(
         &mut self,
-        alloc: Global,
         by: Stamp,
         ticket: Ticket<G>,
         answer: Answer,
@@ -66,7 +64,6 @@ impl<G: Guests> DomainCell<G> {
         requires made { IsMadeAsAsked (cell_in self.old) (option_map (link_view G.M.Monitor G.E.Ears G.Z.Killer) made) }
         requires counted { IsCounted G.M.ends G.M.faults ticket.monitor answer }
         ensures back { GoesBack by.number answer self.old.core.turning self.new.core.turning (back_of result) }
-        ensures leads { LeadsBack (standing_in self.new).operation result }
         ensures excluded { self.new.core.excluded ≡ None }
         ensures out { self.new.out ≡ out_by (is_some (back_ticket result)) (made_boot (standing_in self.new)) None }
         ensures ticket { HasMonitor (is_some self.new.out) (back_ticket result) }
@@ -79,7 +76,7 @@ impl<G: Guests> DomainCell<G> {
         let left = self.turns.back(by, answer);
         let now = self.turns.made();
         keep_or_take(&mut self.link, now, made, self.turns.heard());
-        hand_back(left, &self.turns, alloc, &mut self.link, &mut self.out, now)
+        hand_back(left, &mut self.link, &mut self.out, now)
     }
 
     /// The call that the turn before found excluded looked often enough: it is refused, and waits no more. It

@@ -7,7 +7,7 @@ ghost use Rattle.domain_core.specs.Shares.{IsFree};
 ghost use Rattle.domain_core.specs.Celled.{KeepsLink, KeepsOtherShares, cell_in, link_kept, standing_in};
 ghost use Rattle.domain_core.specs.Held.{out_by};
 ghost use Rattle.domain_core.specs.Linked.{link_by};
-ghost use Rattle.domain_core.specs.Tickets.{HandsMonitor, HasMonitor, LeadsOn, phase_ticket, phased_of};
+ghost use Rattle.domain_core.specs.Tickets.{HandsMonitor, HasMonitor, phase_ticket, phased_of};
 ghost use Rattle.core_step_laws.specs.Made.{made_boot};
 ghost use Rattle.core_steps.specs.OperationEnding.{CanEnd, Ends};
 ghost use Rattle.core_steps.specs.Phasing.{IsDue, Phases};
@@ -44,7 +44,6 @@ impl<G: Guests> DomainCell<G> {
     pub fn phase(&mut self, alloc: Global, by: Stamp, who: Who) -> PhaseLook<G>
         requires due { IsDue (standing_in self.old).operation by.number who }
         ensures phases { Phases by.number who self.old.core.turning self.new.core.turning (phased_of result) }
-        ensures leads { LeadsOn (standing_in self.new).operation result }
         ensures excluded { self.new.core.excluded ≡ None }
         ensures out { self.new.out ≡ out_by (is_some (phase_ticket result)) (made_boot (standing_in self.new)) self.old.out }
         ensures ticket { HasMonitor (is_some self.new.out) (phase_ticket result) }
@@ -55,18 +54,12 @@ impl<G: Guests> DomainCell<G> {
         let looked = self.turns.phase(alloc, by, who);
         let made = self.turns.made();
         keep(&mut self.link, made);
-        hand_phase(
-            looked,
-            &self.turns,
-            alloc,
-            &mut self.link,
-            &mut self.out,
-            made,
-        )
+        hand_phase(looked, &mut self.link, &mut self.out, made)
     }
 
-    /// The operation that this caller has open, and that is over, ends with the reply of its last phase.
-    pub fn end_op(&mut self, alloc: Global, by: Stamp, who: Who) -> Reply
+    /// The operation that this caller has open, and that is over, ends with the reply of its last phase. It takes no
+    /// memory.
+    pub fn end_op(&mut self, by: Stamp, who: Who) -> Reply
         requires over { CanEnd (standing_in self.old).operation by.number who }
         ensures ends { Ends by.number who self.old.core.turning self.new.core.turning result }
         ensures excluded { self.new.core.excluded ≡ None }
@@ -74,7 +67,7 @@ impl<G: Guests> DomainCell<G> {
         ensures link { KeepsLink self.old self.new }
         ensures others { KeepsOtherShares by.number self.old self.new }
     {
-        let reply = self.turns.end_op(alloc, by, who);
+        let reply = self.turns.end_op(by, who);
         keep(&mut self.link, self.turns.made());
         reply
     }

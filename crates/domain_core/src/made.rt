@@ -1,18 +1,14 @@
-// What is there between two turns: which boot's guest, whose ears are out, whether a job is open, and what a call is
-// told whose operation rests.
+// What is there between two turns: which boot's guest, whose ears are out, and whether a job is open.
 ghost use Rattle.std.specs.Prelude.{◌≡◌, is_some, option_map};
-ghost use Rattle.core_steps.specs.Resting.{rested_in};
-ghost use Rattle.core_steps.specs.OfLedger.{IsToldAtEnd};
 ghost use Rattle.domain_spec.specs.Cell.{standing_of};
 ghost use Rattle.domain_spec.specs.Reading.{live_boot};
 ghost use Rattle.core_step_laws.specs.Made.{made_boot, made_in, makes};
 
 use crate::turns::DomainTurns;
 use core_rules::live_boot;
-use core_steps::{LentEars, LetIn, Underway, rest_reply};
+use core_steps::{LentEars, LetIn, Underway};
 use domain_spec::Outcome;
-use std::alloc::Global;
-use virt_types::{Phase, Reply, State};
+use virt_types::{Phase, State};
 
 // Whether the operation has still to make its guest.
 fn makes(operation: &Option<Underway>) -> bool
@@ -68,14 +64,6 @@ impl DomainTurns {
         ensures { result ≡ is_some (standing_of self.now.turning.cell).job }
     {
         is_open(self.kept.job())
-    }
-
-    /// The reply of the phase that led the operation to rest: what the call is told that came so far, or, where there
-    /// is no memory for one more copy of it, that.
-    pub fn rest_reply(&self, alloc: Global) -> Reply
-        ensures { IsToldAtEnd (rested_in (standing_of self.now.turning.cell).operation) result }
-    {
-        rest_reply(&self.kept, alloc)
     }
 
     /// The boot whose ears are out.

@@ -128,8 +128,9 @@ impl DomainTurns {
         looked
     }
 
-    /// The operation that this caller has open, and that is over, ends with the reply of its last phase.
-    pub fn end_op(&mut self, alloc: Global, by: Stamp, who: Who) -> Reply
+    /// The operation that this caller has open, and that is over, ends with the reply of its last phase. It takes no
+    /// memory.
+    pub fn end_op(&mut self, by: Stamp, who: Who) -> Reply
         requires over { CanEnd (standing_of self.old.turning.cell).operation by.number who }
         ensures ends { Ends by.number who self.old.turning self.new.turning result }
         ensures others { KeepsOthers by.number self.old.turning.cell self.new.turning.cell }
@@ -137,7 +138,7 @@ impl DomainTurns {
     {
         facts(&self.kept);
         self.excluded = None;
-        let reply = end_op(&mut self.kept, alloc, by, who);
+        let reply = end_op(&mut self.kept, by, who);
         facts(&self.kept);
         reply
     }

@@ -3,16 +3,13 @@ ghost use Rattle.std.specs.Prelude.{◌≡◌, None, is_some, option_map, true};
 ghost use Rattle.domain_core.specs.Held.{out_by};
 ghost use Rattle.domain_core.specs.Linked.{link_by, monitor_in};
 ghost use Rattle.monitor_link.specs.Views.{monitor_view};
-ghost use Rattle.domain_core.specs.Tickets.{HandsMonitor, HasMonitor, LeadsBack, LeadsOn, back_of, back_ticket, look_ticket, looked_of, phase_ticket, phased_of};
-ghost use Rattle.domain_spec.specs.Cell.{standing_of};
+ghost use Rattle.domain_core.specs.Tickets.{HandsMonitor, HasMonitor, back_of, back_ticket, look_ticket, looked_of, phase_ticket, phased_of};
 
 use crate::link::{Here, take_monitor};
 use crate::next::Next;
-use crate::turns::DomainTurns;
 use core_steps::{Back as CoreBack, Looked, PhaseLook as CorePhase};
 use job_rules::JobRecord;
 use monitor_link::Guests;
-use std::alloc::Global;
 use virt_types::{Ask, Reply};
 
 /// What a call takes along that asks: the monitor of its domain's guest, where that is there. It comes back with the
@@ -54,8 +51,6 @@ pub enum PhaseLook<G: Guests> {
     Phased(Next),
     /// A normal job is open: nothing changed.
     Excluded,
-    /// There was no memory even for the answer that there is none, and nothing is left of it.
-    NoMemory,
 }
 
 /// What became of a call, or a phase, whose ask was answered.
@@ -107,17 +102,14 @@ pub fn hand_look<G: Guests>(
     }
 }
 
-// The same with a ticket, where it asks; and where it is done with what its call is told, as the domain is now.
+// The same with a ticket, where it asks.
 pub fn hand_phase<G: Guests>(
     looked: CorePhase,
-    turns: &DomainTurns,
-    alloc: Global,
     link: &mut Option<Here<G>>,
     out: &mut Option<u64>,
     made: Option<u64>,
 ) -> PhaseLook<G>
     ensures same { phased_of result ≡ looked }
-    ensures leads { LeadsOn (standing_of turns.now.turning.cell).operation result }
     ensures ticket { HasMonitor (is_some (monitor_in link.old)) (phase_ticket result) }
     ensures monitor { HandsMonitor G.M.Monitor link.old (phase_ticket result) }
     ensures link { link.new ≡ link_by (is_some (phase_ticket result)) link.old }
@@ -125,23 +117,19 @@ pub fn hand_phase<G: Guests>(
 {
     match looked {
         CorePhase::Away(ask) => PhaseLook::Away(hand_ticket(link, out, made), ask),
-        CorePhase::Phased(step) => PhaseLook::Phased(turns.next(alloc, step)),
+        CorePhase::Phased(step) => PhaseLook::Phased(Next::of(step)),
         CorePhase::Excluded => PhaseLook::Excluded,
-        CorePhase::NoMemory => PhaseLook::NoMemory,
     }
 }
 
-// The same with a ticket, where it asks; and where a phase is done with what its call is told, as the domain is now.
+// The same with a ticket, where it asks.
 pub fn hand_back<G: Guests>(
     left: CoreBack,
-    turns: &DomainTurns,
-    alloc: Global,
     link: &mut Option<Here<G>>,
     out: &mut Option<u64>,
     made: Option<u64>,
 ) -> Back<G>
     ensures same { back_of result ≡ left }
-    ensures leads { LeadsBack (standing_of turns.now.turning.cell).operation result }
     ensures ticket { HasMonitor (is_some (monitor_in link.old)) (back_ticket result) }
     ensures monitor { HandsMonitor G.M.Monitor link.old (back_ticket result) }
     ensures link { link.new ≡ link_by (is_some (back_ticket result)) link.old }
@@ -150,6 +138,6 @@ pub fn hand_back<G: Guests>(
     match left {
         CoreBack::Away(ask) => Back::Away(hand_ticket(link, out, made), ask),
         CoreBack::Done(reply) => Back::Done(reply),
-        CoreBack::Phased(step) => Back::Phased(turns.next(alloc, step)),
+        CoreBack::Phased(step) => Back::Phased(Next::of(step)),
     }
 }

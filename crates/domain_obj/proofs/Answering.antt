@@ -126,7 +126,7 @@ answered_once before after first turn mid now asked x b place at last entered be
       closed =
           subst (λ (k : ℕ). IsClosedSo k c leaves.0 b) number
           (closed_so turn.value.core.turning mid.value.core.turning n x c asked (share_of (cell_in turn.value) n) (share_of (cell_in mid.value) n) leaves.0 b goes.back
-          (ap (λ (s : Share). s.call) (sym (kept_found before turn enters)) ∙ was) of_pass leaves.1 leaves.2 goes.leads);
+          (ap (λ (s : Share). s.call) (sym (kept_found before turn enters)) ∙ was) of_pass leaves.1 leaves.2);
       share_was = ap (λ (v : Celled). cell_share v before.number) enters.value ∙ enters.share;
       share_is = share;
       same_chapter = leaves.1.chapter;

@@ -13,13 +13,13 @@ use Rattle.domain_spec.specs.Lawful.{IsDone}
 use Rattle.domain_spec.specs.Turns.{BeginsBy, GoOn, GoesOnBy, MayLeave}
 use Rattle.domain_obj.specs.Turns.{IsClosedSo}
 use Rattle.domain_core.specs.Leading.{step_of}
-use Rattle.domain_obj.proofs.Leading.{IsLedTo, led_stands, led_told, own_led}
+use Rattle.domain_obj.proofs.Leading.{led_told, own_led}
 use Rattle.domain_core.specs.OfTurns.back_variants as core_back
 use Rattle.domain_core.specs.OfTurns.{GoesBack}
 use Rattle.domain_core.specs.OfTurns.{HasLedTo}
 use Rattle.domain_core.specs.OfTurns.{HasTurned, Turning}
 use Rattle.domain_core.proofs.OfTurns.{not_nested}
-use Rattle.domain_core.specs.Tickets.{LeadsBack, back_of}
+use Rattle.domain_core.specs.Tickets.{back_of}
 use Rattle.domain_core.specs.declared.ticket.Back.{Back}
 use Rattle.domain_core.specs.declared.ticket.Back.TheVariants as back
 use Rattle.domain_core.specs.OfShares.{BackLeaves}
@@ -53,11 +53,9 @@ done_normal old new n x r o h was nested =
 -- how it was closed
 
 pub closed_so : {G M E Z : Type 0} (old new : Turning) (n : ℕ) (x : Answer) (c : OpenCall) (y : Ask) (s t : Share) (left : List (Mark ℕ)) (b : Back G M E Z) → GoesBack n x old new (back_of b) → (share_of old.cell n).call ≡ Some c
-    → AreOf whose n left → HasTurned old new (step.Back n x) left → BackLeaves n c y x s t (back_of b) left → LeadsBack (standing_of new.cell).operation b → IsClosedSo n c left b
-closed_so old new n x c y s t left (back.Done r) goes was of turned leaves leads = done_normal old new n x r c goes was
-closed_so old new n x c y s t left (back.Away u z) goes was of turned leaves leads = tt
-closed_so old new n x c y s t left (back.Phased said) goes was of turned leaves leads =
-    let q : Option OpenOperation = (standing_of new.cell).operation in
+    → AreOf whose n left → HasTurned old new (step.Back n x) left → BackLeaves n c y x s t (back_of b) left → IsClosedSo n c left b
+closed_so old new n x c y s t left (back.Done r) goes was of turned leaves = done_normal old new n x r c goes was
+closed_so old new n x c y s t left (back.Away u z) goes was of turned leaves = tt
+closed_so old new n x c y s t left (back.Phased said) goes was of turned leaves =
     let led : HasLedTo n leaves.next left = own_led n leaves.next left of (subst (λ (ms : List (Mark ℕ)). HasLedTo n leaves.next ms) (sym leaves.own_are) (refl, refl)) in
-    let stands : IsLedTo leaves.next q = led_stands old.cell new.cell (step.Back n x) n leaves.next left turned.turn.left led turned.leads.base turned.leads.marks in
-    (leaves.next, led, led_told leaves.next q (step_of said) said stands leaves.leads leads)
+    (leaves.next, led, led_told leaves.next said leaves.leads)

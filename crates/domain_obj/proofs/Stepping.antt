@@ -20,7 +20,7 @@ use Rattle.domain_obj.specs.Running.{DomainHistory, Goes, standing_after}
 use Rattle.domain_core.specs.declared.next.Next.{Next}
 use Rattle.domain_obj.proofs.Entering.{awaits_now}
 use Rattle.domain_obj.proofs.Going.{after_chapter, after_monitor}
-use Rattle.domain_obj.proofs.Leading.{led_stands, led_told, own_led}
+use Rattle.domain_obj.proofs.Leading.{led_told}
 use Rattle.domain_obj.proofs.Placing.{placed_last}
 use Rattle.domain_core.specs.Celled.{CellShare, Celled, KeepsOtherShares, cell_in, cell_share, chapter_of, monitor_of, standing_in}
 use Rattle.domain_core.specs.Meaning.{history_of}
@@ -158,11 +158,7 @@ done_phase n who o before after a mid new said place left due same h turned (q, 
         goes =
             subst (λ (k : ℕ). Goes 1 (marks_of k who o.call p) before after) goes.number
             (goes_by chapter before after (own whose n left) (mark.Admit n who job.Nested o.call boot ∷ phase_mark n who p ∷ []) goes.goes its.own_are);
-        leads =
-            led_told its.next (standing_in new).operation (step_of said) said
-            (led_stands (cell_in mid) (cell_in new) (step.Phase n who) n its.next left turned.turn.left
-            (own_led n its.next left adds.of_pass (subst (λ (ms : List (Mark ℕ)). HasLedTo n its.next ms) (sym its.own_are) (refl, refl))) turned.leads.base turned.leads.marks)
-            its.leads h.leads;
+        leads = led_told its.next said its.leads;
         share =
             goes.share_is ∙ operation_with mid new n (led_to its.next (Some o)) keeps.aside none keeps.call its.operation_is ∙ ap (λ (s : CellShare). led its.next o s) same;
         placed =
@@ -218,11 +214,6 @@ stepped who o before after turn now mid place look.Excluded l due renewed same h
       unchanged = unchanged n who o before after turn.value mid now.value left due same (phases_keep mid.core.turning now.value.core.turning n who core_look.Excluded h.phases) leaves goes;
       held = held_now n who after mid now.value h.phases h.others goes.saw;
     }
-stepped who o before after turn now mid place look.NoMemory l due renewed same h at =
-    let n = turn.pass.number in
-    let (left, turned, leaves) = phases_leave mid.core.turning now.value.core.turning n who core_look.NoMemory h.phases in
-    unchanged n who o before after turn.value mid now.value left due same (phases_keep mid.core.turning now.value.core.turning n who core_look.NoMemory h.phases) leaves
-    (goes_of who before after turn now mid left l renewed (phase_adds n who mid now.value left turned h.others))
 
 -- the end
 

@@ -5,7 +5,7 @@ use Rattle.domain_spec.specs.Cell.{share_of}
 use Rattle.domain_obj.specs.InTurn.{IsNotRenewed, IsRenewed}
 use Rattle.domain_core.specs.Celled.{Celled, KeepsOtherShares, cell_in, standing_in}
 use Rattle.domain_core.specs.Held.{out_by}
-use Rattle.domain_core.specs.Tickets.{HasMonitor, LeadsOn, phase_ticket, phased_of}
+use Rattle.domain_core.specs.Tickets.{HasMonitor, phase_ticket, phased_of}
 use Rattle.domain_core.specs.declared.ticket.PhaseLook.{PhaseLook}
 use Rattle.domain_core.specs.OfShares.{made_boot}
 use Rattle.domain_core.specs.OfTurns.{CanEnd, Ends}
@@ -34,7 +34,6 @@ module _ {G M E Z : Type 0} where
   -- the due phase was admitted where no normal job is open, and else excluded
   pub record PhasesIn (n : ℕ) (who : Who) (old new : Celled) (result : PhaseLook G M E Z) : Type 0 where
     pub phases : Phases n who old.core.turning new.core.turning (phased_of result)
-    pub leads : LeadsOn (standing_in new).operation result
     pub out : new.out ≡ out_by (is_some (phase_ticket result)) (made_boot (standing_in new)) old.out
     pub ticket : HasMonitor (is_some new.out) (phase_ticket result)
     pub others : KeepsOtherShares n old new

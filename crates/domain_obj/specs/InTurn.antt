@@ -15,7 +15,7 @@ use Rattle.domain_core.specs.OfTurns.{Looks}
 use Rattle.domain_core.specs.OfTurns.{HasRefused}
 use Rattle.domain_core.specs.OfTurns.{Takes}
 use Rattle.domain_core.specs.Held.{out_by}
-use Rattle.domain_core.specs.Tickets.{HasMonitor, LeadsBack, back_of, back_ticket, look_ticket, looked_of}
+use Rattle.domain_core.specs.Tickets.{HasMonitor, back_of, back_ticket, look_ticket, looked_of}
 use Rattle.domain_core.specs.declared.ticket.Back.{Back}
 use Rattle.domain_core.specs.declared.ticket.Look.{Look}
 use Rattle.domain_core.specs.OfShares.{made_boot}
@@ -75,7 +75,6 @@ module _ {G M E Z : Type 0} where
   -- an ask was answered
   pub record GoesBackIn (n : ℕ) (x : Answer) (old new : Celled) (result : Back G M E Z) : Type 0 where
     pub back : GoesBack n x old.core.turning new.core.turning (back_of result)
-    pub leads : LeadsBack (standing_in new).operation result
     pub out : new.out ≡ out_by (is_some (back_ticket result)) (made_boot (standing_in new)) None
     pub ticket : HasMonitor (is_some new.out) (back_ticket result)
     pub others : KeepsOtherShares n old new

@@ -104,7 +104,6 @@ module _ {G M E Z : Type 0} where
   HasStepped who o before after place (phasing.Away t x) = IsPhaseAway who o before after x (is_some t.monitor)
   HasStepped who o before after place (phasing.Phased said) = (p : PhaseDone) × IsPhaseDone who o 1 p before after said place × (told p.asks p.answers ≡ [])
   HasStepped who o before after place phasing.Excluded = IsExcludedNow before after
-  HasStepped who o before after place phasing.NoMemory = IsUnchanged before after
 
 -- the operation of the pass, which was over, ended in one turn with the reply of its last phase
 pub record HasEnded (who : Who) (o : OpenOperation) (before after : DomainPass) (said : Reply) (place : Front) : Type 0 where

@@ -19,7 +19,6 @@ use virt_types::{Answer, Ask, Front};
 pub fn answer_once<G: Guests, R: Wait>(
     rt: &R,
     cell: &TurnCell<DomainCell<G>>,
-    alloc: Global,
     pass: DomainPass<G>,
     ticket: Ticket<G>,
     asked: &Ask,
@@ -38,7 +37,7 @@ pub fn answer_once<G: Guests, R: Wait>(
         Err((pass, _)) => return Err(pass),
     };
     told_legal(&mut turn);
-    let left = back_in(&mut turn, alloc, ticket, answer, made);
+    let left = back_in(&mut turn, ticket, answer, made);
     let place = last_in(&mut turn);
     told_legal(&mut turn);
     Ok((cell.leave(turn), left, place))

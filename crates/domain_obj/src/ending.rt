@@ -6,7 +6,6 @@ ghost use Rattle.domain_obj.specs.Ending.{HasEnded};
 use crate::{Desk, DomainPass, Finished, finish};
 use domain_core::{DomainCell, Ticket};
 use monitor_link::Guests;
-use std::alloc::Global;
 use std::sync::Wait;
 use turn_cell::TurnCell;
 use virt_types::{Ask, Front, Reply};
@@ -32,7 +31,6 @@ pub enum Called {
 pub fn end_call<G: Guests, D: Desk<G>, R: Wait>(
     rt: &R,
     cell: &TurnCell<DomainCell<G>>,
-    alloc: Global,
     pass: DomainPass<G>,
     ticket: Ticket<G>,
     asked: Ask,
@@ -43,7 +41,7 @@ pub fn end_call<G: Guests, D: Desk<G>, R: Wait>(
     requires no_operation { pass.share.kept.operation ≡ None }
     ensures { HasEnded pass result.0 (D.report desk.old) (D.report desk.new) result.1 }
 {
-    let (after, finished) = finish(rt, cell, alloc, pass, ticket, asked, desk);
+    let (after, finished) = finish(rt, cell, pass, ticket, asked, desk);
     match finished {
         Finished::Done(reply, place) => (after, Called::Done(reply, place)),
         Finished::Spent => (after, Called::SpentAway),

@@ -7,7 +7,6 @@ use crate::calls::answer_once;
 use crate::turns::DomainPass;
 use domain_core::{Back, DomainCell, Next, Ticket};
 use monitor_link::Guests;
-use std::alloc::Global;
 use std::sync::Wait;
 use turn_cell::TurnCell;
 use virt_types::{Ask, Front, Reply};
@@ -28,7 +27,6 @@ pub enum Finished {
 pub fn finish<G: Guests, D: Desk<G>, R: Wait>(
     rt: &R,
     cell: &TurnCell<DomainCell<G>>,
-    alloc: Global,
     pass: DomainPass<G>,
     ticket: Ticket<G>,
     asked: Ask,
@@ -43,7 +41,7 @@ pub fn finish<G: Guests, D: Desk<G>, R: Wait>(
     let mut asked = asked;
     for _ in rt.forever() {
         let (answer, made) = desk.ask(&pass, &mut ticket, &asked);
-        match answer_once(rt, cell, alloc, pass, ticket, &asked, answer, made) {
+        match answer_once(rt, cell, pass, ticket, &asked, answer, made) {
             Ok((after, left, place)) => match left {
                 Back::Away(next, ask) => {
                     pass = after;

@@ -48,7 +48,7 @@ fn run_in<G: Guests, D: Desk<G>, R: Wait>(
                 }
                 Attempt::Done(reply) => return (after, Called::Done(reply, place)),
                 Attempt::Away(ticket, asked) => {
-                    return end_call(rt, cell, alloc, after, ticket, asked, desk);
+                    return end_call(rt, cell, after, ticket, asked, desk);
                 }
                 Attempt::GaveUp(held) => {
                     let reply = room.excluded(RefusalCode::OperationTimeout, &held);

@@ -132,7 +132,6 @@ pub fn give_up_in<G: Guests>(turn: &mut DomainTurn<G>, alloc: Global, who: Who, 
 // The last ask of the open call of this number is answered.
 fn back_as<G: Guests>(
     turn: &mut DomainTurn<G>,
-    alloc: Global,
     ticket: Ticket<G>,
     answer: Answer,
     made: Option<Link<G>>,
@@ -147,13 +146,12 @@ fn back_as<G: Guests>(
     ensures same { turn.new ≡ record turn.old { value = turn.new.value } }
 {
     let by = Stamp::named();
-    turn.value().back(alloc, by, ticket, answer, made)
+    turn.value().back(by, ticket, answer, made)
 }
 
 /// The last ask of the open call of the pass that has the turn is answered.
 pub fn back_in<G: Guests>(
     turn: &mut DomainTurn<G>,
-    alloc: Global,
     ticket: Ticket<G>,
     answer: Answer,
     made: Option<Link<G>>,
@@ -166,7 +164,7 @@ pub fn back_in<G: Guests>(
     ensures back { GoesBackIn turn.old.pass.number answer turn.old.value turn.new.value result }
     ensures same { turn.new ≡ record turn.old { value = turn.new.value } }
 {
-    back_as(turn, alloc, ticket, answer, made)
+    back_as(turn, ticket, answer, made)
 }
 
 /// What a query reads of the domain.

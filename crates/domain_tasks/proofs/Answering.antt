@@ -69,11 +69,6 @@ answers_marked : (before after : DomainPass) (d : Call) (front place : Front) (m
 answers_marked before after d front place m own said r k at same (inl is) = inl (marked_done before after d front place m own r k at (is ∙ ap told same))
 answers_marked before after d front place m own said r k at same (inr (made, none)) = inr (stops_none (known after) r none)
 
--- or there was no memory for one more copy of it
-answers_at_end : (before after : DomainPass) (d : Call) (front place : Front) (m : Mark ℕ) (own said r : Reply) → IsMarked before after d place m own → front ≡ place → IsToldAtEnd own said → IsPrinted said r → IsAnswered before after d front r
-answers_at_end before after d front place m own said r k at (inl same) prints = answers_marked before after d front place m own said r k at same prints
-answers_at_end before after d front place m own said r k at (inr none) prints = inr (none_printed (known after) said r none prints)
-
 -- ---- marks of a call
 marked_by : (turns : ℕ) (earlier : List (ℕ × Mark ℕ)) (chapter : ℕ) (m : Mark ℕ) (own : Reply) (before last after : DomainPass) (d : Call) (place : Front) → Goes turns (earlier ++ (chapter, m) ∷ []) before last → IsPlaced place chapter m last → Follows [] last after
     → reply_of m ≡ Some own → IsCallOf (known before) (known after) d m (call_in m) → IsMarked before after d place m own
@@ -147,8 +142,7 @@ rest_says : (n : ℕ) (who : Who) (x : Outcome) (ps : List PhaseDone) (p : Phase
 rest_says n who x ps p own h = ap rest_of (sym (led_to x (outcome.Rest own) ps p h))
 
 told_as : (own said now : Reply) → now ≡ said → IsToldAtEnd own said → IsToldAtEnd own now
-told_as own said now same (inl is) = inl (same ∙ is)
-told_as own said now same (inr none) = inr (same ∙ none)
+told_as own said now same is = same ∙ is
 
 -- ---- operations
 pub answers_operated : (who : Who) (d : Call) (before last after : DomainPass) (report now : List (Ask × Answer)) (c : Operated) (said r : Reply) (at : At) → HasOperated who d before last report now c → Follows [] last after → TellsOperated c said
@@ -159,7 +153,7 @@ answers_operated who d before last after report now (operated.Ended given place)
     let phases : List (ℕ × Mark ℕ) = marks_of_all before.number who h.operation.call h.phases in
     let of = began_by h.turns h.chapter who d h.boot h.first (phases ++ (h.end_chapter, m) ∷ []) before last after h.goes on h.is_operation.is_first in
     let k = marked_by h.turns (begun ++ phases) h.end_chapter m h.last before last after d place (goes_to_end h.turns begun phases h.end_chapter m before last h.goes) h.placed on refl of in
-    answers_at_end before after d at.place place m h.last said r k is (told_as h.last given said tells h.told_so) prints
+    answers_marked before after d at.place place m h.last said r k is (told_as h.last given said tells h.told_so) prints
 answers_operated who d before last after report now (operated.Rests given place) said r at h on tells is prints =
     let m : Mark ℕ = phase_mark before.number who h.final in
     let begun : List (ℕ × Mark ℕ) = begun_by h.chapter before.number who d h.boot h.first in
@@ -167,7 +161,7 @@ answers_operated who d before last after report now (operated.Rests given place)
     let of = began_by h.turns h.chapter who d h.boot h.first (marks_of_all before.number who h.operation.call (h.earlier ++ h.final ∷ [])) before last after h.goes on h.is_operation.is_first in
     let says : reply_of m ≡ Some h.last = rest_says before.number who h.operation.outcome h.earlier h.final h.last h.leads in
     let k = marked_by h.turns (begun ++ earlier) h.final.chapter m h.last before last after d place (goes_to_rest h.turns before.number who h.operation.call begun h.earlier h.final before last h.goes) h.placed on says of in
-    answers_at_end before after d at.place place m h.last said r k is (told_as h.last given said tells h.told_so) prints
+    answers_marked before after d at.place place m h.last said r k is (told_as h.last given said tells h.told_so) prints
 answers_operated who d before last after report now (operated.Refused own place) said r at h on tells is prints =
     let m : Mark ℕ = mark.Done before.number who d h.boot h.asks h.answers own h.events in
     let admit : Mark ℕ = mark.Admit before.number who (job_of d) d h.boot in

@@ -2,13 +2,14 @@
 use denote.Enum.Declared as enum
 use denote.Param.Send.{IsSend, enum_send, recorded_send, struct_send, view_send}
 use denote.Struct.Declared as struct
-use Rattle.core_rules.proofs.ends.CallEnd.TheSendSync as end
+use Rattle.core_rules.proofs.ends.PhaseReply.TheSendSync as end
 use Rattle.core_rules.proofs.ends.PhaseTexts.TheSendSync as texts
 use Rattle.core_rules.proofs.state_room.StateRoom.TheSendSync as room
 use Rattle.core_rules.specs.contracts.state_room.StateRoom
 use Rattle.domain_obj.proofs.Below.core_plan.course.Course.TheSendSync as course
 use Rattle.domain_obj.specs.Below.core_dispatch.contracts.phases.PhaseParts
 use Rattle.domain_obj.proofs.Below.core_flight.away.Away.TheSendSync as away
+use Rattle.domain_obj.proofs.Below.core_flight.starving.Aside.TheSendSync as aside
 use Rattle.domain_obj.specs.Below.core_flight.contracts.ledger.Ledger
 use Rattle.domain_obj.specs.Below.core_flight.contracts.ledger.Ledger.TheInside as ledger
 use Rattle.domain_obj.specs.Below.core_flight.contracts.out.Out
@@ -57,4 +58,4 @@ out_send = recorded_send (Out.the_field).row _ _ (Out.the_type).to_one (enum_sen
 
 pub ledger_send : IsSend Ledger.the_row
 ledger_send = view_send ledger.the_row _ _ _ _ (recorded_send (ledger.the_field).row _ _ (ledger.the_type).to_one (struct_send (struct.shape ledger.the_type)
-    (chapter_send, (option.the_field_send Out.the_row out_send, tt))))
+    (chapter_send, (option.the_field_send Out.the_row out_send, (aside.the_field_send, tt)))))

@@ -59,22 +59,22 @@ pub fn phase_in<G: Guests>(turn: &mut DomainTurn<G>, alloc: Global, who: Who) ->
 }
 
 // The operation ends, under this number.
-fn end_as<G: Guests>(turn: &mut DomainTurn<G>, alloc: Global, who: Who) -> Reply
+fn end_as<G: Guests>(turn: &mut DomainTurn<G>, who: Who) -> Reply
     ghost number: { ℕ }
     requires over { CanEnd (standing_in turn.old.value).operation number who }
     ensures ends { EndsIn number who turn.old.value turn.new.value result }
     ensures same { turn.new ≡ record turn.old { value = turn.new.value } }
 {
     let by = Stamp::named();
-    turn.value().end_op(alloc, by, who)
+    turn.value().end_op(by, who)
 }
 
 /// The operation that the pass has open, and that is over, ends with the reply of its last phase.
 #[tactic(auto, using(crate::proofs::Stepped::can_end))]
-pub fn end_in<G: Guests>(turn: &mut DomainTurn<G>, alloc: Global, who: Who) -> Reply
+pub fn end_in<G: Guests>(turn: &mut DomainTurn<G>, who: Who) -> Reply
     requires over { MayEnd turn.old.pass.number who turn.old.value }
     ensures ends { EndsIn turn.old.pass.number who turn.old.value turn.new.value result }
     ensures same { turn.new ≡ record turn.old { value = turn.new.value } }
 {
-    end_as(turn, alloc, who)
+    end_as(turn, who)
 }

@@ -38,7 +38,6 @@ pub enum Over {
 fn finish_phase<G: Guests, D: Desk<G>, R: Wait>(
     rt: &R,
     cell: &TurnCell<DomainCell<G>>,
-    alloc: Global,
     pass: DomainPass<G>,
     ticket: Ticket<G>,
     asked: Ask,
@@ -49,7 +48,7 @@ fn finish_phase<G: Guests, D: Desk<G>, R: Wait>(
     requires phase { IsInPhase pass }
     ensures { HasFinishedPhase pass result.0 (D.report desk.old) (D.report desk.new) result.1 }
 {
-    let (after, finished) = finish(rt, cell, alloc, pass, ticket, asked, desk);
+    let (after, finished) = finish(rt, cell, pass, ticket, asked, desk);
     match finished {
         Finished::Phased(next, place) => (after, OnePhase::Phased(next, place)),
         Finished::Spent => (after, OnePhase::Spent),
@@ -78,10 +77,9 @@ fn run_phase<G: Guests, D: Desk<G>, R: Wait>(
         match phase_once(rt, cell, alloc, pass, who) {
             Ok((after, looked, place)) => match looked {
                 PhaseLook::Excluded => pass = cell.rest(rt, after),
-                PhaseLook::NoMemory => pass = cell.rest(rt, after),
                 PhaseLook::Phased(next) => return (after, OnePhase::Phased(next, place)),
                 PhaseLook::Away(ticket, asked) => {
-                    return finish_phase(rt, cell, alloc, after, ticket, asked, desk);
+                    return finish_phase(rt, cell, after, ticket, asked, desk);
                 }
             },
             Err(after) => return (after, OnePhase::Spent),
@@ -112,7 +110,7 @@ pub fn run_phases<G: Guests, D: Desk<G>, R: Wait>(
             OnePhase::Phased(next, place) => match next {
                 Next::On => pass = after,
                 Next::Rest(reply) => return (after, Over::Rests(reply, place)),
-                Next::Over => match end_once(rt, cell, alloc, after, who) {
+                Next::Over => match end_once(rt, cell, after, who) {
                     Ok((ended, reply, place)) => return (ended, Over::Ended(reply, place)),
                     Err(spent) => return (spent, Over::Spent),
                 },

@@ -44,7 +44,6 @@ pub fn phase_once<G: Guests, R: Wait>(
 pub fn end_once<G: Guests, R: Wait>(
     rt: &R,
     cell: &TurnCell<DomainCell<G>>,
-    alloc: Global,
     pass: DomainPass<G>,
     who: Who,
 ) -> Result<(DomainPass<G>, Reply, Front), DomainPass<G>>
@@ -58,7 +57,7 @@ pub fn end_once<G: Guests, R: Wait>(
         Ok(turn) => turn,
         Err((pass, _)) => return Err(pass),
     };
-    let reply = end_in(&mut turn, alloc, who);
+    let reply = end_in(&mut turn, who);
     let place = last_in(&mut turn);
     told_legal(&mut turn);
     Ok((cell.leave(turn), reply, place))

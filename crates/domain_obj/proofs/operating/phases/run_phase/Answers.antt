@@ -8,23 +8,13 @@ use Rattle.domain_obj.proofs.operating.phases.run_phase.Goals as goal
 pub loop-init : goal.loop-init
 loop-init g c = (tt, tt, c.requires.1.1.1.1.1.1.0, awaits_first c.args.pass, refl)
 
-pub loop-preserved-in-Excluded : goal.loop-preserved-in-Excluded
-loop-preserved-in-Excluded g c =
+pub loop-preserved : goal.loop-preserved
+loop-preserved g c =
     let held = subst (λ (x : PhaseLook g.row.G.Denot g.row.G-M.Denot g.row.G-E.Denot g.row.G-Z.Denot). HasStepped c.args.who g.operation c.loop.pass c.in-Ok.after c.in-Ok.place x) c.in-Excluded.is c.in-Ok.ensures.ok in (
       tt,
       tt,
       ap (λ (p : DomainPass). p.cell) c.rest-pass.ensures ∙ held.unchanged.goes.went.same.cell ∙ c.loop.invariant.2,
       awaits_again c.args.pass c.loop.pass c.in-Ok.after c.rest-pass.result c.loop.invariant.3 held.unchanged c.rest-pass.ensures,
-      c.between.ensures ∙ c.loop.invariant.4,
-    )
-
-pub loop-preserved : goal.loop-preserved
-loop-preserved g c =
-    let unchanged = subst (λ (x : PhaseLook g.row.G.Denot g.row.G-M.Denot g.row.G-E.Denot g.row.G-Z.Denot). HasStepped c.args.who g.operation c.loop.pass c.in-Ok.after c.in-Ok.place x) c.in-NoMemory.is c.in-Ok.ensures.ok in (
-      tt,
-      tt,
-      ap (λ (p : DomainPass). p.cell) c.rest-pass-in-NoMemory.ensures ∙ unchanged.goes.went.same.cell ∙ c.loop.invariant.2,
-      awaits_again c.args.pass c.loop.pass c.in-Ok.after c.rest-pass-in-NoMemory.result c.loop.invariant.3 unchanged c.rest-pass-in-NoMemory.ensures,
       c.between.ensures ∙ c.loop.invariant.4,
     )
 
