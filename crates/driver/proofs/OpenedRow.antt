@@ -4,7 +4,7 @@ use Rattle.request_asks.specs.Below.def_keeper.Turns as storing
 use Rattle.driver_close.specs.OfCells as domain
 use Rattle.held_tasks.specs.OfRows.{DriverRow, IsReadyRow}
 use Rattle.files_disk.specs.Telling.{Told}
-use Rattle.object_list.specs.Keeping as listing
+use Rattle.driver_lists.specs.Below.driver_cells.Below.object_list.Keeping as listing
 use Rattle.pass_rows.specs.Rows.{IsIdleRow}
 use Rattle.virt_types.specs.Limits.{most_domains}
 

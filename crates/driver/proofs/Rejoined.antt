@@ -3,7 +3,7 @@ use Rattle.std.proofs.Common.{◌≡◌, ℕ, List, Option, sym, ◌∙◌, subs
 use Rattle.domain_spec.specs.Types.{Who}
 use Rattle.held_tasks.specs.OfRows.{DriverRow, known_row}
 use Rattle.files_disk.specs.Telling.{Told}
-use Rattle.object_list.specs.Turns.{ListPassed}
+use Rattle.driver_lists.specs.Below.driver_cells.Below.object_list.Turns.{ListPassed}
 use Rattle.held_tasks.specs.OfObjects.{DomainPass}
 use Rattle.held_tasks.specs.OfOutcomes.{HasGone, HasOutcome, Outcome, ReadsNow}
 use Rattle.request_asks.specs.Found.{IsFound, Leaves, restored_from}

@@ -8,8 +8,8 @@ use Rattle.driver_close.specs.OfCells as domain
 use Rattle.held_tasks.specs.OfObjects.{DomainPass}
 use Rattle.held_tasks.specs.OfRows.{DriverRow, IsReadyRow, KeepsNothing}
 use Rattle.files_disk.specs.Telling.{Told}
-use Rattle.object_list.specs.Keeping as listing
-use Rattle.object_list.specs.Turns.{ListPassed}
+use Rattle.driver_lists.specs.Below.driver_cells.Below.object_list.Keeping as listing
+use Rattle.driver_lists.specs.Below.driver_cells.Below.object_list.Turns.{ListPassed}
 use Rattle.pass_rows.specs.Cutting.{fewer}
 use Rattle.pass_rows.specs.Rows.{IsCutOffRow, fewer_row}
 use Rattle.turn_cell.specs.Passes.{IsCutOff}

@@ -5,3 +5,4 @@ pub mod Stopping
 pub mod Parts
 pub mod OfOutcomes
 pub mod OfTasks
+pub mod Below

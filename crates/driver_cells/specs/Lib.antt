@@ -6,3 +6,4 @@ pub mod OfCells
 pub mod OfObjects
 pub mod OfOutcomes
 pub mod OfTasks
+pub mod Below

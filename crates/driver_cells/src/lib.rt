@@ -9,5 +9,6 @@ pub use cells::{Cells, Row};
 pub use domain_tasks::{
     Chronicle, DomainCell, DomainObj, DomainPass, Outcome, Queried, Tasked, run_task,
 };
+pub use object_list::{ListPass, ListTurn, ObjectList, SlotName, SlotNameList, names_in};
 pub use resting::state_of;
 pub use spent::{NO_FRONT, run_out};

@@ -6,7 +6,7 @@ use Rattle.virt_types.specs.Limits.{most_domains}
 use Rattle.virt_types.specs.declared.request.Request.{Request}
 use Rattle.virt_types.specs.declared.status.Status.{Status}
 use Rattle.files_disk.specs.Telling.{Told}
-use Rattle.object_list.specs.Keeping as listing
+use Rattle.driver_open.specs.Below.object_list.Keeping as listing
 use Rattle.def_keeper.specs.Turns as storing
 use Rattle.pass_rows.specs.Cutting.{HasParts}
 use Rattle.pass_rows.specs.Rows.{HasRowParts, HasSplit}

@@ -5,8 +5,8 @@ use Rattle.std.specs.List.{All, AllZip, flat_map}
 use Rattle.std.proofs.lemmas.List.Sums.{sum_by-append, sum_by-cons}
 use Rattle.virt_types.specs.Limits.{most_domains}
 use Rattle.files_disk.specs.Telling.{Told}
-use Rattle.object_list.specs.Keeping as listing
-use Rattle.object_list.specs.Turns.{ListPassed}
+use Rattle.driver_open.specs.Below.object_list.Keeping as listing
+use Rattle.driver_open.specs.Below.object_list.Turns.{ListPassed}
 use Rattle.def_keeper.specs.Turns as storing
 use Rattle.pass_rows.specs.Cutting.{HasParts, fewer}
 use Rattle.pass_rows.specs.Rows.{HasRowParts, HasSplit, IsCutOffRow, fewer_row}

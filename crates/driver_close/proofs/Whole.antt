@@ -20,8 +20,8 @@ use Rattle.def_keeper.specs.Marks.{StoreHistory}
 use Rattle.def_keeper.specs.Safe.{IsMapOf}
 use Rattle.def_keeper.specs.Turns as storing
 use Rattle.def_map.specs.Map.{found}
-use Rattle.object_list.specs.Keeping as listing
-use Rattle.object_list.specs.Turns.{ListPassed}
+use Rattle.driver_open.specs.Below.object_list.Keeping as listing
+use Rattle.driver_open.specs.Below.object_list.Turns.{ListPassed}
 use Rattle.pass_rows.specs.Closing.{HasGathered, HasGatheredEach, passes_at}
 use Rattle.pass_rows.specs.Cutting.{cell_of}
 use Rattle.pass_rows.specs.Joining.{HasJoined, HoldsNothing, HoldsNothingRow, all_but_last}

@@ -14,7 +14,7 @@ use Rattle.def_keeper.specs.Marks.{StoreHistory}
 use Rattle.def_keeper.specs.Safe.{IsMapOf}
 use Rattle.def_keeper.specs.Turns as storing
 use Rattle.def_map.specs.Map.{found}
-use Rattle.object_list.specs.Keeping as listing
+use Rattle.driver_open.specs.Below.object_list.Keeping as listing
 use Rattle.pass_rows.specs.Closing.{passes_at}
 use Rattle.pass_rows.specs.Closing as closing
 use Rattle.turn_cell.specs.Passes.{Passed}

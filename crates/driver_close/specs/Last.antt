@@ -14,7 +14,7 @@ use Rattle.def_keeper.specs.Marks.{StoreHistory}
 use Rattle.def_keeper.specs.Safe.{IsMapOf}
 use Rattle.def_keeper.specs.Turns as storing
 use Rattle.def_map.specs.Map.{found}
-use Rattle.object_list.specs.Keeping as listing
+use Rattle.driver_open.specs.Below.object_list.Keeping as listing
 use Rattle.turn_cell.specs.Passes.{Closes, Passed}
 use Rattle.driver_open.specs.OfRows.{DriverRow}
 

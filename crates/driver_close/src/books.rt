@@ -1,5 +1,5 @@
 // What is left of a driver.
-use object_list::ObjectList;
+use driver_open::ObjectList;
 
 /// What is left of the cells of a driver, once nobody takes a turn there any more.
 #[derive(Drop)]

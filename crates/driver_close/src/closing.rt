@@ -3,7 +3,7 @@ ghost use Rattle.std.specs.Prelude.{◌≡◌, ◌≤◌, ◌<◌, [], length, m
 ghost use Rattle.std.specs.List.{All, AllZip};
 ghost use Rattle.std.specs.Vec.{vec_capacity};
 ghost use Rattle.virt_types.specs.Limits.{most_domains};
-ghost use Rattle.object_list.specs.Keeping as listing;
+ghost use Rattle.driver_open.specs.Below.object_list.Keeping as listing;
 ghost use Rattle.def_keeper.specs.Safe.{KeepsAll};
 ghost use Rattle.def_keeper.specs.Turns as storing;
 ghost use Rattle.driver_open.specs.OfCells as domain;

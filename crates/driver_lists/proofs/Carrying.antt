@@ -9,7 +9,7 @@ use Rattle.driver_cells.specs.Parts.{KeepsParts}
 use Rattle.driver_cells.specs.Ready.{HoldsNoSlot, IsReadyRow, KeepsNothing}
 use Rattle.driver_cells.proofs.Going.{are_later_itself}
 use Rattle.driver_cells.proofs.Passing.{later_itself}
-use Rattle.object_list.specs.Turns.{ListPassed}
+use Rattle.driver_cells.specs.Below.object_list.Turns.{ListPassed}
 use Rattle.driver_cells.specs.OfOutcomes.{HasGone, IsLater, level}
 use Rattle.pass_rows.specs.Cutting.{cell_of}
 use Rattle.pass_rows.specs.Rows.{IsOf}

@@ -4,10 +4,10 @@ use Rattle.turn_cell.specs.Passes.{Enters, Turned, left_by}
 use Rattle.book_spec.specs.declared.list.ListMark.{ListMark}
 use Rattle.book_spec.specs.Slots.{Slots, holds_of}
 use Rattle.book_spec.specs.ListHistory.{ListHistory, slots_of}
-use Rattle.object_list.specs.Keeping.{meaning, new_base_keeps, no_mark_lowers}
-use Rattle.object_list.specs.Names.{AreNames}
-use Rattle.object_list.specs.Turns.{ListPassed}
-use Rattle.object_list.specs.declared.slot_name.SlotName.{SlotName}
+use Rattle.driver_cells.specs.Below.object_list.Keeping.{meaning, new_base_keeps, no_mark_lowers}
+use Rattle.driver_cells.specs.Below.object_list.Names.{AreNames}
+use Rattle.driver_cells.specs.Below.object_list.Turns.{ListPassed}
+use Rattle.driver_cells.specs.Below.object_list.declared.slot_name.SlotName.{SlotName}
 use Rattle.virt_types.specs.Below.types_base.declared.caller.Front.{Front}
 use Rattle.virt_types.specs.Below.types_base.declared.memory.NoMemory.{NoMemory}
 use Rattle.driver_lists.specs.Listing.{HasListed}

@@ -9,9 +9,9 @@ use Rattle.driver_cells.specs.OfObjects.{DomainPass}
 use Rattle.driver_cells.specs.Known.{DriverRow, known, known_row}
 use Rattle.driver_cells.specs.Ready.{HoldsNoSlot}
 use Rattle.driver_cells.proofs.Passing.{later_spent, later_went}
-use Rattle.object_list.specs.Keeping.{meaning}
-use Rattle.object_list.specs.Turns.{ListPassed}
-use Rattle.object_list.specs.declared.slot_name.SlotName.{SlotName}
+use Rattle.driver_cells.specs.Below.object_list.Keeping.{meaning}
+use Rattle.driver_cells.specs.Below.object_list.Turns.{ListPassed}
+use Rattle.driver_cells.specs.Below.object_list.declared.slot_name.SlotName.{SlotName}
 use Rattle.driver_cells.specs.OfOutcomes.{level}
 use Rattle.pass_rows.specs.Resting.{IsIdle}
 use Rattle.virt_types.specs.Limits.{most_domains}

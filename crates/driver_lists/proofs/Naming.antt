@@ -7,8 +7,8 @@ use Rattle.std.specs.Ordering.{nat_cmp}
 use Rattle.std.proofs.lemmas.List.Elements.{All-cons, All-nil}
 use Rattle.book_spec.specs.declared.list.Entry.{Entry}
 use Rattle.book_spec.specs.Slots.{Slots, entry_in, new_entry}
-use Rattle.object_list.specs.Names.{AllStandIn, AreAfter, AreNames, IsRising}
-use Rattle.object_list.specs.declared.slot_name.SlotName.{SlotName}
+use Rattle.driver_cells.specs.Below.object_list.Names.{AllStandIn, AreAfter, AreNames, IsRising}
+use Rattle.driver_cells.specs.Below.object_list.declared.slot_name.SlotName.{SlotName}
 use Rattle.virt_types.specs.declared.domain.Domain.{Domain}
 use Rattle.virt_types.specs.declared.domain.State.{State}
 use Rattle.virt_types.specs.declared.domain.State.TheVariants as state

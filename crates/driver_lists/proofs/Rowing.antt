@@ -14,7 +14,7 @@ use Rattle.driver_cells.specs.Parts.{parts_of}
 use Rattle.driver_cells.specs.Ready.{KeepsNothing}
 use Rattle.driver_cells.proofs.Going.{are_later}
 use Rattle.driver_cells.proofs.Passing.{later_spent, later_went}
-use Rattle.object_list.specs.declared.slot_name.SlotName.{SlotName}
+use Rattle.driver_cells.specs.Below.object_list.declared.slot_name.SlotName.{SlotName}
 use Rattle.driver_cells.specs.OfOutcomes.{IsLater, domain_at, row_of, state_of}
 use Rattle.pass_rows.specs.Cutting.{cell_of}
 use Rattle.virt_types.specs.declared.call.Query.TheVariants as query

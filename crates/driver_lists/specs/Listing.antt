@@ -2,10 +2,10 @@
 use Rattle.std.specs.Prelude.{◌≡◌, List, [], false, length, Result, IfOk}
 use Rattle.book_spec.specs.ListHistory.{slots_of}
 use Rattle.book_spec.specs.Slots.{holds_of}
-use Rattle.object_list.specs.Keeping.{meaning}
-use Rattle.object_list.specs.Names.{AreNames}
-use Rattle.object_list.specs.Turns.{ListPassed}
-use Rattle.object_list.specs.declared.slot_name.SlotName.{SlotName}
+use Rattle.driver_cells.specs.Below.object_list.Keeping.{meaning}
+use Rattle.driver_cells.specs.Below.object_list.Names.{AreNames}
+use Rattle.driver_cells.specs.Below.object_list.Turns.{ListPassed}
+use Rattle.driver_cells.specs.Below.object_list.declared.slot_name.SlotName.{SlotName}
 use Rattle.turn_cell.specs.Turning.{Went}
 use Rattle.virt_types.specs.Below.types_base.declared.caller.Front.{Front}
 use Rattle.virt_types.specs.Below.types_base.declared.memory.NoMemory.{NoMemory}

@@ -11,7 +11,7 @@ use Rattle.domain_spec.specs.declared.standing.Base.{Base}
 use Rattle.driver_cells.specs.Known.{known}
 use Rattle.driver_cells.specs.Parts.{parts_of}
 use Rattle.driver_cells.specs.Ready.{KeepsNothing}
-use Rattle.object_list.specs.declared.slot_name.SlotName.{SlotName}
+use Rattle.driver_cells.specs.Below.object_list.declared.slot_name.SlotName.{SlotName}
 use Rattle.driver_cells.specs.OfOutcomes.{AreLater, DomainPass as KnownPass, IsRead, domain_at, row_of, rows_of, state_of}
 use Rattle.pass_rows.specs.Cutting.{cell_of}
 use Rattle.virt_types.specs.declared.call.Query.TheVariants as query

@@ -2,7 +2,7 @@
 ghost use Rattle.std.specs.Prelude.{◌≡◌, true, length, IfErr, IfOk};
 ghost use Rattle.driver_lists.specs.Listing.{HasListed};
 
-use object_list::{ListPass, ListTurn, ObjectList, SlotNameList, names_in};
+use driver_cells::{ListPass, ListTurn, ObjectList, SlotNameList, names_in};
 use std::sync::Wait;
 use turn_cell::TurnCell;
 use virt_types::{Front, NoMemory};

@@ -8,9 +8,8 @@ ghost use Rattle.pass_rows.specs.Cutting.{cell_of};
 ghost use Rattle.driver_lists.specs.Reading.{HasReadAll, HasReadOne, HasReadRow, IsTold, PassesGo, row_told};
 
 use crate::stopping::Stop;
-use driver_cells::{DomainCell, DomainObj, DomainPass, Queried, state_of};
+use driver_cells::{DomainCell, DomainObj, DomainPass, Queried, SlotName, state_of};
 use monitor_link::Guests;
-use object_list::SlotName;
 use pass_rows::Passes;
 use std::alloc::Global;
 use std::sync::Wait;

@@ -9,9 +9,9 @@ use Rattle.turn_cell.specs.Meaning.{Meaning}
 use Rattle.turn_cell.specs.Passes.{IsFirst, Passed}
 use Rattle.files_disk.specs.Telling.{Told}
 use Rattle.store_spec.specs.declared.change.Change.{Change}
-use Rattle.object_list.specs.Keeping as listing
-use Rattle.object_list.specs.Turns.{ListPassed}
-use Rattle.object_list.proofs.Openings.{nobody_holds}
+use Rattle.driver_cells.specs.Below.object_list.Keeping as listing
+use Rattle.driver_cells.specs.Below.object_list.Turns.{ListPassed}
+use Rattle.driver_cells.proofs.Below.object_list.Openings.{nobody_holds}
 use Rattle.def_keeper.specs.declared.mark.StoreBase.{StoreBase}
 use Rattle.def_keeper.specs.declared.mark.StoreMark.{StoreMark}
 use Rattle.def_keeper.specs.declared.outcome.Found.{Found}

@@ -4,8 +4,8 @@ use Rattle.atomic_table.specs.Seated.{TableId}
 use Rattle.virt_types.specs.Limits.{most_domains}
 use Rattle.turn_cell.specs.Passes.{IsFirst, Passed}
 use Rattle.files_disk.specs.Telling.{Told}
-use Rattle.object_list.specs.Keeping as listing
-use Rattle.object_list.specs.Turns.{ListPassed}
+use Rattle.driver_cells.specs.Below.object_list.Keeping as listing
+use Rattle.driver_cells.specs.Below.object_list.Turns.{ListPassed}
 use Rattle.def_keeper.specs.declared.mark.StoreBase.{StoreBase}
 use Rattle.def_keeper.specs.declared.mark.StoreMark.{StoreMark}
 use Rattle.def_keeper.specs.Keeper.{Keeping}

@@ -6,7 +6,7 @@ use Rattle.virt_types.specs.declared.request.Request.{Request}
 use Rattle.virt_types.specs.declared.status.Status.{Status}
 use Rattle.turn_cell.specs.Passes.{IsFirst}
 use Rattle.files_disk.specs.Telling.{Told}
-use Rattle.object_list.specs.Keeping as listing
+use Rattle.driver_cells.specs.Below.object_list.Keeping as listing
 use Rattle.def_keeper.specs.declared.outcome.Found.{Found}
 use Rattle.def_keeper.specs.Keeper.{Keeping}
 use Rattle.def_keeper.specs.Turns as storing

@@ -8,7 +8,7 @@ mod opened;
 mod row_list;
 mod slots;
 
-pub use driver_cells::{Cells, Chronicle, DomainCell, DomainObj, Row};
+pub use driver_cells::{Cells, Chronicle, DomainCell, DomainObj, ObjectList, Row};
 pub use driver_store::DriverFault;
 pub use histories::HistoryRoom;
 pub use open::open_cells;

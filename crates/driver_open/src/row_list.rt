@@ -1,16 +1,15 @@
 // A row of a driver becomes many.
 ghost use Rattle.std.specs.Prelude.{◌≡◌, ◌≤◌, IfErr, IfOk};
 ghost use Rattle.std.specs.List.{All};
-ghost use Rattle.object_list.specs.Keeping as listing;
+ghost use Rattle.driver_cells.specs.Below.object_list.Keeping as listing;
 ghost use Rattle.def_keeper.specs.Turns as storing;
 ghost use Rattle.driver_cells.specs.OfCells as domain;
 ghost use Rattle.pass_rows.specs.Rows.{HasRowParts, HasSplit, IsIdleRow, IsOf, KeepsPasses};
 
 use def_keeper::{Keeper, Opening};
-use driver_cells::{Cells, DomainCell, Row};
+use driver_cells::{Cells, DomainCell, ObjectList, Row};
 use files_disk::Files;
 use monitor_link::Guests;
-use object_list::ObjectList;
 use pass_rows::RowListOf;
 use std::alloc::Global;
 use virt_types::NoMemory;

@@ -12,7 +12,7 @@ use Rattle.driver_cells.proofs.OfTasks.{left_among, stands_last}
 use Rattle.files_disk.specs.Telling.{Told}
 use Rattle.list_holds.specs.Held.{HasHeld, IsLast}
 use Rattle.list_replies.specs.Telling.{TellsFault}
-use Rattle.object_list.specs.Turns.{ListPassed}
+use Rattle.driver_cells.specs.Below.object_list.Turns.{ListPassed}
 use Rattle.driver_cells.specs.OfOutcomes.{DomainPass as KnownPass, HasLeft, HasSlot, HasSpent, IsLater, IsNow, KnownRow, Outcome, StandsAt, front_of, level, pass_of}
 use Rattle.driver_cells.proofs.OfOutcomes.{left_stays}
 use Rattle.virt_types.specs.declared.ask.GuestEvent.{GuestEvent}

@@ -10,8 +10,8 @@ use Rattle.list_replies.specs.Below.domain_requests.declared.task.Task.{Task}
 use Rattle.domain_spec.specs.Types.{Answer, Ask, Who}
 use Rattle.files_disk.specs.Telling.{Told}
 use Rattle.list_holds.specs.Held.{HasHeld}
-use Rattle.object_list.specs.Keeping.{meaning as list_meaning}
-use Rattle.object_list.specs.Turns.{ListPassed, one_more}
+use Rattle.driver_cells.specs.Below.object_list.Keeping.{meaning as list_meaning}
+use Rattle.driver_cells.specs.Below.object_list.Turns.{ListPassed, one_more}
 use Rattle.driver_cells.specs.OfOutcomes.{AreLater, HasGone, HasSpent, IsLater, Outcome, level}
 use Rattle.pass_rows.specs.Cutting.{cell_of}
 use Rattle.pass_rows.specs.Rows.{IsOf}

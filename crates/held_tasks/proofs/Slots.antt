@@ -7,7 +7,7 @@ use Rattle.driver_cells.specs.OfObjects.{DomainPass, Seen}
 use Rattle.list_replies.specs.Below.domain_requests.declared.task.Task.{Task}
 use Rattle.domain_spec.specs.Types.{Reply, Who}
 use Rattle.files_disk.specs.Telling.{Told}
-use Rattle.object_list.specs.Turns.{ListPassed}
+use Rattle.driver_cells.specs.Below.object_list.Turns.{ListPassed}
 use Rattle.driver_cells.specs.OfOutcomes.{Outcome}
 use Rattle.pass_rows.specs.Cutting.{cell_of}
 use Rattle.pass_rows.specs.Resting.{IsIdle}

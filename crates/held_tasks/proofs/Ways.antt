@@ -14,8 +14,8 @@ use Rattle.domain_spec.specs.Types.{Who}
 use Rattle.files_disk.specs.Telling.{Told}
 use Rattle.list_holds.specs.Held.{HasHeld}
 use Rattle.list_replies.specs.Telling.{TellsFault}
-use Rattle.object_list.specs.Keeping.{meaning as list_meaning}
-use Rattle.object_list.specs.Turns.{ListPassed, one_more}
+use Rattle.driver_cells.specs.Below.object_list.Keeping.{meaning as list_meaning}
+use Rattle.driver_cells.specs.Below.object_list.Turns.{ListPassed, one_more}
 use Rattle.driver_cells.specs.OfOutcomes.{Outcome}
 use Rattle.pass_rows.specs.Resting.{IsIdle, IsSo}
 use Rattle.pass_rows.specs.Rows.{IsIdleRow, IsOf}

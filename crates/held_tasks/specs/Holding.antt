@@ -4,7 +4,7 @@ use Rattle.std.specs.List.{All}
 use Rattle.atomic_table.specs.Seated.{TableId}
 use Rattle.book_spec.specs.Slots.{no_holds}
 use Rattle.driver_cells.specs.OfCells.{meaning}
-use Rattle.object_list.specs.Turns.{one_more}
+use Rattle.driver_cells.specs.Below.object_list.Turns.{one_more}
 use Rattle.pass_rows.specs.Resting.{IsIdle}
 use Rattle.pass_rows.specs.Rows.{IsOf}
 use Rattle.driver_cells.specs.Known.{DriverRow}

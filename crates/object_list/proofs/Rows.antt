@@ -3,7 +3,7 @@ use Rattle.std.proofs.Common.{◌≡◌, ◌≢◌, ℕ, ◌+◌, ◌<◌, ◌^�
 use Rattle.std.proofs.lemmas.Bool.{cases_eq, cond-true, cond-false, cond_both, and_parts}
 use Rattle.std.proofs.lemmas.List.{set-set, get_or_read}
 use Rattle.std.proofs.lemmas.List.Sums.{get_or-le-sum_by}
-use Rattle.history_spec.specs.Tally.{one_fewer}
+use Rattle.turn_book.specs.Below.history_spec.Tally.{one_fewer}
 use Rattle.types_base.specs.Front.{is_longer}
 use Rattle.types_base.specs.declared.caller.Front.{Front}
 use Rattle.book_spec.specs.declared.list.Entry.{Entry}

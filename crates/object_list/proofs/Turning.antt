@@ -1,9 +1,9 @@
 -- What a turn at the list tells the pass that had it.
 use Rattle.std.proofs.Common.{◌≡◌, ◌≢◌, ℕ, ◌<◌, Bool, List, [], ◌∷◌, slice_index, Result, Ok, Err, sym, ap, ◌∙◌, subst}
-use Rattle.history_spec.specs.Chapter.{tagged}
-use Rattle.turn_cell.specs.Passes.{Turned, Enters, left_by}
-use Rattle.turn_cell.specs.Turning.{Changes, Went}
-use Rattle.turn_cell.proofs.Turning.{nothing_changes, turn_tells}
+use Rattle.turn_book.specs.Below.history_spec.Chapter.{tagged}
+use Rattle.turn_book.specs.Below.turn_cell.Passes.{Turned, Enters, left_by}
+use Rattle.turn_book.specs.Below.turn_cell.Turning.{Changes, Went}
+use Rattle.turn_book.proofs.Below.turn_cell.Turning.{nothing_changes, turn_tells}
 use Rattle.types_base.specs.Memory.{UnlessNoMemory}
 use Rattle.types_base.specs.declared.caller.Front.{Front}
 use Rattle.types_base.specs.declared.memory.OrNoMemory.{OrNoMemory}

@@ -1,7 +1,7 @@
 -- What a turn cell sees in the list.
 use Rattle.std.specs.Prelude.{◌≡◌, ℕ, ◌+◌, ◌≤◌, ◌^◌, List, [], length}
 use Rattle.std.proofs.Common.{le_refl}
-use Rattle.turn_cell.specs.Meaning.{Meaning, NoMarkLowers, NewBaseKeeps}
+use Rattle.turn_book.specs.Below.turn_cell.Meaning.{Meaning, NoMarkLowers, NewBaseKeeps}
 use Rattle.book_spec.specs.declared.list.ListMark.{ListMark}
 use Rattle.book_spec.specs.Slots.{Slots, holds_of, no_holds, all_holders}
 use Rattle.book_spec.specs.Chapters.{most_marks}

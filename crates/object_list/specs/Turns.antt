@@ -1,8 +1,8 @@
 -- What a pass knows after a turn at the list.
 use Rattle.std.specs.Prelude.{◌≡◌, ℕ, ◌+◌, ◌<◌, Bool, List, [], ◌∷◌, slice_index, slice_set, Result, Ok, Err}
-use Rattle.history_spec.specs.Chapter.{tagged}
-use Rattle.turn_cell.specs.Passes.{Passed}
-use Rattle.turn_cell.specs.Turning.{Went}
+use Rattle.turn_book.specs.Below.history_spec.Chapter.{tagged}
+use Rattle.turn_book.specs.Below.turn_cell.Passes.{Passed}
+use Rattle.turn_book.specs.Below.turn_cell.Turning.{Went}
 use Rattle.types_base.specs.Memory.{UnlessNoMemory}
 use Rattle.types_base.specs.declared.caller.Front.{Front}
 use Rattle.types_base.specs.declared.memory.OrNoMemory.{OrNoMemory}

@@ -1,7 +1,7 @@
 use crate::list::ObjectList;
 use book_spec::{ListMark, Slots};
 use std::collections::LinkedList;
-use turn_cell::Kept;
+use turn_book::Kept;
 
 impl Kept for ObjectList {
     ghost use Rattle.object_list.specs.Keeping.{meaning, no_mark_lowers, new_base_keeps};

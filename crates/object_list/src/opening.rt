@@ -1,6 +1,6 @@
 // The list in a turn cell.
 ghost use Rattle.std.specs.Prelude.{◌≡◌, [], IfOk};
-ghost use Rattle.turn_cell.specs.Passes.{IsFirst};
+ghost use Rattle.turn_book.specs.Below.turn_cell.Passes.{IsFirst};
 ghost use Rattle.object_list.specs.Keeping.{meaning};
 ghost use Rattle.object_list.specs.Opening.{CanOpen, opened};
 
@@ -8,7 +8,7 @@ use crate::list::ObjectList;
 use crate::slot_name::FoundDomain;
 use crate::turns::ListPass;
 use std::alloc::Global;
-use turn_cell::TurnCell;
+use turn_book::TurnCell;
 use types_base::{ListOf, NoMemory};
 
 /// The list of the domains that were found where the daemon was opened, in a cell of its own, with

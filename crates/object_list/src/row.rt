@@ -2,8 +2,8 @@
 ghost use Rattle.std.specs.Prelude.{◌≡◌, ◌==◌, ◌&&◌, not, ℕ, ◌<◌, ◌^◌, true, length, Some};
 ghost use Rattle.book_spec.specs.Slots.{new_entry, held_by, told, let_go_by, times_held};
 
-use history_spec::Tally;
 use std::marker::Model;
+use turn_book::Tally;
 use types_base::{Front, Name, Uuid};
 
 /// A domain in its slot. Contracts see who holds it.

@@ -14,7 +14,7 @@ use crate::list::ObjectList;
 use crate::slot_name::SlotNameList;
 use book_spec::ListFault;
 use std::sync::Wait;
-use turn_cell::{Pass, Turn, TurnCell};
+use turn_book::{Pass, Turn, TurnCell};
 use types_base::{Front, Name, NoMemory, OrNoMemory, Uuid};
 
 /// The right to take turns at the list.

@@ -1,5 +1,5 @@
 use Rattle.std.proofs.Common.{◌∙◌}
-use Rattle.object_list.specs.Keeping.{meaning}
+use Rattle.driver_cells.specs.Below.object_list.Keeping.{meaning}
 use Rattle.driver_lists.proofs.Listed.{has_listed}
 use Rattle.driver_lists.proofs.Silent.{leaves_all}
 use Rattle.driver_lists.proofs.listing.list_domains.Goals as goal

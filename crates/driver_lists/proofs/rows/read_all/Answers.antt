@@ -1,6 +1,6 @@
 use Rattle.std.proofs.Common.{◌<◌, [], length, map, arith, subst, sym}
 use Rattle.driver_cells.specs.Known.{known}
-use Rattle.object_list.specs.declared.slot_name.SlotName.{SlotName}
+use Rattle.driver_cells.specs.Below.object_list.declared.slot_name.SlotName.{SlotName}
 use Rattle.driver_lists.specs.Reading.{HasReadOne}
 use Rattle.driver_lists.proofs.Carrying.{go_nowhere, same_length}
 use Rattle.driver_lists.proofs.Gathering.{go_through, read_next}

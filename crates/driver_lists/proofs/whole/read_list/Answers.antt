@@ -1,8 +1,8 @@
 use Rattle.std.proofs.Common.{◌<◌, List, Ok, Err, true, length, refl, sym, ap, ◌∙◌, subst}
 use Rattle.std.specs.List.{All}
 use Rattle.driver_cells.specs.Ready.{HoldsNoSlot}
-use Rattle.object_list.specs.Turns.{ListPassed}
-use Rattle.object_list.specs.declared.slot_name.SlotName.{SlotName}
+use Rattle.driver_cells.specs.Below.object_list.Turns.{ListPassed}
+use Rattle.driver_cells.specs.Below.object_list.declared.slot_name.SlotName.{SlotName}
 use Rattle.driver_lists.proofs.Carrying.{go_nowhere, has_gone, is_ready, no_mark, ready_at, row_goes}
 use Rattle.driver_lists.proofs.Listings.{list_at, list_goes_at, list_spent, list_went, listed_at, names_fit, no_list_at, read_at}
 use Rattle.driver_lists.proofs.whole.read_list.Goals as goal
