@@ -1,3 +1,4 @@
+pub mod Below
 pub mod Chapters
 pub mod Calling
 pub mod Turning

@@ -14,5 +14,7 @@ pub use asks::{Ask, Change};
 pub use book::Book;
 pub use chronicle::Chronicle;
 pub use giving::{Given, Tested, give, plain, why, why_about};
+pub use history_spec::Tally;
 pub use table::Table;
+pub use turn_cell::{Kept, Pass, Turn, TurnCell};
 pub use turns::{BookPass, BookTurn, call, call_in, make_in, may_in, refuse_in};
