@@ -1,5 +1,5 @@
 -- The line of a command (QEMU's "QEMU Machine Protocol Specification", "Issuing Commands").
-use Rattle.std.specs.Prelude.{ℕ, ◌*◌, ◌^◌, ◌&&◌, nat_le, nat_lt, Bool, true, List, length, codes, Option, Some, None, if◌then◌else◌}
+use Rattle.std.specs.Prelude.{ℕ, ◌*◌, ◌^◌, nat_le, nat_lt, Bool, true, List, length, codes, Option, Some, None, if◌then◌else◌, option_map}
 use Rattle.hex.specs.Hex.{encode_lower}
 use Rattle.serde_json.specs.Data.{Data, Members, member, no_members, number, object, string, unsigned}
 use Rattle.serde_json.specs.Written.{compact_text}
@@ -8,10 +8,9 @@ use Rattle.virt_types.specs.declared.ask.Command.{Command}
 use Rattle.virt_types.specs.declared.ask.Command.TheVariants as command
 use Rattle.virt_types.specs.Below.types_base.declared.device_def.DeviceDef.{DeviceDef}
 use Rattle.qmp_lines.specs.Words.{verb_of, verb_word}
-use Rattle.qmp_lines.specs.declared.verb.Verb.{Verb}
 use Rattle.qmp_lines.specs.declared.command.TheConstants.{MOST_LINE_BYTES}
 
--- an object with one number
+-- one number under a name
 abbrev pub numbered : List ℕ → ℕ → Members
 numbered name n = member name (number (unsigned n)) no_members
 
@@ -19,28 +18,32 @@ numbered name n = member name (number (unsigned n)) no_members
 abbrev pub keyed : DeviceDef → ℕ → Members
 keyed device slot = member (codes "key") (string (key_of device)) (numbered (codes "slot") slot)
 
--- the member `arguments`, where there is one; memory is in bytes there
+abbrev pub with_state : List ℕ → Members
+with_state bytes = member (codes "state") (string (encode_lower bytes)) no_members
+
+-- what goes with a command, where something does; memory is in bytes there
 abbrev pub arguments : Command → Option Members
 arguments (command.SetMemory kib) = Some (numbered (codes "value") (kib * 1024))
 arguments (command.SetVcpus count) = Some (numbered (codes "number") count)
-arguments (command.AddBackend slot device) = Some (keyed device.value slot)
-arguments (command.AddDevice slot device) = Some (keyed device.value slot)
+arguments (command.AddBackend slot device) = Some (keyed device slot)
+arguments (command.AddDevice slot device) = Some (keyed device slot)
 arguments (command.RemoveDevice slot) = Some (numbered (codes "slot") slot)
 arguments (command.RemoveBackend slot) = Some (numbered (codes "slot") slot)
-arguments (command.LoadState state) = Some (member (codes "state") (string (encode_lower state)) no_members)
+arguments (command.LoadState bytes) = Some (with_state bytes)
 arguments (command.Kick n) = Some (numbered (codes "number") n)
 arguments other = None
 
-abbrev with_arguments : Option Members → Members → Data
+abbrev pub asked : List ℕ → ℕ → Members
+asked word id = member (codes "execute") (string word) (numbered (codes "id") id)
+
+-- `arguments` stands before the other members: they rise
+abbrev pub with_arguments : Option Data → Members → Data
 with_arguments None members = object members
-with_arguments (Some given) members = object (member (codes "arguments") (object given) members)
+with_arguments (Some given) members = object (member (codes "arguments") given members)
 
--- the object that asks: members stand in rising order
-abbrev pub tree : Option Members → Verb → ℕ → Data
-tree given verb id = with_arguments given (member (codes "execute") (string (verb_word verb)) (numbered (codes "id") id))
-
+-- the object that asks for the command, which has this number
 abbrev pub command_tree : ℕ → Command → Data
-command_tree id c = tree (arguments c) (verb_of c) id
+command_tree id c = with_arguments (option_map object (arguments c)) (asked (verb_word (verb_of c)) id)
 
 -- its numbers are below 2 ^ 64
 abbrev pub has_numbers : Command → Bool
