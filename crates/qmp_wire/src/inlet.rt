@@ -123,7 +123,7 @@ impl<S: Source> Inlet<S> {
         ensures stands { Stands self.new }
         ensures later { S.faults self.old.source ≤ S.faults self.new.source }
     {
-        loop {
+        'pieces: loop {
             match self.gather() {
                 Ok(true) => return Ok(()),
                 Ok(false) => match self.take_piece() {
@@ -251,7 +251,7 @@ impl<S: Source> Inlet<S> {
         ensures err { IfErr result (λ why. Misses S.left S.faults (awaiting command.now sent) (seen self.old) (seen self.new) why) }
         ensures stands { Stands self.new }
     {
-        loop {
+        'lines: loop {
             match self.next_line() {
                 Ok(()) => match self.look(alloc, sent, Some(command)) {
                     Ok(Some(answer)) => return Ok(answer),
@@ -280,7 +280,7 @@ impl<S: Waiting> Inlet<S> {
         ensures stands { Stands self.new }
         ensures later { S.faults self.old.source ≤ S.faults self.new.source }
     {
-        loop {
+        'pieces: loop {
             match self.gather() {
                 Ok(true) => return Ok(true),
                 Ok(false) => {
@@ -320,7 +320,7 @@ impl<S: Waiting> Inlet<S> {
         ensures none { OnErr result (self.new.events.items ≡ []) }
         ensures stands { Stands self.new }
     {
-        loop {
+        'lines: loop {
             if let Some(event) = self.events.pop_front() {
                 return Ok(Heard::Event(event));
             }

@@ -8,6 +8,8 @@ mod inlet;
 mod near;
 mod outlet;
 mod piece;
+#[cfg(test)]
+mod tests;
 mod waiting;
 
 pub use fault::QmpFault;

@@ -1,0 +1,13 @@
+-- Counts that rose, and what a source reports where it took nothing.
+use Rattle.std.proofs.Common.{◌≤◌, ℕ, List, [], Option, None, Some, sym, arith}
+use Rattle.std.specs.Io.KnownBytes.{Consumes, Keeps}
+use Rattle.outside_spec.specs.Faults.{Rose}
+
+pub Consumes-kept : (a b : Option (List ℕ)) → Keeps a b → Consumes a b []
+Consumes-kept None b h = tt
+Consumes-kept (Some a) None h = absurd h
+Consumes-kept (Some a) (Some b) h = sym h
+
+-- a count that rose since later has risen since before
+pub rose_before : (a b n : ℕ) → a ≤ b → Rose b n → Rose a n
+rose_before a b n le rose = omega (arith, le, rose)
