@@ -31,8 +31,13 @@ fn tree_of(alloc: Global, line: &[u8]) -> Result<Option<Value>, NoMemory>
 {
     match Value::from_slice(alloc, line) {
         Ok(value) => Ok(Some(value)),
-        Err(fault) if fault.is_memory() => Err(NoMemory),
-        Err(_) => Ok(None),
+        Err(fault) => {
+            if fault.is_memory() {
+                Err(NoMemory)
+            } else {
+                Ok(None)
+            }
+        }
     }
 }
 

@@ -25,9 +25,9 @@ const HELLO: &[u8] = b"{\"execute\":\"qmp_capabilities\",\"id\":1}\n";
 /// After a fault the link is lost for good; what was kept is still given.
 #[derive(Drop)]
 pub struct Near<S, K> {
-    ends: Ends<S, K>,
-    fault: Option<QmpFault>,
-    counts: Counts,
+    pub(crate) ends: Ends<S, K>,
+    pub(crate) fault: Option<QmpFault>,
+    pub(crate) counts: Counts,
 }
 
 impl<S, K> Model for Near<S, K> {
@@ -126,8 +126,8 @@ impl<S: Waiting, K: Sink> Near<S, K> {
         {
             Ok(heard) => heard,
             Err(OrNoMemory::NoMemory) => Heard::NoMemory,
-            Err(OrNoMemory::Fault(fault)) => {
-                self.fault = Some(fault);
+            Err(OrNoMemory::Fault(why)) => {
+                self.fault = Some(why);
                 Heard::Lost
             }
         }

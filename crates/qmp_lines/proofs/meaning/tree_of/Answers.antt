@@ -1,0 +1,8 @@
+use Rattle.qmp_lines.proofs.Trees.{tree_none, tree_some}
+use Rattle.qmp_lines.proofs.meaning.tree_of.Goals as goal
+
+pub returns-in-Ok : goal.returns-in-Ok
+returns-in-Ok c = tree_some c.args.line.now _ c.in-Ok.ensures.ok.0 c.in-Ok.ensures.ok.1
+
+pub returns-else-is_memory : goal.returns-else-is_memory
+returns-else-is_memory c = ?
