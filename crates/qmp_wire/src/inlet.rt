@@ -326,8 +326,8 @@ impl<S: Waiting> Inlet<S> {
             }
             match self.waiting_line() {
                 Ok(true) => match self.look(alloc, sent, None) {
-                    Ok(Some(Answer::Ended(reason))) => return Ok(Heard::Ended(reason)),
-                    Ok(_) => {}
+                    Ok(Some(_)) => return Ok(self.rest()),
+                    Ok(None) => {}
                     Err(why) => return Err(why),
                 },
                 Ok(false) => return Ok(self.rest()),

@@ -36,10 +36,10 @@ fn the_rows(rt: HostRuntime) -> Result<(), Fail> {
     for most in [1usize, 7, 4096] {
         let mut near = near(&rt, rt.alloc(), lines, most)?;
         assert!(rt; is_nothing(&near.ask(&Command::QueryStatus)));
-        assert!(rt; matches!(near.ask(&Command::QueryMemory), Answer::Ok(AnswerValue::Number(1048576))));
-        assert!(rt; matches!(near.ask(&Command::SetMemory(1048576)), Answer::Refused(2)));
+        assert!(rt; matches!(&near.ask(&Command::QueryMemory), Answer::Ok(AnswerValue::Number(1048576))));
+        assert!(rt; matches!(&near.ask(&Command::SetMemory(1048576)), Answer::Refused(2)));
         assert!(rt; near.ends.outlet.sink.bytes() == b"{\"execute\":\"qmp_capabilities\",\"id\":1}\n{\"execute\":\"query-status\",\"id\":2}\n{\"execute\":\"query-balloon\",\"id\":3}\n{\"arguments\":{\"value\":1073741824},\"execute\":\"balloon\",\"id\":4}\n".as_slice());
-        assert!(rt; matches!(near.ask(&Command::Cont), Answer::Lost));
+        assert!(rt; matches!(&near.ask(&Command::Cont), Answer::Lost));
         assert!(rt; near.fault == Some(QmpFault::NotQmp { line: 7 }));
         assert!(rt; near.hear() == Heard::Event(GuestEvent::Stop));
         assert!(rt; near.hear() == Heard::Lost);
@@ -58,7 +58,7 @@ fn events_are_heard_in_order(rt: HostRuntime) -> Result<(), Fail> {
     assert!(rt; near.hear() == Heard::Event(GuestEvent::DeviceDeleted(7)));
     assert!(rt; near.hear() == Heard::Ended(EndReason::Shutdown));
     assert!(rt; near.hear() == Heard::Ended(EndReason::Shutdown));
-    assert!(rt; matches!(near.ask(&Command::Quit), Answer::Ended(EndReason::Shutdown)));
+    assert!(rt; matches!(&near.ask(&Command::Quit), Answer::Ended(EndReason::Shutdown)));
     Ok(())
 }
 
@@ -66,7 +66,7 @@ fn events_are_heard_in_order(rt: HostRuntime) -> Result<(), Fail> {
 fn the_input_ends(rt: HostRuntime) -> Result<(), Fail> {
     let mut near = near(&rt, rt.alloc(), "{\"id\":1,\"return\":{}}\n{\"id\":2,", 4096)?;
     assert!(rt; near.hear() == Heard::Quiet);
-    assert!(rt; matches!(near.ask(&Command::Stop), Answer::Lost));
+    assert!(rt; matches!(&near.ask(&Command::Stop), Answer::Lost));
     assert!(rt; near.fault == Some(QmpFault::End));
     Ok(())
 }
@@ -74,7 +74,7 @@ fn the_input_ends(rt: HostRuntime) -> Result<(), Fail> {
 #[test]
 fn a_command_without_a_line(rt: HostRuntime) -> Result<(), Fail> {
     let mut near = near(&rt, rt.alloc(), "", 4096)?;
-    assert!(rt; matches!(near.ask(&Command::SetMemory(u64::MAX)), Answer::Refused(9)));
+    assert!(rt; matches!(&near.ask(&Command::SetMemory(u64::MAX)), Answer::Refused(9)));
     assert!(rt; near.ends.outlet.sent == 1);
     Ok(())
 }
