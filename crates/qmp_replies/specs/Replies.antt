@@ -1,0 +1,71 @@
+-- The lines of the far end (QEMU's "QEMU Machine Protocol Specification", "Server Responses" and
+-- "Asynchronous events").
+use Rattle.std.specs.Prelude.{ℕ, ◌*◌, ◌+◌, ◌^◌, ◌&&◌, nat_le, nat_lt, List, [], ◌∷◌, length, codes, Option, Some, None, if◌then◌else◌, option_map, unwrap_or}
+use Rattle.serde_json.specs.Data.{Data, Members, member, no_members, number, object, string, unsigned}
+use Rattle.serde_json.specs.Written.{compact_text}
+use Rattle.virt_types.specs.declared.answer.Answer.{Answer}
+use Rattle.virt_types.specs.declared.answer.Answer.TheVariants as answer
+use Rattle.virt_types.specs.declared.answer.AnswerValue.{AnswerValue}
+use Rattle.virt_types.specs.declared.answer.AnswerValue.TheVariants as value
+use Rattle.virt_types.specs.declared.ask.Command.{Command}
+use Rattle.virt_types.specs.declared.ask.Command.TheVariants as command
+use Rattle.virt_types.specs.declared.ask.GuestEvent.{GuestEvent}
+use Rattle.virt_types.specs.declared.ask.GuestEvent.TheVariants as guest
+use Rattle.virt_types.specs.declared.run_state.EndReason.{EndReason}
+use Rattle.qmp_lines.specs.Commands.{numbered, with_state}
+use Rattle.qmp_lines.specs.Words.{event_word, reason_word}
+use Rattle.qmp_lines.specs.declared.command.TheConstants.{MOST_LINE_BYTES}
+use Rattle.qmp_lines.specs.declared.event.EventName.{EventName}
+use Rattle.qmp_lines.specs.declared.event.EventName.TheVariants as event
+
+-- memory is in bytes, which are below 2 ^ 64
+abbrev pub memory_back : AnswerValue → Option Members
+memory_back (value.Number kib) = if nat_lt (kib * 1024) (2 ^ 64) then Some (numbered (codes "actual") (kib * 1024)) else None
+memory_back other = None
+
+abbrev pub rest_back : AnswerValue → Option Members
+rest_back (value.Number rest) = Some (numbered (codes "rest") rest)
+rest_back other = None
+
+abbrev pub state_back : AnswerValue → Option Members
+state_back (value.Bytes bytes) = Some (with_state bytes)
+state_back other = None
+
+abbrev pub nothing_back : AnswerValue → Option Members
+nothing_back value.Nothing = Some no_members
+nothing_back other = None
+
+-- the object that comes back for a command, where the value is one that the command gives
+abbrev pub back : Command → AnswerValue → Option Members
+back command.QueryMemory given = memory_back given
+back command.CopyPoll given = rest_back given
+back command.CopyTake given = state_back given
+back other given = nothing_back given
+
+abbrev pub returned_tree : ℕ → Data → Data
+returned_tree id given = object (member (codes "id") (number (unsigned id)) (member (codes "return") given no_members))
+
+-- a digit from 1 to 9; any other class is 9
+abbrev pub class_text : ℕ → List ℕ
+class_text class = if nat_le 1 class && nat_le class 9 then (class + 48) ∷ [] else codes "9"
+
+abbrev pub refused_tree : ℕ → List ℕ → Data
+refused_tree id desc = object (member (codes "error") (object (member (codes "class") (string (codes "GenericError")) (member (codes "desc") (string desc) no_members))) (numbered (codes "id") id))
+
+-- no time is told
+abbrev pub no_time : Data
+no_time = object (member (codes "microseconds") (number (unsigned 0)) (member (codes "seconds") (number (unsigned 0)) no_members))
+
+abbrev pub event_tree : EventName → Members → Data
+event_tree name «data» = object (member (codes "data") (object «data») (member (codes "event") (string (event_word name)) (member (codes "timestamp") no_time no_members)))
+
+abbrev pub report : GuestEvent → Data
+report guest.Shutdown = event_tree event.Shutdown no_members
+report guest.Stop = event_tree event.Stop no_members
+report guest.Resume = event_tree event.Resume no_members
+report guest.Panic = event_tree event.GuestPanicked no_members
+report (guest.DeviceDeleted slot) = event_tree event.DeviceDeleted (numbered (codes "slot") slot)
+report guest.Reset = event_tree event.Reset no_members
+
+abbrev pub ended_tree : EndReason → Data
+ended_tree reason = event_tree event.Ended (member (codes "reason") (string (reason_word reason)) no_members)
