@@ -1,4 +1,5 @@
 pub mod Hearing
 pub mod Known
 pub mod Lines
+pub mod Lost
 pub mod Pieces

@@ -25,15 +25,15 @@ no_line_class = 9
 
 module _ {S K : Type 0} where
   -- the link was lost before, and nothing is done
-  pub record WasLost (old new : Link S K) : Type 0 where
-    pub lost : IsSome old.fault
-    pub same : new.fault ≡ old.fault
-    pub wire : new.wire ≡ old.wire
+  pub record WasLost (before now : Option QmpFault) (old new : Wire S K) : Type 0 where
+    pub lost : IsSome before
+    pub same : now ≡ before
+    pub wire : new ≡ old
 
-  -- no fault came, and none was kept
-  pub record IsSound (old new : Link S K) : Type 0 where
-    pub before : old.fault ≡ None
-    pub now : new.fault ≡ None
+-- no fault came, and none was kept
+pub record IsSound (before now : Option QmpFault) : Type 0 where
+  pub was : before ≡ None
+  pub is : now ≡ None
 
 module _ {K : Type 0} (held : K → Option (List ℕ)) (faults : K → ℕ) where
   -- the line of the command, with the next number, was put whole
@@ -81,14 +81,18 @@ module _ {S K : Type 0} (left : S → Option (List ℕ)) (source_faults : S → 
   Fails c old new why = HasNone c old new why
 
   -- the link is lost now
-  pub record IsLostNow (c : Command) (old new : Link S K) : Type 0 where
+  pub record IsLostNow (c : Command) (before now : Option QmpFault) (old new : Wire S K) : Type 0 where
     pub why : QmpFault
-    pub before : old.fault ≡ None
-    pub now : new.fault ≡ Some why
-    pub fails : Fails c old.wire new.wire (or.Fault why)
+    pub was : before ≡ None
+    pub is : now ≡ Some why
+    pub fails : Fails c old new (or.Fault why)
+
+  -- what is answered, where these faults were kept before and now
+  abbrev pub AsksOver : Command → Option QmpFault → Option QmpFault → Wire S K → Wire S K → Answer → Type 0
+  AsksOver c before now old new answer.Lost = WasLost before now old new ⊎ IsLostNow c before now old new
+  AsksOver c before now old new answer.NoMemory = IsSound before now × Fails c old new or.NoMemory
+  AsksOver c before now old new answer.Device = ⊥
+  AsksOver c before now old new given = IsSound before now × Answers c old new given
 
   abbrev pub Asks : Command → Link S K → Link S K → Answer → Type 0
-  Asks c old new answer.Lost = WasLost old new ⊎ IsLostNow c old new
-  Asks c old new answer.NoMemory = IsSound old new × Fails c old.wire new.wire or.NoMemory
-  Asks c old new answer.Device = ⊥
-  Asks c old new given = IsSound old new × Answers c old.wire new.wire given
+  Asks c old new given = AsksOver c old.fault new.fault old.wire new.wire given

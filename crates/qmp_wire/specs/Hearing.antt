@@ -11,7 +11,7 @@ use Rattle.virt_types.specs.declared.run_state.EndReason.{EndReason}
 use Rattle.qmp_lines.specs.Meaning.{meaning}
 use Rattle.qmp_wire.specs.Asking.{IsSound, WasLost}
 use Rattle.qmp_wire.specs.Inflow.{Gets, Hears, Inflow, IsSilent, Misses, Passes, Reading, Stops, events_of}
-use Rattle.qmp_wire.specs.Link.{Link}
+use Rattle.qmp_wire.specs.Link.{Link, Wire}
 use Rattle.qmp_wire.specs.declared.fault.QmpFault.{QmpFault}
 use Rattle.qmp_wire.specs.declared.fault.QmpFault.TheVariants as fault
 
@@ -55,19 +55,20 @@ module _ {S : Type 0} (left : S → Option (List ℕ)) (faults : S → ℕ) (wai
 
 module _ {S K : Type 0} (left : S → Option (List ℕ)) (faults : S → ℕ) (waits : S → ℕ) where
   -- the link is lost now, and no event is kept
-  pub record LosesNow (old new : Link S K) : Type 0 where
+  pub record LosesNow (before now : Option QmpFault) (old new : Wire S K) : Type 0 where
     pub why : QmpFault
-    pub before : old.fault ≡ None
-    pub now : new.fault ≡ Some why
-    pub none : new.wire.inflow.events ≡ []
-    pub misses : Misses left faults (listening old.wire.outflow.sent) old.wire.inflow new.wire.inflow (or.Fault why)
+    pub was : before ≡ None
+    pub is : now ≡ Some why
+    pub none : new.inflow.events ≡ []
+    pub misses : Misses left faults (listening old.outflow.sent) old.inflow new.inflow (or.Fault why)
 
-  -- an event that was kept is given also after the link was lost
-  abbrev pub GivesKept : Link S K → Link S K → GuestEvent → Type 0
-  GivesKept old new event = (new.fault ≡ old.fault) × Gives left faults waits (listening old.wire.outflow.sent) old.wire.inflow new.wire.inflow event
+  -- what is heard, where these faults were kept before and now. An event that was kept is given also after the
+  -- link was lost
+  abbrev pub HearsOver : Option QmpFault → Option QmpFault → Wire S K → Wire S K → Heard → Type 0
+  HearsOver before now old new (heard.Event event) = (now ≡ before) × Gives left faults waits (listening old.outflow.sent) old.inflow new.inflow event
+  HearsOver before now old new heard.Lost = (WasLost before now old new × (old.inflow.events ≡ [])) ⊎ LosesNow before now old new
+  HearsOver before now old new heard.NoMemory = IsSound before now × Misses left faults (listening old.outflow.sent) old.inflow new.inflow or.NoMemory
+  HearsOver before now old new other = IsSound before now × Tells left faults waits (listening old.outflow.sent) old.inflow new.inflow other
 
   abbrev pub HearsNext : Link S K → Link S K → Heard → Type 0
-  HearsNext old new (heard.Event event) = GivesKept old new event
-  HearsNext old new heard.Lost = (WasLost old new × (old.wire.inflow.events ≡ [])) ⊎ LosesNow old new
-  HearsNext old new heard.NoMemory = IsSound old new × Misses left faults (listening old.wire.outflow.sent) old.wire.inflow new.wire.inflow or.NoMemory
-  HearsNext old new other = IsSound old new × Tells left faults waits (listening old.wire.outflow.sent) old.wire.inflow new.wire.inflow other
+  HearsNext old new it = HearsOver old.fault new.fault old.wire new.wire it
