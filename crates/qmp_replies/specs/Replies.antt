@@ -56,16 +56,27 @@ refused_tree id desc = object (member (codes "error") (object (member (codes "cl
 abbrev pub no_time : Data
 no_time = object (member (codes "microseconds") (number (unsigned 0)) (member (codes "seconds") (number (unsigned 0)) no_members))
 
+abbrev pub event_with : EventName → Data → Data
+event_with name about = object (member (codes "data") about (member (codes "event") (string (event_word name)) (member (codes "timestamp") no_time no_members)))
+
 abbrev pub event_tree : EventName → Members → Data
-event_tree name «data» = object (member (codes "data") (object «data») (member (codes "event") (string (event_word name)) (member (codes "timestamp") no_time no_members)))
+event_tree name about = event_with name (object about)
+
+abbrev pub event_name : GuestEvent → EventName
+event_name guest.Shutdown = event.Shutdown
+event_name guest.Stop = event.Stop
+event_name guest.Resume = event.Resume
+event_name guest.Panic = event.GuestPanicked
+event_name (guest.DeviceDeleted slot) = event.DeviceDeleted
+event_name guest.Reset = event.Reset
+
+abbrev pub about_event : GuestEvent → Members
+about_event (guest.DeviceDeleted slot) = numbered (codes "slot") slot
+about_event other = no_members
 
 abbrev pub report : GuestEvent → Data
-report guest.Shutdown = event_tree event.Shutdown no_members
-report guest.Stop = event_tree event.Stop no_members
-report guest.Resume = event_tree event.Resume no_members
-report guest.Panic = event_tree event.GuestPanicked no_members
-report (guest.DeviceDeleted slot) = event_tree event.DeviceDeleted (numbered (codes "slot") slot)
-report guest.Reset = event_tree event.Reset no_members
+report did = event_tree (event_name did) (about_event did)
 
+-- the guest has ended
 abbrev pub ended_tree : EndReason → Data
 ended_tree reason = event_tree event.Ended (member (codes "reason") (string (reason_word reason)) no_members)

@@ -3,3 +3,4 @@ pub mod Known
 pub mod Lines
 pub mod Lost
 pub mod Pieces
+pub mod Telling

@@ -55,6 +55,11 @@ IsOverlong flow (Fault (NotQmp line)) = (line ≡ flow.lines + 1) × IsTooLong f
 IsOverlong flow (Fault other) = ⊥
 IsOverlong flow NoMemory = Unit {0}
 
+-- the input ended
+abbrev pub IsEnd : OrNoMemory QmpFault → Type 0
+IsEnd (Fault End) = Unit {0}
+IsEnd other = ⊥
+
 -- the next line is whole, or no byte waits
 abbrev pub Awaits : {S : Type 0} → (S → ℕ) → Inlet S → Bool → Type 0
 Awaits waits i true = IsWhole i

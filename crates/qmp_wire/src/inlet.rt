@@ -1,10 +1,10 @@
 // What the near end takes of its source, line by line.
-ghost use Rattle.std.specs.Prelude.{◌≡◌, ◌≤◌, ◌<◌, [], length, take, slice_index, IfErr, IfOk, IfSome, OnErr, OnOk, Some, option_map};
+ghost use Rattle.std.specs.Prelude.{◌≡◌, ◌≤◌, ◌<◌, [], length, None, take, slice_index, IfErr, IfOk, IfSome, OnErr, OnOk, Some, option_map};
 ghost use Rattle.qmp_lines.specs.Meaning.{meaning};
 ghost use Rattle.qmp_wire.specs.Asking.{awaiting};
 ghost use Rattle.qmp_wire.specs.Hearing.{Tells, listening};
 ghost use Rattle.qmp_wire.specs.Inflow.{Finds, IsGiven, IsOver, Misses, Stops, answer_in, greeting, untouched};
-ghost use Rattle.qmp_wire.specs.Inlets.{Awaits, Ceases, Gathers, Greets, IsOverlong, IsWhole, Learns, Minds, PassesLine, Stands, Takes, resting, seen};
+ghost use Rattle.qmp_wire.specs.Inlets.{Awaits, Ceases, Gathers, Greets, IsEnd, IsOverlong, IsWhole, Learns, Minds, PassesLine, Stands, Takes, resting, seen};
 ghost use Rattle.qmp_wire.specs.Lines.{HasNoEnd, line_end};
 
 use crate::fault::QmpFault;
@@ -200,6 +200,7 @@ impl<S: Source> Inlet<S> {
         ensures given { IfOk result (λ answer. IfSome answer IsGiven) }
         ensures source { self.new.source ≡ self.old.source }
         ensures err { IfErr result (λ why. IsOver S.left S.faults (meaning sent (option_map (λ c. c.now) awaited.entry)) (seen self.old) (seen self.new) why) }
+        ensures no_end { IfErr result (λ why. IsEnd why → ⊥) }
         ensures same { OnErr result (seen self.new ≡ seen self.old) }
         ensures stands { Stands self.new }
     {
@@ -212,6 +213,26 @@ impl<S: Source> Inlet<S> {
                 line: self.lines + 1,
             })),
             Err(NoMemory) => Err(OrNoMemory::NoMemory),
+        }
+    }
+
+    /// Why the guest has ended, where the input ended after that was told; or why no line came.
+    fn end_or(&self, why: OrNoMemory<QmpFault>) -> Result<EndReason, OrNoMemory<QmpFault>>
+        ensures ok { IfOk result (λ reason. IsEnd why × (self.now.ended ≡ Some reason)) }
+        ensures err { IfErr result (λ fault. (fault ≡ why) × (IsEnd why → self.now.ended ≡ None)) }
+    {
+        match why {
+            OrNoMemory::Fault(fault) => match fault {
+                QmpFault::End => match self.ended {
+                    Some(reason) => Ok(reason),
+                    None => Err(why),
+                },
+                QmpFault::Source => Err(why),
+                QmpFault::Sink => Err(why),
+                QmpFault::NotQmp { .. } => Err(why),
+                QmpFault::Spent => Err(why),
+            },
+            OrNoMemory::NoMemory => Err(why),
         }
     }
 
@@ -258,13 +279,12 @@ impl<S: Source> Inlet<S> {
                     Ok(None) => {}
                     Err(why) => return Err(why),
                 },
-                Err(OrNoMemory::Fault(QmpFault::End)) => {
-                    return match self.ended {
-                        Some(reason) => Ok(Answer::Ended(reason)),
-                        None => Err(OrNoMemory::Fault(QmpFault::End)),
+                Err(why) => {
+                    return match self.end_or(why) {
+                        Ok(reason) => Ok(Answer::Ended(reason)),
+                        Err(why) => Err(why),
                     };
                 }
-                Err(why) => return Err(why),
             }
         }
     }
@@ -331,13 +351,12 @@ impl<S: Waiting> Inlet<S> {
                     Err(why) => return Err(why),
                 },
                 Ok(false) => return Ok(self.rest()),
-                Err(OrNoMemory::Fault(QmpFault::End)) => {
-                    return match self.ended {
-                        Some(reason) => Ok(Heard::Ended(reason)),
-                        None => Err(OrNoMemory::Fault(QmpFault::End)),
+                Err(why) => {
+                    return match self.end_or(why) {
+                        Ok(reason) => Ok(Heard::Ended(reason)),
+                        Err(why) => Err(why),
                     };
                 }
-                Err(why) => return Err(why),
             }
         }
     }
