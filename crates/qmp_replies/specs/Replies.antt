@@ -80,3 +80,25 @@ report did = event_tree (event_name did) (about_event did)
 -- the guest has ended
 abbrev pub ended_tree : EndReason → Data
 ended_tree reason = event_tree event.Ended (member (codes "reason") (string (reason_word reason)) no_members)
+
+abbrev pub refused_line : ℕ → ℕ → List ℕ
+refused_line id class = compact_text (refused_tree id (class_text class))
+
+-- no longer than a line may be, or else a refusal of class 9
+abbrev pub or_refused : ℕ → List ℕ → List ℕ
+or_refused id text = if nat_le (length text) MOST_LINE_BYTES then text else refused_line id 9
+
+abbrev pub returned_line : ℕ → Option Members → List ℕ
+returned_line id (Some members) = or_refused id (compact_text (returned_tree id (object members)))
+returned_line id None = refused_line id 9
+
+abbrev pub done_line : ℕ → Command → AnswerValue → List ℕ
+done_line id c given = returned_line id (back c given)
+
+-- the line of an answer to the command with this number. What only the store answers, that the link was lost and
+-- that there was no memory have no line of their own
+abbrev pub reply_line : ℕ → Command → Answer → List ℕ
+reply_line id c (answer.Ok given) = done_line id c given
+reply_line id c (answer.Refused class) = refused_line id class
+reply_line id c (answer.Ended reason) = compact_text (ended_tree reason)
+reply_line id c other = refused_line id 9
