@@ -1,5 +1,5 @@
 -- What becomes of one call, and of all calls of a job.
-use Rattle.std.proofs.Common.{◌≡◌, ◌⊎◌, ◌<◌, ℕ, Bool, true, false, List, [], ◌∷◌, ◌++◌, Option, None, Some, Result, Ok, Err, inl, inr, refl, sym, ap, ◌∙◌, subst}
+use Rattle.std.proofs.Common.{◌≡◌, ℕ, Bool, true, false, List, [], ◌∷◌, Option, Some, Result, Ok, Err, inr, refl, sym, ap, ◌∙◌, subst}
 use Rattle.std.specs.Prelude.{IfErr, IfOk}
 use Rattle.virt_types.specs.declared.request.Request.{Request}
 use Rattle.virt_types.specs.declared.value.Reply.{Reply}
@@ -9,7 +9,7 @@ use Rattle.wire_spec.specs.declared.message.Packet.{Packet}
 use Rattle.command_spec.specs.declared.command.Job.{Job}
 use Rattle.rpc_client.specs.Calling.{Answers, Connection}
 use Rattle.rpc_client.specs.Inflow.{is_there}
-use Rattle.virsh.specs.Calls.{Asked, IsAnswered, IsNoValue, IsStop, Stops, StopsOrNoMemory, brings_events, next_of}
+use Rattle.virsh.specs.Calls.{Asked, IsAnswered, IsNoValue, IsStop, StopsOrNoMemory, brings_events, next_of}
 use Rattle.virsh.specs.declared.stop.Stop.{Stop}
 use Rattle.virsh.specs.declared.stop.Stop.TheVariants as stop
 

@@ -1,14 +1,13 @@
 -- What becomes of the words of a command line, from the connection up.
-use Rattle.std.proofs.Common.{◌≡◌, ◌⊎◌, ◌<◌, ℕ, List, [], length, Option, None, Some, Result, Ok, Err, inl, inr, refl, sym, ap, ◌∙◌, subst}
+use Rattle.std.proofs.Common.{◌≡◌, ◌⊎◌, ℕ, List, [], Option, None, Some, Result, Ok, Err, inl, inr, sym, ap, ◌∙◌, subst}
 use Rattle.command_spec.specs.Lines.{job_of}
 use Rattle.command_spec.specs.Reading.{Word}
-use Rattle.command_spec.specs.declared.command.Command.{Command}
 use Rattle.command_spec.specs.declared.command.Job.{Job}
 use Rattle.command_spec.specs.declared.fault.WordFault.{WordFault}
 use Rattle.rpc_client.specs.Calling.{Connection, fresh}
 use Rattle.virsh.specs.Ends.{Ends, HasRun, SaysEnd}
 use Rattle.virsh.specs.Outside.{IsUnanswered, Outside, with_back, with_line, with_made, with_out, with_read, with_said}
-use Rattle.virsh.specs.Top.{AsksFor, Does, DoesContent, DoesFile, DoesWith, IsBadFile, IsServedCommand, IsServedOption, IsStarved, UsesEnds, address_of, file_of}
+use Rattle.virsh.specs.Top.{AsksFor, Does, DoesContent, DoesFile, DoesWith, IsServedCommand, IsServedOption, IsStarved, UsesEnds, address_of, file_of}
 use Rattle.virsh.specs.Said.{link_line}
 use Rattle.virsh.specs.declared.stop.Stop.{Stop}
 use Rattle.virsh.proofs.Telling.{has_ended}

@@ -42,7 +42,7 @@ use Rattle.command_spec.specs.declared.form.SnapshotVerb.{SnapshotVerb}
 use Rattle.command_spec.specs.declared.form.SnapshotVerb.TheVariants as snapshot
 use Rattle.command_spec.specs.declared.form.VolumeVerb.{VolumeVerb}
 use Rattle.command_spec.specs.declared.form.VolumeVerb.TheVariants as volume
-use Rattle.virsh_plan.specs.Asks.{autostart_number, children_number, domain_asks, image_ask, network_ask, number_ask, pool_ask, snapshot_ask, stored_bit, text_ask, volume_ask}
+use Rattle.virsh_plan.specs.Asks.{autostart_number, domain_asks, image_ask, network_ask, number_ask, pool_ask, snapshot_ask, stored_bit, text_ask, volume_ask}
 use Rattle.virsh_plan.specs.Plan.{next_request, of_domain, of_network, of_pool, on_domain}
 use Rattle.virsh_plan.specs.Targets.{domain_target, network_target, pool_target}
 use Rattle.rpc_client.specs.Calling.{Connection}

@@ -1,9 +1,9 @@
 -- What was put into standard output, text after text.
-use Rattle.std.proofs.Common.{◌≡◌, ◌+◌, ◌≤◌, ◌<◌, ℕ, List, [], ◌++◌, Option, Result, Ok, Err, OnOk, OnErr, length, take, sym, ap, ◌∙◌, subst, arith}
+use Rattle.std.proofs.Common.{◌≡◌, ◌+◌, ◌<◌, ℕ, List, [], ◌++◌, Option, Result, Ok, Err, OnOk, OnErr, length, take, sym, ap, ◌∙◌, subst, arith}
 use Rattle.std.specs.Io.KnownBytes.{Appends}
 use Rattle.std.proofs.Math.Seq.{take-append-add}
 use Rattle.std.proofs.lemmas.List.{length-append}
-use Rattle.outside_spec.specs.Faults.{HasCause, Rose}
+use Rattle.outside_spec.specs.Faults.{HasCause}
 use Rattle.virt_types.specs.Below.types_base.declared.memory.Failed.{Failed}
 use Rattle.packet.proofs.Known.{Appends-none, Appends-then}
 use Rattle.virsh.specs.Outside.{Outside, with_out}

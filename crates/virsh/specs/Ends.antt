@@ -1,5 +1,5 @@
 -- How a job ends over a connection: what is on standard output, what is said on standard error, and the status.
-use Rattle.std.specs.Prelude.{◌≡◌, ◌⊎◌, ◌<◌, ℕ, List, [], ◌++◌, Option, None, Some, Result, Ok, Err}
+use Rattle.std.specs.Prelude.{◌≡◌, ◌⊎◌, ◌<◌, ℕ, List, [], Option, None, Some, Result, Ok, Err}
 use Rattle.std.specs.Io.KnownBytes.{Appends}
 use Rattle.virt_types.specs.Below.types_base.declared.refusal.Refusal.{Refusal}
 use Rattle.virt_types.specs.declared.reference.DomainRef.{DomainRef}

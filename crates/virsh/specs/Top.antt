@@ -1,5 +1,5 @@
 -- What the client does for its words, and what its status means.
-use Rattle.std.specs.Prelude.{◌≡◌, ◌⊎◌, ◌<◌, ℕ, List, [], length, Option, None, Some, codes, Result, Ok, Err}
+use Rattle.std.specs.Prelude.{◌≡◌, ◌⊎◌, ◌<◌, ℕ, List, [], length, Option, None, Some, codes, Ok}
 use Rattle.std.specs.Str.{IsUtf8}
 use Rattle.command_spec.specs.Lines.{job_of}
 use Rattle.command_spec.specs.Reading.{Word}
