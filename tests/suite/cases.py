@@ -20,12 +20,17 @@ EXPECTED = (Failed, Hang, NoReply, Malformed)
 
 @dataclass(frozen=True)
 class Case:
-    """One case: what it is about, what it shows in one sentence, and the function that runs it."""
+    """One case: what it is about, what it shows in one sentence, and the function that runs it.
+
+    It runs the daemon, the client, or both.
+    """
 
     subject: str
     shows: str
     run: Callable[[Place], None]
     long: bool = False
+    daemon: bool = True
+    client: bool = False
 
     @property
     def name(self) -> str:
@@ -44,11 +49,20 @@ def register(new: Case) -> None:
     CASES.append(new)
 
 
-def case(subject: str, shows: str, long: bool = False) -> Callable:
-    """Register the function under it as a case; with `long` it runs only behind `--long`."""
+def case(
+    subject: str,
+    shows: str,
+    long: bool = False,
+    client: bool = False,
+    daemon: bool | None = None,
+) -> Callable:
+    """Register the function under it as a case; with `long` it runs only behind `--long`.
+
+    With `client` it runs the client, and then the daemon only where `daemon` says so.
+    """
 
     def registered(function: Callable[[Place], None]) -> Callable[[Place], None]:
-        register(Case(subject, shows, function, long))
+        register(Case(subject, shows, function, long, not client if daemon is None else daemon, client))
         return function
 
     return registered

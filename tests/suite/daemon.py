@@ -49,13 +49,14 @@ class Ended:
 
 
 class Place:
-    """A directory of a case's own, and the binary that it runs there.
+    """A directory of a case's own, and the daemon and the client that it runs there.
 
     `root` is empty but for `directory`, an empty store. All that was started is ended by `close`.
     """
 
-    def __init__(self, binary: Path, root: Path):
+    def __init__(self, binary: Path, root: Path, client: Path | None = None):
         self.binary = binary
+        self.client = client
         self.root = root
         #: In pieces of how many bytes each session is given its input; None for all at once.
         self.pieces: int | None = None

@@ -6,6 +6,8 @@ by the next daemon.
 """
 
 import random
+from dataclasses import dataclass, field
+from pathlib import Path
 
 from suite.cases import Failed, case, check
 from suite.daemon import Place, Session
@@ -13,8 +15,11 @@ from suite.directory import Change, Drop, Entry, Map, Mark, Put, judge, read_dir
 from suite.samples import definition, named
 from suite.wire import Domain, Refusal, show
 
-#: How many changes are asked for at once, before a kill.
+#: How many changes, or suspends and resumes, are asked for at once, before a kill.
 BURST = 12
+
+#: How many kills there are under suspends and resumes.
+STATUS_KILLS = 40
 
 
 def text_of(place: Place, domain: Domain) -> str:
@@ -161,6 +166,86 @@ def not_told_of(place: Place) -> None:
     session.call("DOMAIN_DESTROY", domain)
     session.kill()
     check("", place.run("stdio", place.directory).stderr, "what is said by the next")
+
+
+@case("kills", "A guest that was started again after it was paused is told of by its last boot")
+def told_of_last_boot(place: Place) -> None:
+    domain = named("a", 1)
+    session = Session(place)
+    session.call("DOMAIN_DEFINE_XML", definition(domain))
+    session.call("DOMAIN_CREATE", domain)
+    session.call("DOMAIN_SUSPEND", domain)
+    status = place.directory / f"run-{domain.identifier}.sta"
+    paused = b"run 1 boot=1 state=3 op=0 phase=0 name=a\n"
+    check(paused, status.read_bytes(), "the status file of a paused guest")
+    session.call("DOMAIN_DESTROY", domain)
+    check(False, status.exists(), "whether a status file is there of a domain without a guest")
+    session.call("DOMAIN_CREATE", domain)
+    session.kill()
+    ended = place.run("check", place.directory)
+    lines = f"domain a {domain.identifier} ok\nwas running a boot 2\n"
+    check(lines, ended.unread.decode(), "the lines of `virtd check`")
+
+
+@dataclass
+class Guest:
+    """A guest that runs in its first boot: by each of its calls whether it is paused then."""
+
+    domain: Domain
+    calls: dict[int, bool] = field(default_factory=dict)
+
+    def begin_next(self, session: Session) -> int:
+        """Ask for it to be suspended, or, where it is by then, resumed; the call's serial."""
+        paused = list(self.calls.values())[-1:] == [True]
+        serial = session.begin("DOMAIN_RESUME" if paused else "DOMAIN_SUSPEND", self.domain)
+        self.calls[serial] = not paused
+        return serial
+
+    def judge_status(self, directory: Path, answered: set[int]) -> bool:
+        """Whether it is reported, by its last status.
+
+        That is the one after the last answered call or after a later one. Only where a call of it
+        is not answered there may be none.
+        """
+        path = directory / f"run-{self.domain.identifier}.sta"
+        done = sum(serial in answered for serial in self.calls)
+        if not path.exists():
+            check(True, done < len(self.calls), "that a guest without a report has an open call")
+            return False
+        wanted = {
+            f"run 1 boot=1 state={3 if paused else 1} op=0 phase=0 name={self.domain.name}\n"
+            for paused in [False, *self.calls.values()][done:]
+        }
+        if path.read_text() not in wanted:
+            raise Failed(f"{path.name} is {path.read_text()!r}, and is to be of {sorted(wanted)}")
+        return True
+
+
+@case("kills", "A kill under suspends and resumes leaves of each guest its last status, or none")
+def among_suspends(place: Place) -> None:
+    chance = random.Random(21)
+    domains = [named(f"web{number}", number) for number in range(4)]
+    first = Session(place)
+    for domain in domains:
+        first.call("DOMAIN_DEFINE_XML", definition(domain))
+    check(0, first.finish().status, "the exit status")
+    for _ in range(STATUS_KILLS):
+        session = Session(place)
+        guests = [Guest(domain) for domain in domains]
+        for guest in guests:
+            check(None, session.call("DOMAIN_CREATE", guest.domain), "a start")
+        serials = [chance.choice(guests).begin_next(session) for _ in range(BURST)]
+        replies = [session.reply_of(one) for one in serials[: chance.randrange(BURST + 1)]]
+        session.kill()
+        replies += session.left()
+        for packet in replies:
+            check(0, packet.status, "the status of a reply")
+        answered = {packet.serial for packet in replies}
+        told = [guest for guest in guests if guest.judge_status(place.directory, answered)]
+        lines = [f"domain {domain.name} {domain.identifier} ok" for domain in domains]
+        lines += [f"was running {guest.domain.name} boot 1" for guest in told]
+        ended = place.run("check", place.directory)
+        check(lines, ended.unread.decode().splitlines(), "the lines of `virtd check`")
 
 
 @case("kills", "An image that was acknowledged is restored by the next daemon")

@@ -135,7 +135,11 @@ def _domains(value: list[tuple[Domain, int]]) -> bytes:
     return _word(len(value)) + b"".join(_domain(item) + _word(state) for item, state in value)
 
 
-def _titles(value: list[tuple[str, str]]) -> bytes:
+def _pools(value: list[tuple[Object, int]]) -> bytes:
+    return _word(len(value)) + b"".join(_object(item) + _word(active) for item, active in value)
+
+
+def _pairs(value: list[tuple[str, str]]) -> bytes:
     return _word(len(value)) + b"".join(_string(name) + _string(title) for name, title in value)
 
 
@@ -155,7 +159,9 @@ _SPELLERS = {
     "object": _object,
     "names": _strings,
     "domains": _domains,
-    "titles": _titles,
+    "titles": _pairs,
+    "pools": _pools,
+    "leases": _pairs,
 }
 
 
@@ -178,6 +184,12 @@ def reply(name: str, serial: int, *values: object) -> Packet:
     procedure = PROCEDURES[name]
     payload = spell(procedure.results, values)
     return Packet(procedure.program, VERSION, procedure.number, REPLY, serial, 0, payload)
+
+
+def event(number: int, *values: object) -> Packet:
+    """A message of the second program that nobody asked for."""
+    payload = spell(EVENTS[number].items, values)
+    return Packet(SECOND_PROGRAM, VERSION, number, MESSAGE, 0, 0, payload)
 
 
 def refused(name: str, serial: int, code: int, kept: str | None = None) -> Packet:

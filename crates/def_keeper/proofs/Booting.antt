@@ -28,13 +28,13 @@ draft_none uuid n says is = ending_apart (codes "run" ++ codes "-" ++ hyphenated
 
 module _ (s : Status) (h : StoreHistory) (map : Definitions) (doubt : Option DefKey) where
   all : AllByRecursion IsAside (drafting_of (status_draft s.uuid) (status_name s.uuid) (status_bytes s))
-  all = (write_aside (status_draft s.uuid) (status_bytes s) (draft_none s.uuid), (rename_aside (status_draft s.uuid) (status_name s.uuid) (draft_none s.uuid) (status_none s.uuid), tt))
+  all = (write_aside (status_draft s.uuid) (status_bytes s) (draft_none s.uuid), (remove_aside (status_name s.uuid) (status_none s.uuid), (rename_aside (status_draft s.uuid) (status_name s.uuid) (draft_none s.uuid) (status_none s.uuid), tt)))
 
   begun : (told : Told) (n : ℕ) → IsKeptAt told h map doubt → IsKeptAt (all_more told (take n (drafting_of (status_draft s.uuid) (status_name s.uuid) (status_bytes s)))) h map doubt
   begun told n kept = all_aside h map doubt told (drafting_of (status_draft s.uuid) (status_name s.uuid) (status_bytes s)) n all kept
 
   pub status_kept : (told now : Told) (r : Result (Unit {0}) Fault) → PutsStatus s told now r → IsKeptAt told h map doubt → IsKeptAt now h map doubt
-  status_kept told now (Ok done) is kept = subst (λ (t : Told). IsKeptAt t h map doubt) (sym is) (begun told 2 kept)
+  status_kept told now (Ok done) is kept = subst (λ (t : Told). IsKeptAt t h map doubt) (sym is) (begun told 3 kept)
   status_kept told now (Err fault.Failed) how kept = ⊎_elim
       (λ part. subst (λ (t : Told). IsKeptAt t h map doubt) (sym part.1) (begun told part.0 kept))
       (λ torn. subst (λ (t : Told). IsKeptAt t h map doubt) (sym torn.1) (at_aside h map doubt told (op.Write (status_draft s.uuid) torn.0) (write_aside (status_draft s.uuid) torn.0 (draft_none s.uuid)) kept))

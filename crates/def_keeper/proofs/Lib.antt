@@ -10,6 +10,7 @@ pub mod Tidies
 pub mod OpenedSo
 pub mod Asides
 pub mod Booting
+pub mod Drafting
 pub mod Imagings
 pub mod Examines
 pub mod OpeningCrashes

@@ -36,7 +36,9 @@ fn draft_of(alloc: Global, status: &Status) -> Result<Draft, NoMemory>
     })
 }
 
-// Writes a draft and gives it its name. It is not synced: after a crash it is a report at most.
+// Writes a draft and gives it its name, once the file of that name is gone: a rename over a file has the system write out
+// what it renames. It is not synced: after a crash it is a report at most.
+#[tactic(auto, using(crate::proofs::Drafting::not_removed, crate::proofs::Drafting::not_named))]
 fn put_draft<F: Files>(
     files: &mut F,
     draft: &Text,
@@ -51,6 +53,10 @@ fn put_draft<F: Files>(
         Ok(()) => {}
         Err(Fault::Failed) => return Err(Fault::Failed),
         Err(Fault::NoMemory) => return Err(Fault::NoMemory),
+    }
+    match files.remove(name) {
+        Ok(()) => {}
+        Err(Failed) => return Err(Fault::Failed),
     }
     match files.rename(draft, name) {
         Ok(()) => Ok(()),

@@ -1,5 +1,5 @@
 -- What the parts of a turn leave of the link, joined.
-use Rattle.std.proofs.Common.{◌≡◌, ℕ, List, [], OnErr, OnOk, Result, Ok, Err, is_some, Bool, true, false, Option, None, Some, refl, sym, ap, ◌∙◌, subst, inl, inr}
+use Rattle.std.proofs.Common.{◌≡◌, ℕ, List, [], OnErr, OnOk, Result, Ok, Err, is_some, option_map, Bool, true, false, Option, None, Some, refl, sym, ap, ◌∙◌, subst, inl, inr}
 use Rattle.domain_spec.specs.Types.{Answer, Ask, Call, Who}
 use Rattle.domain_spec.specs.Types.ask
 use Rattle.domain_spec.specs.declared.core_step.CoreStep.{CoreStep}
@@ -18,7 +18,8 @@ use Rattle.core_steps.specs.Looking.{Looks}
 use Rattle.core_steps.specs.Turning.{HasTurned, Takes, Turning}
 use Rattle.core_steps.specs.declared.looking.Looked.{Looked}
 use Rattle.domain_core.specs.Held.{IsLinked, IsOutWith, boot_heard, out_by}
-use Rattle.domain_core.specs.Linked.{Linked, has_monitor, kept_link, link_by, link_made, with_monitor}
+use Rattle.domain_core.specs.Linked.{Linked, kept_link, killed_link, link_by, link_made, monitor_in, with_monitor}
+use Rattle.monitor_link.specs.Views.{LinkView, MonitorView}
 use Rattle.domain_core.specs.Tickets.{HasMonitor, IsAnswered, IsAnsweredAs, back_of, back_ticket, look_ticket, looked_of, phase_ticket, phased_of}
 use Rattle.domain_core.specs.declared.ticket.Back.{Back}
 use Rattle.domain_core.specs.declared.ticket.Look.{Look}
@@ -27,7 +28,7 @@ use Rattle.domain_core.specs.declared.ticket.Ticket.{Ticket}
 use Rattle.domain_core.specs.Entering.{LooksFor}
 use Rattle.domain_core.specs.Shares.{IsFree}
 use Rattle.domain_core.proofs.Shares.{free_begin, free_take_up}
-use Rattle.domain_core.proofs.Linking.{Hands, IsAside, same_keeps, aside_linked, back_hands, begin_linked, look_hands, operation_turned, phase_hands, take_up_linked}
+use Rattle.domain_core.proofs.Linking.{Hands, IsAside, same_keeps, aside_linked, back_hands, begin_linked, killed_linked, look_hands, operation_turned, phase_hands, take_up_linked}
 use Rattle.domain_spec.proofs.TurnProofs.{holds_after, holds_led}
 use Rattle.core_step_laws.specs.Steady.{IsSteady}
 use Rattle.core_step_laws.proofs.Steadying.{turns_keep_steady}
@@ -112,7 +113,7 @@ rotate_kept old new n who (Err x) q out made link now h ok err e f =
 
 pub record Handed (away : Bool) (t : Turning) (out : Option ℕ) (before link : Option Linked) : Type 0 where
   pub cell : IsCell t out link
-  pub monitor : away ≡ true → has_monitor before ≡ is_some out
+  pub monitor : away ≡ true → is_some (monitor_in before) ≡ is_some out
 
 handed : (old new : Turning) (t : CoreStep ℕ) (left : List (Mark ℕ)) (was_out : Option ℕ) (was : Option Linked) → HasTurned old new t left → LeavesNone t left → IsCell old was_out was → (away : Bool) (out out_now made : Option ℕ) (link before now : Option Linked) → Hands away old new out link → made ≡ made_boot (standing_of new.cell) → before ≡ link → now ≡ link_by away before
     → out_now ≡ out_by away made out → Handed away new out_now before now
@@ -123,8 +124,14 @@ handed old new t left was_out was turned none held away out out_now made link be
           cell_after old new t left was_out out_now was now turned none held
           (subst (λ (o : Option ℕ). IsLinked new o now) (sym to)
           (subst (λ (l : Option Linked). IsLinked new (out_by away (made_boot (standing_of new.cell)) out) l) (sym (g ∙ ap (λ (l : Option Linked). link_by away l) f)) h.linked));
-      monitor = λ is. ap has_monitor f ∙ h.monitor is ∙ ap is_some (sym to);
+      monitor = λ is. ap (λ (l : Option Linked). is_some (monitor_in l)) f ∙ h.monitor is ∙ ap is_some (sym to);
     }
+
+-- seen as anything else, it is there or not as it is
+
+pub some_mapped : {A B : Type 0} (f : A → B) (o : Option A) → is_some (option_map f o) ≡ is_some o
+some_mapped f None = refl
+some_mapped f (Some x) = refl
 
 pub ticket_has : {G M E Z : Type 0} (t : Option (Ticket G M E Z)) (has out : Bool) → HasMonitor has t → (is_some t ≡ true → has ≡ out) → HasMonitor out t
 ticket_has None has out h e = tt
@@ -151,14 +158,14 @@ phase_handed old new n who looked r out out_now made link before now h looks sam
     handed old new (step.Phase n who) turned.0 out link turned.1 tt h (is_some (phase_ticket r)) out out_now made (kept_link (made_boot (standing_of new.cell)) link) before now
     (phase_hands old new n who r out link h.linked (subst (λ (x : CorePhase). Phases n who old new x) (sym same) looks)) e (g ∙ ap (λ (m : Option ℕ). kept_link m link) e) k l
 
-pub back_handed : {G M E Z : Type 0} (old new : Turning) (n : ℕ) (x : Answer) (sent fresh : Bool) (left : CoreBack) (r : Back G M E Z) (out out_now made heard : Option ℕ) (link home before now : Option Linked) → IsAnswered old.cell sent x fresh → IsCell old out link
-    → GoesBack n x old new left → back_of r ≡ left → made ≡ made_boot (standing_of new.cell) → heard ≡ boot_heard new.cell.ears → home ≡ with_monitor out link → before ≡ link_made fresh heard made home
+pub back_handed : {G M E Z : Type 0} (old new : Turning) (n : ℕ) (x : Answer) (sent : Bool) (fresh : Option LinkView) (m : Option MonitorView) (left : CoreBack) (r : Back G M E Z) (out out_now made heard : Option ℕ) (link home before now : Option Linked) → is_some m ≡ is_some out → IsAnswered old.cell sent x (is_some fresh) → IsCell old out link
+    → GoesBack n x old new left → back_of r ≡ left → made ≡ made_boot (standing_of new.cell) → heard ≡ boot_heard new.cell.ears → home ≡ with_monitor out m link → before ≡ link_made fresh heard made home
     → now ≡ link_by (is_some (back_ticket r)) before → out_now ≡ out_by (is_some (back_ticket r)) made None → Handed (is_some (back_ticket r)) new out_now before now
-back_handed old new n x sent fresh left r out out_now made heard link home before now answered h goes same e told in_home g k l =
+back_handed old new n x sent fresh m left r out out_now made heard link home before now has answered h goes same e told in_home g k l =
     let turned = back_turned n x old new left goes in
-    handed old new (step.Back n x) turned.0 out link turned.1 tt h (is_some (back_ticket r)) None out_now made (link_made fresh (boot_heard new.cell.ears) (made_boot (standing_of new.cell)) (with_monitor out link)) before now
-    (back_hands old new n x sent fresh r out link answered h.linked (subst (λ (b : CoreBack). GoesBack n x old new b) (sym same) goes)) e
-    (g ∙ ap (λ (l : Option Linked). link_made fresh heard made l) in_home ∙ ap (λ (b : Option ℕ). link_made fresh b made (with_monitor out link)) told ∙ ap (λ (m : Option ℕ). link_made fresh (boot_heard new.cell.ears) m (with_monitor out link)) e)
+    handed old new (step.Back n x) turned.0 out link turned.1 tt h (is_some (back_ticket r)) None out_now made (link_made fresh (boot_heard new.cell.ears) (made_boot (standing_of new.cell)) (with_monitor out m link)) before now
+    (back_hands old new n x sent fresh m r out link has answered h.linked (subst (λ (b : CoreBack). GoesBack n x old new b) (sym same) goes)) e
+    (g ∙ ap (λ (l : Option Linked). link_made fresh heard made l) in_home ∙ ap (λ (b : Option ℕ). link_made fresh b made (with_monitor out m link)) told ∙ ap (λ (made : Option ℕ). link_made fresh (boot_heard new.cell.ears) made (with_monitor out m link)) e)
     k l
 
 -- what is answered without a monitor was not sent; with one the guest was made
@@ -211,3 +218,8 @@ may_answer making sent (ask.WriteImage n k r d b) x made h = other_may making se
 pub may_go_back : (t : Turning) (out : Option ℕ) (link : Option Linked) (sent : Bool) (x : Answer) (fresh : Bool) → IsCell t out link → sent ≡ is_some out → IsAnswered t.cell sent x fresh → MayGoBack t.cell x
 may_go_back t out link sent x fresh h same answered =
     (answered.last, answered.asks, may_answer (makes (standing_of t.cell).operation) sent answered.last x (λ is. made_then (standing_of t.cell) out h.linked.out_with (sym same ∙ is)) answered.answered)
+
+-- the guest that is there was ended
+
+pub killed_cell : (t : Turning) (out : Option ℕ) (link : Option Linked) → IsCell t out link → IsCell t out (killed_link link)
+killed_cell t out link h = record { linked = killed_linked t out link h.linked; steady = h.steady; counted = h.counted; legal = h.legal; owed = h.owed }

@@ -20,7 +20,8 @@ use Rattle.core_steps.specs.Answering.{GoesBack}
 use Rattle.core_steps.specs.Looking.{Looks}
 use Rattle.core_steps.specs.Turning.{AsksLast, HasTurned, Takes, Turning}
 use Rattle.domain_core.specs.Held.{IsLinked, IsOpen, IsOutWith, boot_heard, out_by}
-use Rattle.domain_core.specs.Linked.{IsWholeBut, Linked, boot_of, has_ears, has_monitor, is_boot, kept_link, link_by, link_made, new_link, with_ears_of, with_monitor, without_ears, without_monitor}
+use Rattle.domain_core.specs.Linked.{IsWholeBut, Linked, boot_of, ears_in, ears_unless, is_boot, kept_link, killed_link, link_by, link_made, monitor_in, new_link, with_ears_of, with_monitor, without_ears, without_monitor}
+use Rattle.monitor_link.specs.Views.{EarsView, LinkView, MonitorView}
 use Rattle.domain_core.specs.Tickets.{IsAnswered, back_of, back_ticket, comes, look_ticket, looked_of, phase_ticket, phased_of}
 use Rattle.domain_core.specs.declared.ticket.Back.{Back}
 use Rattle.domain_core.specs.declared.ticket.Back.TheVariants as back
@@ -207,13 +208,13 @@ goes_out t out link is h = record {
 
 -- where no monitor is out, the link has it
 
-monitor_here : (made heard : Option ℕ) (link : Option Linked) → boot_of link ≡ made → IsWholeBut None heard link → has_monitor link ≡ is_some made
+monitor_here : (made heard : Option ℕ) (link : Option Linked) → boot_of link ≡ made → IsWholeBut None heard link → is_some (monitor_in link) ≡ is_some made
 monitor_here None heard None e h = refl
 monitor_here (Some b) heard None e h = cc
 monitor_here None heard (Some l) e h = cc
 monitor_here (Some b) heard (Some l) e h = h.0
 
-pub has_it : (t : Turning) (link : Option Linked) → IsLinked t None link → has_monitor link ≡ is_some (made_boot (standing_of t.cell))
+pub has_it : (t : Turning) (link : Option Linked) → IsLinked t None link → is_some (monitor_in link) ≡ is_some (made_boot (standing_of t.cell))
 has_it t link h = monitor_here (made_boot (standing_of t.cell)) (boot_heard t.cell.ears) link h.made h.whole
 
 -- the call that asks is open, and of its number
@@ -227,7 +228,7 @@ pub asks_job : (s : Standing) (o : Option OpenJob) (answers : List Answer) (n : 
 asks_job s None answers n x h = absurd h
 asks_job s (Some j) answers n x h = (j, refl, asks_if s j answers n x (j.number == n) refl h)
 
--- a call that is let in finds no monitor out
+-- a call that is admitted finds no monitor out
 
 let_in_alone : (old new : Turning) (t : CoreStep ℕ) (left : List (Mark ℕ)) (n : ℕ) (x : Ask) (out : Option ℕ) → HasTurned old new t left → NotOwn t (standing_of old.cell).job
     → ((j : OpenJob) → (standing_of old.cell).job ≡ Some j → j.number ≡ n → ⊥) → AsksLast (share_of new.cell n).call x → IsOutWith (standing_of old.cell) out → out ≡ None
@@ -245,7 +246,7 @@ now_open c n x asks = let (i, is, own) = asks_job (standing_of c) (standing_of c
 -- what a turn that asks leaves of the link, and the monitor of its ticket
 pub record GoesWith (new : Turning) (out : Option ℕ) (link : Option Linked) : Type 0 where
   pub linked : IsLinked new (made_boot (standing_of new.cell)) (without_monitor link)
-  pub monitor : has_monitor link ≡ is_some (made_boot (standing_of new.cell))
+  pub monitor : is_some (monitor_in link) ≡ is_some (made_boot (standing_of new.cell))
 
 goes_with : (old new : Turning) (t : CoreStep ℕ) (left : List (Mark ℕ)) (n : ℕ) (x : Ask) (out : Option ℕ) (link : Option Linked) → HasTurned old new t left → MakesNone old.cell t → NotOwn t (standing_of old.cell).job
     → ((j : OpenJob) → (standing_of old.cell).job ≡ Some j → j.number ≡ n → ⊥) → AsksLast (share_of new.cell n).call x → IsLinked old out link
@@ -259,7 +260,7 @@ goes_with old new t left n x out link turned none other unlike asks h =
 -- what the turn of a ticket leaves: the link, which boot's monitor is out, and whether the ticket has it
 pub record Hands (away : Bool) (old new : Turning) (out : Option ℕ) (link : Option Linked) : Type 0 where
   pub linked : IsLinked new (out_by away (made_boot (standing_of new.cell)) out) (link_by away link)
-  pub monitor : away ≡ true → has_monitor link ≡ is_some (out_by away (made_boot (standing_of new.cell)) out)
+  pub monitor : away ≡ true → is_some (monitor_in link) ≡ is_some (out_by away (made_boot (standing_of new.cell)) out)
 
 away_hands : (old new : Turning) (out : Option ℕ) (link : Option Linked) → GoesWith new out link → Hands true old new out link
 away_hands old new out link h = record { linked = h.linked; monitor = λ e. h.monitor }
@@ -390,24 +391,29 @@ phase_hands old new n who phase.NoMemory out link h phases =
 
 -- an answer comes, and the monitor with it
 
-in_if : (out heard : Option ℕ) (l : Linked) (t : Bool) → is_boot out l.boot ≡ t → IsWholeBut out heard (Some l) → IsWholeBut None heard (if t then Some (record l { monitor = true }) else Some l)
-in_if out heard l true e h = (refl, h.1)
-in_if out heard l false e h = (h.0 ∙ ap not e, h.1)
+out_there : (out : Option ℕ) (b : ℕ) → is_boot out b ≡ true → is_some out ≡ true
+out_there None b e = cc
+out_there (Some o) b e = refl
 
-in_whole : (out heard : Option ℕ) (link : Option Linked) → IsWholeBut out heard link → IsWholeBut None heard (with_monitor out link)
-in_whole out heard None h = tt
-in_whole out heard (Some l) h = in_if out heard l (is_boot out l.boot) refl h
+in_if : (out heard : Option ℕ) (m : Option MonitorView) (l : Linked) (t : Bool) → is_some m ≡ is_some out → is_boot out l.boot ≡ t → IsWholeBut out heard (Some l)
+    → IsWholeBut None heard (if t then Some (record l { monitor = m }) else Some l)
+in_if out heard m l true has e h = (has ∙ out_there out l.boot e, h.1)
+in_if out heard m l false has e h = (h.0 ∙ ap not e, h.1)
 
-in_boot_if : (l : Linked) (t : Bool) → boot_of (if t then Some (record l { monitor = true }) else Some l) ≡ Some l.boot
-in_boot_if l true = refl
-in_boot_if l false = refl
+in_whole : (out heard : Option ℕ) (m : Option MonitorView) (link : Option Linked) → is_some m ≡ is_some out → IsWholeBut out heard link → IsWholeBut None heard (with_monitor out m link)
+in_whole out heard m None has h = tt
+in_whole out heard m (Some l) has h = in_if out heard m l (is_boot out l.boot) has refl h
 
-in_boot : (out : Option ℕ) (link : Option Linked) → boot_of (with_monitor out link) ≡ boot_of link
-in_boot out None = refl
-in_boot out (Some l) = in_boot_if l (is_boot out l.boot)
+in_boot_if : (m : Option MonitorView) (l : Linked) (t : Bool) → boot_of (if t then Some (record l { monitor = m }) else Some l) ≡ Some l.boot
+in_boot_if m l true = refl
+in_boot_if m l false = refl
 
-pub comes_in : (t : Turning) (out : Option ℕ) (link : Option Linked) → IsLinked t out link → IsLinked t None (with_monitor out link)
-comes_in t out link h = record { agrees = h.agrees; made = in_boot out link ∙ h.made; whole = in_whole out (boot_heard t.cell.ears) link h.whole; out_with = tt }
+in_boot : (out : Option ℕ) (m : Option MonitorView) (link : Option Linked) → boot_of (with_monitor out m link) ≡ boot_of link
+in_boot out m None = refl
+in_boot out m (Some l) = in_boot_if m l (is_boot out l.boot)
+
+pub comes_in : (t : Turning) (out : Option ℕ) (m : Option MonitorView) (link : Option Linked) → is_some m ≡ is_some out → IsLinked t out link → IsLinked t None (with_monitor out m link)
+comes_in t out m link has h = record { agrees = h.agrees; made = in_boot out m link ∙ h.made; whole = in_whole out (boot_heard t.cell.ears) m link has h.whole; out_with = tt }
 
 -- the last ask is one
 
@@ -437,11 +443,11 @@ fresh_by c n x sent fresh b h m =
     let last : h.last ≡ ask.Make def b = one_last c (standing_of c).job h.last (ask.Make def b) h.asks asks in
     h.link ∙ ap (λ (y : Ask). comes y (is_ok_answer x)) last ∙ ok
 
-new_boot : (heard : Option ℕ) (b : ℕ) (fresh : Bool) → fresh ≡ true → boot_of (new_link fresh heard b) ≡ Some b
-new_boot heard b true e = refl
-new_boot heard b false e = cc
+new_boot : (heard : Option ℕ) (b : ℕ) (fresh : Option LinkView) → is_some fresh ≡ true → boot_of (new_link fresh heard b) ≡ Some b
+new_boot heard b (Some l) e = refl
+new_boot heard b None e = cc
 
-or_new : (fresh : Bool) (heard : Option ℕ) (b : ℕ) (l : Linked) (t : Bool) → (l.boot == b) ≡ t → ((l.boot ≡ b → ⊥) → fresh ≡ true) → boot_of (if t then Some l else new_link fresh heard b) ≡ Some b
+or_new : (fresh : Option LinkView) (heard : Option ℕ) (b : ℕ) (l : Linked) (t : Bool) → (l.boot == b) ≡ t → ((l.boot ≡ b → ⊥) → is_some fresh ≡ true) → boot_of (if t then Some l else new_link fresh heard b) ≡ Some b
 or_new fresh heard b l true e h = ap Some (same_by l.boot b true e refl)
 or_new fresh heard b l false e h = new_boot heard b fresh (h (λ is. differs (l.boot == b) e (same_true l.boot b is))) where
   differs : (t : Bool) → t ≡ false → t ≡ true → ⊥
@@ -450,26 +456,30 @@ or_new fresh heard b l false e h = new_boot heard b fresh (h (λ is. differs (l.
 none_some : (b : ℕ) → None ≡ Some b → ⊥
 none_some b e = cc
 
-made_link : (fresh : Bool) (heard made : Option ℕ) (link : Option Linked) → ((b : ℕ) → made ≡ Some b → (boot_of link ≡ Some b) ⊎ (fresh ≡ true)) → boot_of (link_made fresh heard made link) ≡ made
+made_link : (fresh : Option LinkView) (heard made : Option ℕ) (link : Option Linked) → ((b : ℕ) → made ≡ Some b → (boot_of link ≡ Some b) ⊎ (is_some fresh ≡ true)) → boot_of (link_made fresh heard made link) ≡ made
 made_link fresh heard None link h = refl
 made_link fresh heard (Some b) None h = new_boot heard b fresh (either (h b refl)) where
-  either : (None ≡ Some b) ⊎ (fresh ≡ true) → fresh ≡ true
+  either : (None ≡ Some b) ⊎ (is_some fresh ≡ true) → is_some fresh ≡ true
   either (inl e) = absurd (none_some b e)
   either (inr e) = e
 made_link fresh heard (Some b) (Some l) h = or_new fresh heard b l (l.boot == b) refl (λ unlike. either unlike (h b refl)) where
-  either : (l.boot ≡ b → ⊥) → (Some l.boot ≡ Some b) ⊎ (fresh ≡ true) → fresh ≡ true
+  either : (l.boot ≡ b → ⊥) → (Some l.boot ≡ Some b) ⊎ (is_some fresh ≡ true) → is_some fresh ≡ true
   either unlike (inl e) = absurd (unlike (some_is l.boot b e))
   either unlike (inr e) = e
 
-new_whole : (fresh : Bool) (heard : Option ℕ) (b : ℕ) → IsWholeBut None heard (new_link fresh heard b)
-new_whole true heard b = (refl, refl)
-new_whole false heard b = tt
+has_unless : (t : Bool) (ears : EarsView) → is_some (ears_unless t ears) ≡ not t
+has_unless true ears = refl
+has_unless false ears = refl
 
-whole_if : (fresh : Bool) (heard : Option ℕ) (b : ℕ) (l : Linked) (t : Bool) → IsWholeBut None heard (Some l) → IsWholeBut None heard (if t then Some l else new_link fresh heard b)
+new_whole : (fresh : Option LinkView) (heard : Option ℕ) (b : ℕ) → IsWholeBut None heard (new_link fresh heard b)
+new_whole (Some l) heard b = (refl, has_unless (is_boot heard b) l.ears)
+new_whole None heard b = tt
+
+whole_if : (fresh : Option LinkView) (heard : Option ℕ) (b : ℕ) (l : Linked) (t : Bool) → IsWholeBut None heard (Some l) → IsWholeBut None heard (if t then Some l else new_link fresh heard b)
 whole_if fresh heard b l true h = h
 whole_if fresh heard b l false h = new_whole fresh heard b
 
-made_whole : (fresh : Bool) (heard made : Option ℕ) (link : Option Linked) → IsWholeBut None heard link → IsWholeBut None heard (link_made fresh heard made link)
+made_whole : (fresh : Option LinkView) (heard made : Option ℕ) (link : Option Linked) → IsWholeBut None heard link → IsWholeBut None heard (link_made fresh heard made link)
 made_whole fresh heard None link h = tt
 made_whole fresh heard (Some b) None h = new_whole fresh heard b
 made_whole fresh heard (Some b) (Some l) h = whole_if fresh heard b l (l.boot == b) h
@@ -479,30 +489,30 @@ made_either : (old new : Turning) (n : ℕ) (x : Answer) (left : List (Mark ℕ)
 made_either old new n x left sent fresh link b is answered (inl e) = inl (is ∙ e)
 made_either old new n x left sent fresh link b is answered (inr m) = inr (fresh_by old.cell n x sent fresh b answered m)
 
-back_linked : (old new : Turning) (n : ℕ) (x : Answer) (left : List (Mark ℕ)) (sent fresh : Bool) (link : Option Linked) → HasTurned old new (step.Back n x) left → IsAnswered old.cell sent x fresh → IsLinked old None link
+back_linked : (old new : Turning) (n : ℕ) (x : Answer) (left : List (Mark ℕ)) (sent : Bool) (fresh : Option LinkView) (link : Option Linked) → HasTurned old new (step.Back n x) left → IsAnswered old.cell sent x (is_some fresh) → IsLinked old None link
     → IsLinked new None (link_made fresh (boot_heard new.cell.ears) (made_boot (standing_of new.cell)) link)
 back_linked old new n x left sent fresh link turned answered h = record {
   agrees = phases_agree old.cell new.cell (step.Back n x) left turned.turn turned.leads h.agrees;
   made =
       made_link fresh (boot_heard new.cell.ears) (made_boot (standing_of new.cell)) link
-      (λ b is. made_either old new n x left sent fresh link b h.made answered (made_by_its_make old.cell new.cell (step.Back n x) left b turned.turn turned.leads h.agrees is));
+      (λ b is. made_either old new n x left sent (is_some fresh) link b h.made answered (made_by_its_make old.cell new.cell (step.Back n x) left b turned.turn turned.leads h.agrees is));
   whole =
       made_whole fresh (boot_heard new.cell.ears) (made_boot (standing_of new.cell)) link
       (subst (λ (heard : Option ℕ). IsWholeBut None heard link) (sym (heard_stays old new (step.Back n x) left turned)) h.whole);
   out_with = tt;
 }
 
-pub back_hands : {G M E Z : Type 0} (old new : Turning) (n : ℕ) (x : Answer) (sent fresh : Bool) (r : Back G M E Z) (out : Option ℕ) (link : Option Linked) → IsAnswered old.cell sent x fresh → IsLinked old out link → GoesBack n x old new (back_of r)
-    → Hands (is_some (back_ticket r)) old new None (link_made fresh (boot_heard new.cell.ears) (made_boot (standing_of new.cell)) (with_monitor out link))
-back_hands old new n x sent fresh (back.Done r) out link answered h goes =
-    stays_hands old new None (link_made fresh (boot_heard new.cell.ears) (made_boot (standing_of new.cell)) (with_monitor out link))
-    (back_linked old new n x goes.0 sent fresh (with_monitor out link) goes.1 answered (comes_in old out link h))
-back_hands old new n x sent fresh (back.Phased st) out link answered h goes =
-    stays_hands old new None (link_made fresh (boot_heard new.cell.ears) (made_boot (standing_of new.cell)) (with_monitor out link))
-    (back_linked old new n x goes.0 sent fresh (with_monitor out link) goes.1 answered (comes_in old out link h))
-back_hands old new n x sent fresh (back.Away t y) out link answered h goes =
-    let kept = link_made fresh (boot_heard new.cell.ears) (made_boot (standing_of new.cell)) (with_monitor out link) in
-    let linked : IsLinked new None kept = back_linked old new n x goes.0 sent fresh (with_monitor out link) goes.1 answered (comes_in old out link h) in
+pub back_hands : {G M E Z : Type 0} (old new : Turning) (n : ℕ) (x : Answer) (sent : Bool) (fresh : Option LinkView) (m : Option MonitorView) (r : Back G M E Z) (out : Option ℕ) (link : Option Linked) → is_some m ≡ is_some out → IsAnswered old.cell sent x (is_some fresh) → IsLinked old out link → GoesBack n x old new (back_of r)
+    → Hands (is_some (back_ticket r)) old new None (link_made fresh (boot_heard new.cell.ears) (made_boot (standing_of new.cell)) (with_monitor out m link))
+back_hands old new n x sent fresh m (back.Done r) out link has answered h goes =
+    stays_hands old new None (link_made fresh (boot_heard new.cell.ears) (made_boot (standing_of new.cell)) (with_monitor out m link))
+    (back_linked old new n x goes.0 sent fresh (with_monitor out m link) goes.1 answered (comes_in old out m link has h))
+back_hands old new n x sent fresh m (back.Phased st) out link has answered h goes =
+    stays_hands old new None (link_made fresh (boot_heard new.cell.ears) (made_boot (standing_of new.cell)) (with_monitor out m link))
+    (back_linked old new n x goes.0 sent fresh (with_monitor out m link) goes.1 answered (comes_in old out m link has h))
+back_hands old new n x sent fresh m (back.Away t y) out link has answered h goes =
+    let kept = link_made fresh (boot_heard new.cell.ears) (made_boot (standing_of new.cell)) (with_monitor out m link) in
+    let linked : IsLinked new None kept = back_linked old new n x goes.0 sent fresh (with_monitor out m link) goes.1 answered (comes_in old out m link has h) in
     away_hands old new None kept (record { linked = goes_out new None kept (now_open new.cell n y goes.2.1) linked; monitor = has_it new kept linked })
 
 -- clients
@@ -536,37 +546,50 @@ lends_linked t n b out link none is h = record {
   out_with = h.out_with;
 }
 
-back_if : (out : Option ℕ) (boot : ℕ) (l : Linked) (t : Bool) → (l.boot == boot) ≡ t → IsWholeBut out (Some boot) (Some l) → IsWholeBut out None (if t then Some (record l { ears = true }) else Some l)
-back_if out boot l true e h = (h.0, refl)
-back_if out boot l false e h = (h.0, h.1 ∙ ap not (differ boot l.boot (boot == l.boot) refl (λ is. unlike (l.boot == boot) e (same_true l.boot boot (sym is))))) where
+back_if : (out : Option ℕ) (boot : ℕ) (ears : EarsView) (l : Linked) (t : Bool) → (l.boot == boot) ≡ t → IsWholeBut out (Some boot) (Some l) → IsWholeBut out None (if t then Some (record l { ears = Some ears }) else Some l)
+back_if out boot ears l true e h = (h.0, refl)
+back_if out boot ears l false e h = (h.0, h.1 ∙ ap not (differ boot l.boot (boot == l.boot) refl (λ is. unlike (l.boot == boot) e (same_true l.boot boot (sym is))))) where
   unlike : (t : Bool) → t ≡ false → t ≡ true → ⊥
   unlike t e f = cc
 
-back_whole : (out : Option ℕ) (boot : ℕ) (link : Option Linked) → IsWholeBut out (Some boot) link → IsWholeBut out None (with_ears_of boot link)
-back_whole out boot None h = tt
-back_whole out boot (Some l) h = back_if out boot l (l.boot == boot) refl h
+back_whole : (out : Option ℕ) (boot : ℕ) (ears : EarsView) (link : Option Linked) → IsWholeBut out (Some boot) link → IsWholeBut out None (with_ears_of boot ears link)
+back_whole out boot ears None h = tt
+back_whole out boot ears (Some l) h = back_if out boot ears l (l.boot == boot) refl h
 
-ears_if : (l : Linked) (t : Bool) → boot_of (if t then Some (record l { ears = true }) else Some l) ≡ Some l.boot
-ears_if l true = refl
-ears_if l false = refl
+ears_if : (ears : EarsView) (l : Linked) (t : Bool) → boot_of (if t then Some (record l { ears = Some ears }) else Some l) ≡ Some l.boot
+ears_if ears l true = refl
+ears_if ears l false = refl
 
-ears_boot : (boot : ℕ) (link : Option Linked) → boot_of (with_ears_of boot link) ≡ boot_of link
-ears_boot boot None = refl
-ears_boot boot (Some l) = ears_if l (l.boot == boot)
+ears_boot : (boot : ℕ) (ears : EarsView) (link : Option Linked) → boot_of (with_ears_of boot ears link) ≡ boot_of link
+ears_boot boot ears None = refl
+ears_boot boot ears (Some l) = ears_if ears l (l.boot == boot)
 
-pub returns_linked : (t : Turning) (boot : ℕ) (out : Option ℕ) (link : Option Linked) → boot_heard t.cell.ears ≡ Some boot → IsLinked t out link
-    → IsLinked (record t { cell = record t.cell { ears = None } }) out (with_ears_of boot link)
-returns_linked t boot out link heard h = record {
+pub returns_linked : (t : Turning) (boot : ℕ) (ears : EarsView) (out : Option ℕ) (link : Option Linked) → boot_heard t.cell.ears ≡ Some boot → IsLinked t out link
+    → IsLinked (record t { cell = record t.cell { ears = None } }) out (with_ears_of boot ears link)
+returns_linked t boot ears out link heard h = record {
   agrees = h.agrees;
-  made = ears_boot boot link ∙ h.made;
-  whole = back_whole out boot link (subst (λ (b : Option ℕ). IsWholeBut out b link) heard h.whole);
+  made = ears_boot boot ears link ∙ h.made;
+  whole = back_whole out boot ears link (subst (λ (b : Option ℕ). IsWholeBut out b link) heard h.whole);
   out_with = h.out_with;
 }
 
-ears_here : (out made : Option ℕ) (b : ℕ) (link : Option Linked) → boot_of link ≡ made → made ≡ Some b → IsWholeBut out None link → has_ears link ≡ true
+ears_here : (out made : Option ℕ) (b : ℕ) (link : Option Linked) → boot_of link ≡ made → made ≡ Some b → IsWholeBut out None link → is_some (ears_in link) ≡ true
 ears_here out made b None e is h = absurd (none_some b (e ∙ is))
 ears_here out made b (Some l) e is h = h.1
 
-pub has_them : (t : Turning) (b : ℕ) (out : Option ℕ) (link : Option Linked) → t.cell.ears ≡ None → made_boot (standing_of t.cell) ≡ Some b → IsLinked t out link → has_ears link ≡ true
+pub has_them : (t : Turning) (b : ℕ) (out : Option ℕ) (link : Option Linked) → t.cell.ears ≡ None → made_boot (standing_of t.cell) ≡ Some b → IsLinked t out link → is_some (ears_in link) ≡ true
 has_them t b out link none is h =
     ears_here out (made_boot (standing_of t.cell)) b link h.made is (subst (λ (ears : Option LentEars). IsWholeBut out (boot_heard ears) link) none h.whole)
+
+-- the guest that is there was ended
+
+killed_whole : (out heard : Option ℕ) (link : Option Linked) → IsWholeBut out heard link → IsWholeBut out heard (killed_link link)
+killed_whole out heard None h = tt
+killed_whole out heard (Some l) h = h
+
+killed_boot : (link : Option Linked) → boot_of (killed_link link) ≡ boot_of link
+killed_boot None = refl
+killed_boot (Some l) = refl
+
+pub killed_linked : (t : Turning) (out : Option ℕ) (link : Option Linked) → IsLinked t out link → IsLinked t out (killed_link link)
+killed_linked t out link h = record { agrees = h.agrees; made = killed_boot link ∙ h.made; whole = killed_whole out (boot_heard t.cell.ears) link h.whole; out_with = h.out_with }

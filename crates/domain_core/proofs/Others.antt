@@ -240,7 +240,7 @@ return_others v r q held ears told x n boot is out none m unlike =
     ∙ ap (λ (e : Option LentEars). record (share_of (cell_of r q held ears) m) { ears = e }) (none_out ears n boot m own unlike)
     ∙ ap (λ (c : Core). share_of c.turning.cell m) is
 
--- what one client takes, or lets go of
+-- what one client takes, or drops
 
 left_first : (b : Bool) (l : Listening) (ls : List Listening) (client n m : ℕ) → IsRegisteredBy (if b then Some l else listening_of ls client) n → m ≢ n
     → (IsRegisteredBy (listening_of ls client) n → taken_of m (registrations (left_by ls client)) ≡ taken_of m (registrations ls))

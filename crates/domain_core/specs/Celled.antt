@@ -8,20 +8,23 @@ use Rattle.domain_spec.specs.Laws.{IsCounted}
 use Rattle.domain_spec.specs.Legal.{IsLegal}
 use Rattle.domain_core.specs.Core.{Core, new_core}
 use Rattle.core_steps.specs.Turning.{Turning}
-use Rattle.domain_core.specs.Held.{IsLinked}
-use Rattle.domain_core.specs.Linked.{Linked}
+use Rattle.domain_core.specs.Held.{IsLinked, boot_heard}
+use Rattle.domain_core.specs.Linked.{Linked, kept_link, link_made, with_monitor}
+use Rattle.monitor_link.specs.Views.{LinkView, MonitorView}
 use Rattle.core_step_laws.specs.Made.{made_boot}
 use Rattle.core_step_laws.specs.Steady.{IsSteady}
 use Rattle.core_owed.specs.Owing.{IsOwing}
 
--- the domain between two turns, and the boot whose monitor is out with the ticket of the open call
+-- the domain between two turns, the boot whose monitor is out with the ticket of the open call, and the link of the guest
+-- that is there
 pub record Celled : Type 0 where
   pub core : Core
   pub out : Option ℕ
+  pub link : Option Linked
 
 -- a domain as the store was opened
 abbrev pub new_cell : Option DomainDef → Bool → Celled
-new_cell stored autostart = record { core = new_core stored autostart; out = None }
+new_cell stored autostart = record { core = new_core stored autostart; out = None; link = None }
 
 -- the cell of a domain, and what is in force after its marks
 abbrev pub cell_in : Celled → Cell
@@ -58,6 +61,18 @@ cell_share c n = record {
 -- what is kept for any other number stays
 abbrev pub KeepsOtherShares : ℕ → Celled → Celled → Type 0
 KeepsOtherShares n c d = (m : ℕ) → m ≢ n → cell_share d m ≡ cell_share c m
+
+-- the link after a turn in which it was only dropped where its guest is not there any more
+abbrev pub link_kept : Celled → Celled → Option Linked
+link_kept old new = kept_link (made_boot (standing_in new)) old.link
+
+-- so it is
+abbrev pub KeepsLink : Celled → Celled → Type 0
+KeepsLink old new = new.link ≡ link_kept old new
+
+-- the link after an answer: the monitor that was out is back, and a guest that was made now has its own
+abbrev pub link_answered : Option LinkView → Option MonitorView → Celled → Celled → Option Linked
+link_answered fresh monitor old new = link_made fresh (boot_heard (cell_in new).ears) (made_boot (standing_in new)) (with_monitor old.out monitor old.link)
 
 -- the boot whose ears may be lent: that of the guest that is there, where no ears are out and one more event can be held
 abbrev pub lendable : Option ℕ → List HeldEvent → Option LentEars → Option ℕ

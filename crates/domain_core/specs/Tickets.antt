@@ -1,5 +1,5 @@
 -- What the turns of a cell answer, and the tickets that they hand out.
-use Rattle.std.specs.Prelude.{◌≡◌, ◌≤◌, ℕ, is_some, Bool, true, false, Option, None, Some}
+use Rattle.std.specs.Prelude.{◌≡◌, ◌≤◌, ℕ, is_some, Bool, true, false, option_map, Option, None, Some}
 use Rattle.domain_spec.specs.Types.{Answer, Ask, EndReason}
 use Rattle.domain_spec.specs.Types.answer
 use Rattle.domain_spec.specs.Types.ask
@@ -23,6 +23,10 @@ use Rattle.domain_core.specs.declared.ticket.PhaseLook.{PhaseLook}
 use Rattle.domain_core.specs.declared.ticket.PhaseLook.TheVariants as phase
 use Rattle.domain_core.specs.declared.ticket.Ticket.{Ticket}
 use Rattle.core_step_laws.specs.Made.{AsksThis}
+use Rattle.domain_core.specs.Linked.{Linked, ears_in, monitor_in}
+use Rattle.monitor_link.specs.Views.{IsLinkTo, LinkView, ears_view, guest_of, monitor_view}
+use Rattle.monitor_link.specs.declared.link.Ears as ears
+use Rattle.monitor_link.specs.declared.link.Monitor as monitor
 
 module _ {G M E Z : Type 0} where
   -- the same without tickets
@@ -71,6 +75,16 @@ module _ {G M E Z : Type 0} where
   HasMonitor has None = Unit {0}
   HasMonitor has (Some t) = is_some t.monitor ≡ has
 
+  -- it is the monitor of this link
+  abbrev pub HandsMonitor : monitor.Ghosts M → Option Linked → Option (Ticket G M E Z) → Type 0
+  HandsMonitor g link None = Unit {0}
+  HandsMonitor g link (Some t) = option_map (monitor_view g) t.monitor ≡ monitor_in link
+
+-- ears that are lent are those of this link
+abbrev pub HandsEars : {E : Type 0} → ears.Ghosts E → Option Linked → Option (ℕ × E) → Type 0
+HandsEars g link None = Unit {0}
+HandsEars g link (Some lent) = Some (ears_view g lent.1) ≡ ears_in link
+
 -- a guest has ended, or the link to it was lost, only where its monitor counted that
 abbrev pub IsCounted : {M : Type 0} → (M → ℕ) → (M → ℕ) → Option M → Answer → Type 0
 IsCounted ends faults (Some m) (answer.Ended why) = 1 ≤ ends m
@@ -105,3 +119,14 @@ pub record IsAnswered (c : Cell) (sent : Bool) (x : Answer) (linked : Bool) : Ty
   pub asks : AsksThis c (standing_of c).job last
   pub answered : IsAnsweredAs sent last x
   pub link : linked ≡ comes last (is_ok_answer x)
+
+-- a link that was made is that of the guest that was asked for, to which nothing was done yet
+abbrev pub IsLinkAsked : Ask → Option LinkView → Type 0
+IsLinkAsked (ask.Make def boot) (Some l) = IsLinkTo (guest_of def boot) l
+IsLinkAsked other made = Unit {0}
+
+-- what the open call asked last is that
+pub record IsMadeAsAsked (c : Cell) (made : Option LinkView) : Type 0 where
+  pub last : Ask
+  pub asks : AsksThis c (standing_of c).job last
+  pub is_its : IsLinkAsked last made

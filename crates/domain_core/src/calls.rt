@@ -1,14 +1,16 @@
 // The turns of calls.
-ghost use Rattle.std.specs.Prelude.{◌≡◌, None, Some, is_some};
+ghost use Rattle.std.specs.Prelude.{◌≡◌, None, Some, is_some, option_map};
 ghost use Rattle.domain_spec.specs.CanTake.{CanLook, CanTake};
 ghost use Rattle.domain_spec.specs.Refusals.{bare};
 ghost use Rattle.domain_spec.specs.Types.code;
 ghost use Rattle.domain_spec.specs.Types.reply;
 ghost use Rattle.domain_spec.specs.declared.core_step.CoreStep.TheVariants as step;
 ghost use Rattle.domain_core.specs.Core.{excluded_by};
-ghost use Rattle.domain_core.specs.Celled.{KeepsOtherShares, cell_in, standing_in};
+ghost use Rattle.domain_core.specs.Celled.{KeepsLink, KeepsOtherShares, cell_in, link_answered, link_kept, standing_in};
 ghost use Rattle.domain_core.specs.Held.{out_by};
-ghost use Rattle.domain_core.specs.Tickets.{HasMonitor, IsAnswered, IsCounted, LeadsBack, back_of, back_ticket, look_ticket, looked_of};
+ghost use Rattle.domain_core.specs.Linked.{link_by};
+ghost use Rattle.monitor_link.specs.Views.{link_view, monitor_view};
+ghost use Rattle.domain_core.specs.Tickets.{HandsMonitor, HasMonitor, IsAnswered, IsCounted, IsMadeAsAsked, LeadsBack, back_of, back_ticket, look_ticket, looked_of};
 ghost use Rattle.core_steps.specs.Answering.{GoesBack};
 ghost use Rattle.core_steps.specs.Looking.{IsKnownFirst, Looks};
 ghost use Rattle.core_steps.specs.Refusing.{HasRefused};
@@ -25,7 +27,7 @@ use std::alloc::Global;
 use virt_types::{Answer, Call, Reply, Who};
 
 impl<G: Guests> DomainCell<G> {
-    /// A call looks: it is let in, and is done at once or asks somebody; or it is excluded and waits; or it
+    /// A call looks: it is admitted, and is done at once or asks somebody; or it is excluded and waits; or it
     /// may not wait, since 32 others do. It neither begins an operation nor takes one up. Where it asks it gets the
     /// monitor of the guest that is there. Where there is no memory nothing is left of it.
     pub fn look(&mut self, alloc: Global, by: Stamp, who: Who, call: &Call, first: First) -> Look<G>
@@ -36,6 +38,8 @@ impl<G: Guests> DomainCell<G> {
         ensures excluded { self.new.core.excluded ≡ excluded_by who call.now (looked_of result) }
         ensures out { self.new.out ≡ out_by (is_some (look_ticket result)) (made_boot (standing_in self.new)) self.old.out }
         ensures ticket { HasMonitor (is_some self.new.out) (look_ticket result) }
+        ensures monitor { HandsMonitor G.M.Monitor (link_kept self.old self.new) (look_ticket result) }
+        ensures link { self.new.link ≡ link_by (is_some (look_ticket result)) (link_kept self.old self.new) }
         ensures others { KeepsOtherShares by.number self.old self.new }
     {
         let looked = self.turns.look(alloc, by, who, call, first);
@@ -45,7 +49,8 @@ impl<G: Guests> DomainCell<G> {
     }
 
     /// The ask that the open call, or the phase, made last is answered so: it is done, and then the held events
-    /// apply, or it asks on. The ticket comes back; with the answer that a guest was made comes its link. It takes no
+    /// apply, or it asks on. The ticket comes back; with the answer that a guest was made comes the link of the one that was
+    /// asked for. It takes no
     /// memory but for the next ask, and for a copy of what the call of an operation is told that rests.
     pub fn back(
         &mut self,
@@ -58,12 +63,15 @@ impl<G: Guests> DomainCell<G> {
         requires can { CanTake (cell_in self.old) (step.Back by.number answer) }
         requires ticket { is_some ticket.monitor ≡ is_some self.old.out }
         requires answered { IsAnswered (cell_in self.old) (is_some ticket.monitor) answer (is_some made) }
+        requires made { IsMadeAsAsked (cell_in self.old) (option_map (link_view G.M.Monitor G.E.Ears G.Z.Killer) made) }
         requires counted { IsCounted G.M.ends G.M.faults ticket.monitor answer }
         ensures back { GoesBack by.number answer self.old.core.turning self.new.core.turning (back_of result) }
         ensures leads { LeadsBack (standing_in self.new).operation result }
         ensures excluded { self.new.core.excluded ≡ None }
         ensures out { self.new.out ≡ out_by (is_some (back_ticket result)) (made_boot (standing_in self.new)) None }
         ensures ticket { HasMonitor (is_some self.new.out) (back_ticket result) }
+        ensures monitor { HandsMonitor G.M.Monitor (link_answered (option_map (link_view G.M.Monitor G.E.Ears G.Z.Killer) made) (option_map (monitor_view G.M.Monitor) ticket.monitor) self.old self.new) (back_ticket result) }
+        ensures link { self.new.link ≡ link_by (is_some (back_ticket result)) (link_answered (option_map (link_view G.M.Monitor G.E.Ears G.Z.Killer) made) (option_map (monitor_view G.M.Monitor) ticket.monitor) self.old self.new) }
         ensures others { KeepsOtherShares by.number self.old self.new }
     {
         put_monitor(&mut self.link, self.out, ticket.monitor);
@@ -83,6 +91,7 @@ impl<G: Guests> DomainCell<G> {
         ensures reply { result ≡ reply.No (bare code.OperationTimeout) }
         ensures excluded { self.new.core.excluded ≡ None }
         ensures out { self.new.out ≡ self.old.out }
+        ensures link { KeepsLink self.old self.new }
         ensures others { KeepsOtherShares by.number self.old self.new }
     {
         let reply = self.turns.give_up(alloc, by, who, call);

@@ -35,7 +35,7 @@ impl<G: Guests> Model for DomainCell<G> {
 
     ghost Value = { Celled };
 
-    ghost view = { λ c. record { core = c.turns; out = c.out } };
+    ghost view = { λ c. record { core = c.turns; out = c.out; link = c.link } };
 
     ghost invariant = { λ c. IsCell c.turns.turning c.out c.link };
 }

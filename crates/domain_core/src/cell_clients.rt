@@ -5,7 +5,7 @@ ghost use Rattle.domain_spec.specs.Kept.{left_queue};
 ghost use Rattle.domain_spec.specs.declared.core_step.CoreStep.TheVariants as step;
 ghost use Rattle.domain_spec.specs.declared.mark.Mark.TheVariants as mark;
 ghost use Rattle.domain_core.specs.Clients.{WatchesSo, with_queue};
-ghost use Rattle.domain_core.specs.Celled.{KeepsOtherShares, cell_in};
+ghost use Rattle.domain_core.specs.Celled.{KeepsLink, KeepsOtherShares, cell_in};
 ghost use Rattle.event_queue.specs.Listening.{HandsOut, dropped_by, listening_of};
 ghost use Rattle.core_steps.specs.Turning.{Takes};
 ghost use Rattle.core_steps.specs.ClientLaws.{IsDropping, IsTaking};
@@ -26,6 +26,7 @@ impl<G: Guests> DomainCell<G> {
         ensures watches { WatchesSo by.number self.old.core.turning self.new.core.turning result }
         ensures excluded { self.new.core.excluded ≡ None }
         ensures out { self.new.out ≡ self.old.out }
+        ensures link { KeepsLink self.old self.new }
         ensures others { KeepsOtherShares by.number self.old self.new }
     {
         let watched = self.turns.watch(alloc, by);
@@ -39,6 +40,7 @@ impl<G: Guests> DomainCell<G> {
         ensures leaves { Takes self.old.core.turning self.new.core.turning (step.Unwatch by.number client) (λ left. left ≡ mark.Unwatch by.number client ∷ []) }
         ensures excluded { self.new.core.excluded ≡ None }
         ensures out { self.new.out ≡ self.old.out }
+        ensures link { KeepsLink self.old self.new }
         ensures others { KeepsOtherShares by.number self.old self.new }
     {
         self.turns.unwatch(by, client);
@@ -54,6 +56,7 @@ impl<G: Guests> DomainCell<G> {
         ensures err { OnErr result (self.new.core.turning ≡ self.old.core.turning) }
         ensures excluded { self.new.core.excluded ≡ None }
         ensures out { self.new.out ≡ self.old.out }
+        ensures link { KeepsLink self.old self.new }
         ensures others { KeepsOtherShares by.number self.old self.new }
     {
         let taken = self.turns.take_events(alloc, by, client);
@@ -61,13 +64,14 @@ impl<G: Guests> DomainCell<G> {
         taken
     }
 
-    /// Lets go of all that pends for a client, and then of a loss that is due. It takes no memory.
+    /// Drops all that pends for a client, and then a loss that is due. It takes no memory.
     pub fn drop_events(&mut self, by: Stamp, client: u32)
         requires can { CanTake (cell_in self.old) (step.Take by.number client) }
         ensures drops { IsDropping by.number client self.old.core.turning self.new.core.turning }
         ensures listeners { self.new.core.turning.listeners ≡ dropped_by self.old.core.turning.listeners client }
         ensures excluded { self.new.core.excluded ≡ None }
         ensures out { self.new.out ≡ self.old.out }
+        ensures link { KeepsLink self.old self.new }
         ensures others { KeepsOtherShares by.number self.old self.new }
     {
         self.turns.drop_events(by, client);
@@ -84,6 +88,7 @@ impl<G: Guests> DomainCell<G> {
         ensures err { OnErr result (self.new.core.turning ≡ with_queue self.old.core.turning (left_queue (cell_in self.old).queue by.number who)) }
         ensures excluded { self.new.core.excluded ≡ None }
         ensures out { self.new.out ≡ self.old.out }
+        ensures link { KeepsLink self.old self.new }
         ensures others { KeepsOtherShares by.number self.old self.new }
     {
         let rotated = self.turns.rotate(alloc, by, who);

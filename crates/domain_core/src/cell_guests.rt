@@ -1,12 +1,15 @@
 // What guests do by themselves, and the parts of their links.
-ghost use Rattle.std.specs.Prelude.{◌≡◌, IfOk, None, OnErr, length, nat_lt, true};
+ghost use Rattle.std.specs.Prelude.{◌≡◌, IfOk, None, OnErr, Some, is_some, length, nat_lt, true};
 ghost use Rattle.domain_spec.specs.Cell.{standing_of};
 ghost use Rattle.domain_spec.specs.Reading.{is_live};
 ghost use Rattle.domain_spec.specs.declared.core_step.CoreStep.TheVariants as step;
 ghost use Rattle.domain_core.specs.Core.{HasOut, with_ears};
-ghost use Rattle.domain_core.specs.Celled.{KeepsOtherShares, boot_to_lend, cell_in, standing_in};
-ghost use Rattle.domain_core.specs.Linked.{has_ears, link_lent};
-ghost use Rattle.domain_core.specs.Tickets.{IsHeardCounted, lent_boot};
+ghost use Rattle.domain_core.specs.Celled.{KeepsLink, KeepsOtherShares, boot_to_lend, cell_in, standing_in};
+ghost use Rattle.domain_core.specs.Linked.{ears_in, killed_link, link_lent, with_ears_of};
+ghost use Rattle.domain_spec.specs.Kept.{looks_of};
+ghost use Rattle.domain_spec.specs.Types.call;
+ghost use Rattle.monitor_link.specs.Views.{ears_view};
+ghost use Rattle.domain_core.specs.Tickets.{HandsEars, IsHeardCounted, lent_boot};
 ghost use Rattle.core_steps.specs.Turning.{Takes};
 ghost use Rattle.core_step_laws.specs.Shares.{KeepsOthers};
 ghost use Rattle.core_steps.specs.Guests.{AreUntold, applies_now, boot_to_hear, ears_lent, event_marks, exit_marks};
@@ -16,7 +19,7 @@ use crate::{DomainTurns, Here, keep, kill, put_ears, take_ears};
 use history_spec::Stamp;
 use monitor_link::Guests;
 use std::alloc::Global;
-use virt_types::{EndReason, GuestEvent, NoMemory};
+use virt_types::{EndReason, GuestEvent, NoMemory, Who};
 
 // Lends the ears of the guest that is there.
 fn lend<G: Guests>(
@@ -25,9 +28,10 @@ fn lend<G: Guests>(
     alloc: Global,
     by: Stamp,
 ) -> Result<Option<(u64, G::E)>, NoMemory>
-    requires ears { turns.old.turning.cell.ears ≡ None → has_ears link.old ≡ true }
+    requires ears { turns.old.turning.cell.ears ≡ None → is_some (ears_in link.old) ≡ true }
     ensures boot { IfOk result (λ lent. lent_boot lent ≡ boot_to_hear (standing_of turns.old.turning.cell).state turns.old.turning.cell.held turns.old.turning.cell.ears) }
     ensures lent { IfOk result (λ lent. turns.new.turning ≡ with_ears turns.old.turning (ears_lent by.number (lent_boot lent) turns.old.turning.cell.ears)) }
+    ensures ears { IfOk result (λ lent. HandsEars G.E.Ears link.old lent) }
     ensures link { IfOk result (λ lent. link.new ≡ link_lent (lent_boot lent) link.old) }
     ensures err { OnErr result (turns.new.turning ≡ turns.old.turning) }
     ensures stays { OnErr result (link.new ≡ link.old) }
@@ -44,9 +48,14 @@ fn lend<G: Guests>(
 }
 
 impl<G: Guests> DomainCell<G> {
-    /// Ends the guest that is there, without asking it; nothing where none is. It may wait for the guest.
-    pub fn kill(&mut self)
-        ensures { self.new ≡ self.old }
+    /// Ends the guest that is there, without asking it; nothing where none is. A Destroy does so that was excluded at its
+    /// first look, in the turn of that look. It may wait for the guest.
+    pub fn kill(&mut self, _who: Who)
+        requires excluded { self.old.core.excluded ≡ Some (record { who = _who; call = call.Destroy }) }
+        requires first { looks_of (cell_in self.old).queue.callers _who ≡ 1 }
+        ensures core { self.new.core ≡ self.old.core }
+        ensures out { self.new.out ≡ self.old.out }
+        ensures link { self.new.link ≡ killed_link self.old.link }
     {
         kill(&mut self.link);
     }
@@ -60,6 +69,7 @@ impl<G: Guests> DomainCell<G> {
         ensures exits { Takes self.old.core.turning self.new.core.turning (step.Exit boot why) (λ left. left ≡ exit_marks (is_live (standing_in self.old).state boot) boot why self.old.core.turning.listeners) }
         ensures excluded { self.new.core.excluded ≡ None }
         ensures out { self.new.out ≡ self.old.out }
+        ensures link { KeepsLink self.old self.new }
         ensures others { KeepsOtherShares by.number self.old self.new }
     {
         self.turns.exit(by, boot, why);
@@ -76,6 +86,7 @@ impl<G: Guests> DomainCell<G> {
         ensures happens { Takes self.old.core.turning self.new.core.turning (step.Event boot event) (λ left. left ≡ event_marks (applies_now (standing_in self.old) (standing_in self.old).job boot) (record { boot = boot; event = event }) (standing_in self.old).state self.old.core.turning.listeners) }
         ensures excluded { self.new.core.excluded ≡ None }
         ensures out { self.new.out ≡ self.old.out }
+        ensures link { KeepsLink self.old self.new }
         ensures others { KeepsOtherShares by.number self.old self.new }
     {
         let can_hold = self.turns.event(by, boot, event);
@@ -89,7 +100,10 @@ impl<G: Guests> DomainCell<G> {
     pub fn lend_ears(&mut self, alloc: Global, by: Stamp) -> Result<Option<(u64, G::E)>, NoMemory>
         ensures boot { IfOk result (λ lent. lent_boot lent ≡ boot_to_lend self.old) }
         ensures lent { IfOk result (λ lent. self.new.core.turning ≡ with_ears self.old.core.turning (ears_lent by.number (lent_boot lent) (cell_in self.old).ears)) }
+        ensures ears { IfOk result (λ lent. HandsEars G.E.Ears self.old.link lent) }
+        ensures link { IfOk result (λ lent. self.new.link ≡ link_lent (lent_boot lent) self.old.link) }
         ensures err { OnErr result (self.new.core.turning ≡ self.old.core.turning) }
+        ensures stays { OnErr result (self.new.link ≡ self.old.link) }
         ensures out { self.new.out ≡ self.old.out }
         ensures others { KeepsOtherShares by.number self.old self.new }
     {
@@ -99,13 +113,14 @@ impl<G: Guests> DomainCell<G> {
         }
     }
 
-    /// Takes the ears back, which were lent to the pass of this stamp; they are let go where their boot is not live
+    /// Takes the ears back, which were lent to the pass of this stamp; they are dropped where their boot is not live
     /// any more. It leaves no mark.
     pub fn return_ears(&mut self, by: Stamp, boot: u64, ears: G::E)
         requires own { HasOut by.number boot (cell_in self.old).ears }
         ensures back { self.new.core.turning ≡ with_ears self.old.core.turning None }
         ensures excluded { self.new.core.excluded ≡ None }
         ensures out { self.new.out ≡ self.old.out }
+        ensures link { self.new.link ≡ with_ears_of boot (ears_view G.E.Ears ears) self.old.link }
         ensures others { KeepsOtherShares by.number self.old self.new }
     {
         self.turns.return_ears(by, boot);

@@ -4,9 +4,10 @@ ghost use Rattle.domain_spec.specs.Cell.{share_of};
 ghost use Rattle.domain_core.specs.Core.{excluded_so};
 ghost use Rattle.domain_core.specs.Entering.{LooksFor, Operates};
 ghost use Rattle.domain_core.specs.Shares.{IsFree};
-ghost use Rattle.domain_core.specs.Celled.{KeepsOtherShares, cell_in, standing_in};
+ghost use Rattle.domain_core.specs.Celled.{KeepsLink, KeepsOtherShares, cell_in, link_kept, standing_in};
 ghost use Rattle.domain_core.specs.Held.{out_by};
-ghost use Rattle.domain_core.specs.Tickets.{HasMonitor, LeadsOn, phase_ticket, phased_of};
+ghost use Rattle.domain_core.specs.Linked.{link_by};
+ghost use Rattle.domain_core.specs.Tickets.{HandsMonitor, HasMonitor, LeadsOn, phase_ticket, phased_of};
 ghost use Rattle.core_step_laws.specs.Made.{made_boot};
 ghost use Rattle.core_steps.specs.OperationEnding.{CanEnd, Ends};
 ghost use Rattle.core_steps.specs.Phasing.{IsDue, Phases};
@@ -30,6 +31,7 @@ impl<G: Guests> DomainCell<G> {
         ensures queue { (cell_in self.new).queue ≡ queue_by result (cell_in self.old).queue by.number who }
         ensures excluded { self.new.core.excluded ≡ excluded_so who call.now result }
         ensures out { self.new.out ≡ self.old.out }
+        ensures link { KeepsLink self.old self.new }
         ensures others { KeepsOtherShares by.number self.old self.new }
     {
         let looked = self.turns.enter_op(alloc, by, who, call);
@@ -37,7 +39,7 @@ impl<G: Guests> DomainCell<G> {
         looked
     }
 
-    /// The due phase of the operation that this caller has open: it is let in where no normal job is open, and else
+    /// The due phase of the operation that this caller has open: it is admitted where no normal job is open, and else
     /// is excluded and leaves nothing. Where it asks it gets the monitor of the guest that is there.
     pub fn phase(&mut self, alloc: Global, by: Stamp, who: Who) -> PhaseLook<G>
         requires due { IsDue (standing_in self.old).operation by.number who }
@@ -46,6 +48,8 @@ impl<G: Guests> DomainCell<G> {
         ensures excluded { self.new.core.excluded ≡ None }
         ensures out { self.new.out ≡ out_by (is_some (phase_ticket result)) (made_boot (standing_in self.new)) self.old.out }
         ensures ticket { HasMonitor (is_some self.new.out) (phase_ticket result) }
+        ensures monitor { HandsMonitor G.M.Monitor (link_kept self.old self.new) (phase_ticket result) }
+        ensures link { self.new.link ≡ link_by (is_some (phase_ticket result)) (link_kept self.old self.new) }
         ensures others { KeepsOtherShares by.number self.old self.new }
     {
         let looked = self.turns.phase(alloc, by, who);
@@ -67,6 +71,7 @@ impl<G: Guests> DomainCell<G> {
         ensures ends { Ends by.number who self.old.core.turning self.new.core.turning result }
         ensures excluded { self.new.core.excluded ≡ None }
         ensures out { self.new.out ≡ self.old.out }
+        ensures link { KeepsLink self.old self.new }
         ensures others { KeepsOtherShares by.number self.old self.new }
     {
         let reply = self.turns.end_op(alloc, by, who);

@@ -64,7 +64,7 @@ impl DomainTurns {
         take_events(&mut self.kept, alloc, client)
     }
 
-    /// Lets go of all that pends for a client, and then of a loss that is due. It takes no memory.
+    /// Drops all that pends for a client, and then a loss that is due. It takes no memory.
     #[tactic(auto, using(crate::proofs::Watching::own_there, crate::proofs::Watching::drop_turn, crate::proofs::Watching::watch_keeps))]
     pub fn drop_events(&mut self, by: Stamp, client: u32)
         requires can { CanTake self.old.turning.cell (step.Take by.number client) }

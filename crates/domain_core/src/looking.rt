@@ -51,7 +51,7 @@ pub fn keep_refusal(
     }
 }
 
-/// A call looks. Where it is excluded, its refusal is set aside; any other turn lets go of the one that was.
+/// A call looks. Where it is excluded, its refusal is set aside; any other turn drops the one that was.
 #[tactic(auto, using(crate::proofs::Looks::still_excluded, crate::proofs::Looks::none_looked, crate::proofs::Looks::excluded_now))]
 pub fn look_on(
     kept: &mut Record,

@@ -112,7 +112,7 @@ impl DomainTurns {
         looked
     }
 
-    /// The due phase of the operation that this caller has open: it is let in where no normal job is open, and else
+    /// The due phase of the operation that this caller has open: it is admitted where no normal job is open, and else
     /// is excluded and leaves nothing.
     pub fn phase(&mut self, alloc: Global, by: Stamp, who: Who) -> PhaseLook
         requires due { IsDue (standing_of self.old.turning.cell).operation by.number who }

@@ -1,8 +1,9 @@
 // What a call, or a phase, takes along while it is away, and what its turns answer.
-ghost use Rattle.std.specs.Prelude.{◌≡◌, None, is_some, true};
+ghost use Rattle.std.specs.Prelude.{◌≡◌, None, is_some, option_map, true};
 ghost use Rattle.domain_core.specs.Held.{out_by};
-ghost use Rattle.domain_core.specs.Linked.{has_monitor, link_by};
-ghost use Rattle.domain_core.specs.Tickets.{HasMonitor, LeadsBack, LeadsOn, back_of, back_ticket, look_ticket, looked_of, phase_ticket, phased_of};
+ghost use Rattle.domain_core.specs.Linked.{link_by, monitor_in};
+ghost use Rattle.monitor_link.specs.Views.{monitor_view};
+ghost use Rattle.domain_core.specs.Tickets.{HandsMonitor, HasMonitor, LeadsBack, LeadsOn, back_of, back_ticket, look_ticket, looked_of, phase_ticket, phased_of};
 ghost use Rattle.domain_spec.specs.Cell.{standing_of};
 
 use crate::link::{Here, take_monitor};
@@ -74,7 +75,7 @@ fn hand_ticket<G: Guests>(
     out: &mut Option<u64>,
     made: Option<u64>,
 ) -> Ticket<G>
-    ensures monitor { is_some result.monitor ≡ has_monitor link.old }
+    ensures monitor { option_map (monitor_view G.M.Monitor) result.monitor ≡ monitor_in link.old }
     ensures link { link.new ≡ link_by true link.old }
     ensures out { out.new ≡ made }
 {
@@ -92,7 +93,8 @@ pub fn hand_look<G: Guests>(
     made: Option<u64>,
 ) -> Look<G>
     ensures same { looked_of result ≡ looked }
-    ensures ticket { HasMonitor (has_monitor link.old) (look_ticket result) }
+    ensures ticket { HasMonitor (is_some (monitor_in link.old)) (look_ticket result) }
+    ensures monitor { HandsMonitor G.M.Monitor link.old (look_ticket result) }
     ensures link { link.new ≡ link_by (is_some (look_ticket result)) link.old }
     ensures out { out.new ≡ out_by (is_some (look_ticket result)) made out.old }
 {
@@ -116,7 +118,8 @@ pub fn hand_phase<G: Guests>(
 ) -> PhaseLook<G>
     ensures same { phased_of result ≡ looked }
     ensures leads { LeadsOn (standing_of turns.now.turning.cell).operation result }
-    ensures ticket { HasMonitor (has_monitor link.old) (phase_ticket result) }
+    ensures ticket { HasMonitor (is_some (monitor_in link.old)) (phase_ticket result) }
+    ensures monitor { HandsMonitor G.M.Monitor link.old (phase_ticket result) }
     ensures link { link.new ≡ link_by (is_some (phase_ticket result)) link.old }
     ensures out { out.new ≡ out_by (is_some (phase_ticket result)) made out.old }
 {
@@ -139,7 +142,8 @@ pub fn hand_back<G: Guests>(
 ) -> Back<G>
     ensures same { back_of result ≡ left }
     ensures leads { LeadsBack (standing_of turns.now.turning.cell).operation result }
-    ensures ticket { HasMonitor (has_monitor link.old) (back_ticket result) }
+    ensures ticket { HasMonitor (is_some (monitor_in link.old)) (back_ticket result) }
+    ensures monitor { HandsMonitor G.M.Monitor link.old (back_ticket result) }
     ensures link { link.new ≡ link_by (is_some (back_ticket result)) link.old }
     ensures out { out.new ≡ out_by (is_some (back_ticket result)) made out.old }
 {

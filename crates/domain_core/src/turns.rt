@@ -108,7 +108,7 @@ impl DomainTurns {
         })
     }
 
-    /// A call looks: it is let in, and is done at once or asks somebody; or it is excluded and waits; or it
+    /// A call looks: it is admitted, and is done at once or asks somebody; or it is excluded and waits; or it
     /// may not wait, since 32 others do. It neither begins an operation nor takes one up. Where there is no
     /// memory nothing is left of it.
     #[tactic(auto, using(crate::proofs::Parts::look_may, crate::proofs::Parts::look_goes, crate::proofs::Parts::lent_fits, crate::proofs::Whole::look_keeps))]

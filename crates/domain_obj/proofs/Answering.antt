@@ -1,11 +1,12 @@
 -- The turn of an answer.
-use Rattle.std.proofs.Common.{◌≡◌, ℕ, ◌++◌, List, [], ◌∷◌, is_some, Option, None, Some, refl, sym, ap, ◌∙◌, subst}
+use Rattle.std.proofs.Common.{◌≡◌, ℕ, ◌==◌, ◌++◌, List, [], ◌∷◌, Bool, true, false, Option, None, Some, if◌then◌else◌, refl, sym, ap, ◌∙◌, subst}
 use Rattle.history_spec.specs.Chapter.{tagged}
 use Rattle.history_spec.specs.Pass.{AreOf, own}
 use Rattle.domain_spec.specs.Types.{Answer, Ask}
 use Rattle.domain_spec.specs.declared.core_step.CoreStep.TheVariants as step
 use Rattle.domain_spec.specs.declared.mark.Mark.{Mark}
-use Rattle.domain_spec.specs.Cell.{OpenCall, Share, share_of}
+use Rattle.domain_spec.specs.Cell.{Cell, OpenCall, Share, as_let_in, asks_so_far, call_of, share_of, standing_of}
+use Rattle.domain_spec.specs.declared.open.OpenJob.{OpenJob}
 use Rattle.domain_core.specs.Celled.{CellShare, Celled, KeepsOtherShares, cell_in, cell_share, standing_in}
 use Rattle.domain_core.specs.Meaning.{history_of, meaning}
 use Rattle.domain_core.proofs.Changing.{turns_change}
@@ -13,7 +14,7 @@ use Rattle.domain_core.specs.OfTurns.{Back as CoreBack}
 use Rattle.domain_core.specs.OfTurns.back_variants as core_back
 use Rattle.domain_core.specs.OfTurns.{GoesBack}
 use Rattle.domain_core.specs.OfTurns.{AsksLast as LastAsk, HasTurned, Takes, Turning}
-use Rattle.domain_obj.specs.Asking.{IsAsked}
+use Rattle.domain_obj.specs.Asking.{AsksLast, IsAsked}
 use Rattle.virt_types.specs.Below.types_base.declared.caller.Front.{Front}
 use Rattle.domain_obj.specs.InTurn.{DomainPass, DomainTurn, GoesBackIn}
 use Rattle.domain_obj.specs.Placing.{IsLastPlace}
@@ -22,7 +23,9 @@ use Rattle.domain_obj.specs.Turns.{BackWaits, HasAnswered, IsClosedSo}
 use Rattle.domain_obj.proofs.Closed.{closed_so}
 use Rattle.domain_obj.proofs.Entering.{awaits_now, kept_found, kept_turn, may_leave}
 use Rattle.domain_obj.proofs.Taking.{one_turn}
-use Rattle.domain_core.specs.Tickets.{back_of}
+use Rattle.domain_core.specs.Tickets.{IsLinkAsked, IsMadeAsAsked, back_of}
+use Rattle.monitor_link.specs.Views.{LinkView}
+use Rattle.domain_core.specs.OfShares.{AsksThis}
 use Rattle.domain_core.specs.declared.ticket.Back.{Back}
 use Rattle.turn_cell.specs.Passes.{Enters, left_by}
 use Rattle.turn_cell.specs.Turning.{Changes, HasTurned as PassTurned}
@@ -43,6 +46,25 @@ back_changes n x old new left turned others = turns_change old new (step.Back n 
 open_call : (o : Option OpenCall) (y : Ask) → LastAsk o y → (c : OpenCall) × (o ≡ Some c) × (before : List Ask) × (c.asks ≡ before ++ y ∷ [])
 open_call None y h = absurd h
 open_call (Some c) y h = (c, refl, h.0, h.1)
+
+-- a link that was made as the open call of the pass asked
+
+asks_in : (c : Cell) (o : Option OpenJob) (n : ℕ) (y : Ask) → AsksLast (call_of (standing_of c) o c.answers n) y → AsksThis c o y
+asks_in c None n y h = absurd h
+asks_in c (Some j) n y h = by (j.number == n) h where
+  by : (t : Bool) → AsksLast (if t then Some (record { job = as_let_in j; asks = asks_so_far (standing_of c) j.job j c.answers; answers = c.answers }) else None) y → AsksThis c (Some j) y
+  by true h = h
+  by false h = absurd h
+
+pub asks_there : (before : DomainPass) (first turn : DomainTurn) (asked : Ask) (made : Option LinkView) → IsAsked before asked → Enters meaning before first → turn ≡ first → IsLinkAsked asked made → IsMadeAsAsked (cell_in turn.value) made
+asks_there before first turn asked made last entered begun is =
+    let enters : Enters meaning before turn = subst (λ (t : DomainTurn). Enters meaning before t) (sym begun) entered in
+    let c : Cell = cell_in turn.value in
+    record {
+      last = asked;
+      asks = asks_in c (standing_of c).job turn.pass.number asked (subst (λ (s : Share). AsksLast s.call asked) (kept_found before turn enters) last);
+      is_its = is;
+    }
 
 back_waits : (n : ℕ) (x : Answer) (old new : Turning) (r : CoreBack) (o : Option OpenCall) → GoesBack n x old new r → o ≡ (share_of new.cell n).call → BackWaits r o
 back_waits n x old new (core_back.Away y) o h e = awaits_now new.cell n o y h.1.leads.away e (subst (λ (c : Option OpenCall). LastAsk c y) (sym e) h.2.1)

@@ -83,7 +83,7 @@ dropping_moves n client old new owing (inr h) =
 history_is : (old new : Celled) → new.core.turning.chapter ≡ old.core.turning.chapter → (cell_in new).base ≡ (cell_in old).base → (cell_in new).marks ≡ (cell_in old).marks → history_of new ≡ history_of old
 history_is old new a b c = λ i. record { chapter = a i; base = b i; marks = c i }
 
--- after what pended was let go of, and a loss that was due
+-- after what pended was dropped, and a loss that was due
 
 pub record Dropped (n client : ℕ) (old mid : Celled) (r : Registration) : Type 0 where
   pub found : find (is_numbered client) (cell_in old).registrations ≡ Some r

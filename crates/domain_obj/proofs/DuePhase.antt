@@ -2,15 +2,14 @@
 use Rattle.std.proofs.Common.{◌≡◌, ◌≢◌, inl, inr, ℕ, ◌+◌, ◌++◌, List, [], ◌∷◌, Bool, Option, None, Some, refl, sym, ap, ◌∙◌, subst}
 use Rattle.virt_types.specs.Below.types_base.declared.caller.Front.{Front}
 use Rattle.history_spec.specs.Chapter.{tagged}
-use Rattle.domain_spec.specs.Types.{Answer, Ask, Phase, Reply, Transition, Who}
+use Rattle.domain_spec.specs.Types.{Answer, Ask, Phase, Transition, Who}
 use Rattle.domain_spec.specs.Types.job
 use Rattle.domain_spec.specs.declared.mark.Mark.{Mark}
 use Rattle.domain_spec.specs.declared.mark.Mark.TheVariants as mark
 use Rattle.domain_spec.specs.declared.open.OpenJob.{OpenJob}
 use Rattle.domain_spec.specs.declared.open.OpenOperation.{OpenOperation}
 use Rattle.domain_spec.specs.declared.step.Outcome.{Outcome}
-use Rattle.domain_spec.specs.declared.step.Outcome.TheVariants as outcome
-use Rattle.domain_spec.specs.Cell.{OpenCall, Share}
+use Rattle.domain_spec.specs.Cell.{OpenCall}
 use Rattle.domain_obj.specs.Asking.{IsAsked, IsBetween}
 use Rattle.domain_obj.specs.Finishing.{IsClosed, IsPhased, IsStillAway}
 use Rattle.domain_obj.specs.InTurn.{DomainPass}
@@ -19,7 +18,7 @@ use Rattle.domain_obj.specs.Running.{Goes, IsSpent}
 use Rattle.domain_core.specs.declared.next.Next.{Next}
 use Rattle.domain_obj.proofs.Going.{goes_nowhere, goes_on, some_call}
 use Rattle.domain_core.specs.Celled.{CellShare}
-use Rattle.domain_obj.specs.Phases.{HasFinishedPhase, HasRunPhase, IsInPhase, IsLostAt}
+use Rattle.domain_obj.specs.Phases.{HasFinishedPhase, HasRunPhase, IsInPhase}
 use Rattle.domain_obj.specs.Phasing.{IsDueFor, IsPhaseAway, IsPhaseDone, IsUnchanged, PhaseDone, led, marks_of, phase_let_in, phase_mark}
 use Rattle.domain_obj.specs.declared.operating.phases.OnePhase.{OnePhase}
 use Rattle.domain_obj.specs.declared.operating.phases.OnePhase.TheVariants as one

@@ -8,7 +8,7 @@ use Rattle.domain_obj.specs.InTurn.{DomainPass}
 use Rattle.domain_obj.specs.Running.{Goes, IsAtRest, IsReady, IsSeen, IsSpent}
 use Rattle.domain_obj.specs.declared.place.Seen.{Seen}
 use Rattle.domain_obj.proofs.Going.{goes_nowhere, goes_on}
-use Rattle.domain_obj.specs.Hearing.{EndsHearing, HasHeardOnce, HasHushed, HasLeft, HearsAll, HearsOne, Hushes, LeavesNothing, LeavesSoon, RunsOut, after_hearing, after_telling}
+use Rattle.domain_obj.specs.Hearing.{AreEars, EndsHearing, HasHeardOnce, HasHushed, HasLeft, HearsAll, HearsOne, Hushes, LeavesNothing, LeavesSoon, RunsOut, after_hearing, after_telling}
 use Rattle.domain_obj.specs.Lending.{IsLent, IsListening, IsStill, IsUnheard, IsUnlent, out_for, with_out}
 use Rattle.domain_obj.specs.Telling.{IsTold, told_of}
 use Rattle.domain_obj.specs.declared.ends.Hushed.{Hushed}
@@ -16,6 +16,7 @@ use Rattle.domain_obj.specs.declared.ends.Hushed.TheVariants as hushed
 use Rattle.domain_obj.specs.declared.once.Once.TheVariants as once
 use Rattle.domain_obj.specs.declared.said.Told.{Told}
 use Rattle.monitor_link.specs.Causes.{IsHeardCaused}
+use Rattle.monitor_link.specs.Views.{EarsView}
 use Rattle.monitor_link.specs.Hearing.{Hears}
 use Rattle.monitor_link.specs.declared.link.Heard.{Heard}
 use Rattle.monitor_link.specs.declared.link.Heard.TheVariants as heard
@@ -40,20 +41,20 @@ ready_on a b (inr rest) share spent = inr (record {
 
 -- a pass that listens
 
-pub listens : (boot : ℕ) (before after : DomainPass) → IsLent boot before after → IsListening boot after
-listens boot before after h = ap (λ (s : CellShare). s.kept.ears) h.share ∙ ap (λ (n : ℕ). Some (out_for n boot)) (sym h.turn.goes.went.same.number)
+pub listens : (boot : ℕ) (its : EarsView) (before after : DomainPass) → IsLent boot its before after → IsListening boot after
+listens boot its before after h = ap (λ (s : CellShare). s.kept.ears) h.share ∙ ap (λ (n : ℕ). Some (out_for n boot)) (sym h.turn.goes.went.same.number)
 
 back_again : (before between after : DomainPass) (x : Option LentEars) → IsAtRest before → between.share ≡ with_out before.share x → after.share ≡ with_out between.share None → after.share ≡ before.share
 back_again before between after x rest lent told =
     told ∙ ap (λ (s : CellShare). with_out s None) lent ∙ ap (λ (e : Option LentEars). with_out before.share e) (sym rest.ears)
 
-two_turns : (boot : ℕ) (t : Option Told) (before between after : DomainPass) → IsReady before → IsLent boot before between → IsTold boot t between after → Goes 2 [] before after × (after.share ≡ before.share)
-two_turns boot t before between after ready lent told =
+two_turns : (boot : ℕ) (its : EarsView) (t : Option Told) (before between after : DomainPass) → IsReady before → IsLent boot its before between → IsTold boot t between after → Goes 2 [] before after × (after.share ≡ before.share)
+two_turns boot its t before between after ready lent told =
     (goes_on 1 1 [] [] before between after lent.turn.goes told.turn.goes, back_again before between after (Some (out_for before.number boot)) (rest_of before ready lent.turn.fresh) lent.share told.share)
 
-leaves_two : (boot : ℕ) (t : Option Told) (before between after : DomainPass) (seen : Seen) → IsReady before → IsLent boot before between → IsTold boot t between after → IsSeen seen after → LeavesNothing 2 before after seen
-leaves_two boot t before between after seen ready lent told at =
-    let two = two_turns boot t before between after ready lent told in
+leaves_two : (boot : ℕ) (its : EarsView) (t : Option Told) (before between after : DomainPass) (seen : Seen) → IsReady before → IsLent boot its before between → IsTold boot t between after → IsSeen seen after → LeavesNothing 2 before after seen
+leaves_two boot its t before between after seen ready lent told at =
+    let two = two_turns boot its t before between after ready lent told in
     record { goes = two.0; share = two.1; at = at }
 
 leaves_one : (before after : DomainPass) (seen : Seen) (found : _) → IsStill found before after → IsSeen seen after → LeavesNothing 1 before after seen
@@ -64,8 +65,8 @@ leaves_one before after seen found still at = record { goes = still.goes; share 
 pub runs_out_first : (before after : DomainPass) → IsSpent before after → RunsOut before after
 runs_out_first before after spent = record { last = before; turns = 0; goes = goes_nowhere before; lent = inl refl; spent = spent }
 
-pub runs_out_then : (boot : ℕ) (before between after : DomainPass) → IsLent boot before between → IsSpent between after → RunsOut before after
-runs_out_then boot before between after lent spent = record { last = between; turns = 1; goes = lent.turn.goes; lent = inr (boot, lent); spent = spent }
+pub runs_out_then : (boot : ℕ) (its : EarsView) (before between after : DomainPass) → IsLent boot its before between → IsSpent between after → RunsOut before after
+runs_out_then boot its before between after lent spent = record { last = between; turns = 1; goes = lent.turn.goes; lent = inr (boot, its, lent); spent = spent }
 
 some_none : (t : Told) → Some t ≢ None
 some_none t e = cc
@@ -104,10 +105,10 @@ module _ {E : Type 0} (ends faults : E → ℕ) (unheard : E → Option (List Gu
   pub not_lent : (before after : DomainPass) (seen : Seen) → IsUnlent before after → IsSeen seen after → HasHeardOnce ends faults unheard before after (once.Last (hushed.NoMemory seen))
   not_lent before after seen h at = (1, inr (refl, h), leaves_one before after seen h.found h.still at)
 
-  hears_one : (h : Heard) (boot : ℕ) (before between after : DomainPass) (was now : E) → IsLent boot before between → IsHeardCaused h (ends now) (faults was) (faults now) → Hears (unheard was) (unheard now) h → IsTold boot (told_of h) between after
+  hears_one : (h : Heard) (boot : ℕ) (its : EarsView) (before between after : DomainPass) (was now : E) → IsLent boot its before between → AreEars ends faults unheard its was → IsHeardCaused h (ends now) (faults was) (faults now) → Hears (unheard was) (unheard now) h → IsTold boot (told_of h) between after
       → HearsOne ends faults unheard h before after
-  hears_one h boot before between after was now lent caused heard_of told =
-      record { boot = boot; between = between; lent = lent; was = was; now = now; caused = caused; heard_of = heard_of; is_told = told }
+  hears_one h boot its before between after was now lent are_its caused heard_of told =
+      record { boot = boot; between = between; its = its; lent = lent; are_its = are_its; was = was; now = now; caused = caused; heard_of = heard_of; is_told = told }
 
   loud_or_not : (h : Heard) (t : Option Told) (before after : DomainPass) (seen : Seen) → told_of h ≡ t → h ≢ heard.NoMemory → HearsOne ends faults unheard h before after → LeavesNothing 2 before after seen
       → HasHeardOnce ends faults unheard before after (after_telling t seen)
@@ -121,10 +122,10 @@ module _ {E : Type 0} (ends faults : E → ℕ) (unheard : E → Option (List Gu
   so_by heard.Lost before after seen one leaves = loud_or_not heard.Lost (told_of heard.Lost) before after seen refl lost_other one leaves
   so_by heard.Quiet before after seen one leaves = loud_or_not heard.Quiet (told_of heard.Quiet) before after seen refl quiet_other one leaves
 
-  pub heard_so : (h : Heard) (boot : ℕ) (before between after : DomainPass) (was now : E) (seen : Seen) → IsReady before → IsLent boot before between → IsHeardCaused h (ends now) (faults was) (faults now) → Hears (unheard was) (unheard now) h
+  pub heard_so : (h : Heard) (boot : ℕ) (its : EarsView) (before between after : DomainPass) (was now : E) (seen : Seen) → IsReady before → IsLent boot its before between → AreEars ends faults unheard its was → IsHeardCaused h (ends now) (faults was) (faults now) → Hears (unheard was) (unheard now) h
       → IsTold boot (told_of h) between after → IsSeen seen after → HasHeardOnce ends faults unheard before after (after_hearing h seen)
-  heard_so h boot before between after was now seen ready lent caused hears told at =
-      so_by h before after seen (hears_one h boot before between after was now lent caused hears told) (leaves_two boot (told_of h) before between after seen ready lent told at)
+  heard_so h boot its before between after was now seen ready lent are_its caused hears told at =
+      so_by h before after seen (hears_one h boot its before between after was now lent are_its caused hears told) (leaves_two boot its (told_of h) before between after seen ready lent told at)
 
   -- hearings one after the other
 
@@ -144,7 +145,7 @@ module _ {E : Type 0} (ends faults : E → ℕ) (unheard : E → Option (List Gu
   keeps_first pass = record { all = []; count = refl; hears = refl; goes = goes_nowhere pass; share = refl }
 
   two_of : (h : Heard) (before after : DomainPass) → IsReady before → HearsOne ends faults unheard h before after → Goes 2 [] before after × (after.share ≡ before.share)
-  two_of h before after ready one = two_turns one.boot (told_of h) before one.between after ready one.lent one.is_told
+  two_of h before after ready one = two_turns one.boot one.its (told_of h) before one.between after ready one.lent one.is_told
 
   pub keeps_on : (times : ℕ) (first now after : DomainPass) (seen : Seen) → IsReady now → Keeps times first now → HasHeardOnce ends faults unheard now after (once.Heard seen) → Keeps (times + 1) first after
   keeps_on times first now after seen ready k (h, one, some, at) =

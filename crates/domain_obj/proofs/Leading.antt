@@ -17,7 +17,6 @@ use Rattle.domain_spec.specs.Turns.{GoOn, MayLeave}
 use Rattle.domain_core.specs.OfTurns.{step_to}
 use Rattle.domain_core.specs.OfTurns.{IsToldAtEnd}
 use Rattle.domain_core.specs.OfTurns.{Step}
-use Rattle.domain_core.specs.OfTurns.step_variants as step
 use Rattle.domain_core.specs.OfTurns.{HasLedTo}
 use Rattle.domain_core.specs.Leading.{IsTold, Leads}
 use Rattle.domain_core.specs.declared.next.Next.{Next}

@@ -15,12 +15,16 @@ use Rattle.domain_core.proofs.Linking.{same_true}
 use Rattle.domain_core.specs.OfTurns.{ears_lent}
 use Rattle.turn_cell.specs.Passes.{Enters, left_by}
 use Rattle.turn_cell.specs.Turning.{Changes}
+use Rattle.domain_core.specs.Linked.{ears_in}
+use Rattle.monitor_link.specs.Views.{ears_view}
+use Rattle.monitor_link.specs.declared.link.Ears as ears
 
-pub lends_ears : {E : Type 0} (n boot : ℕ) (ears : E) (old new : Celled) → Some boot ≡ boot_to_lend old → new.core.turning ≡ with_ears old.core.turning (ears_lent n (Some boot) (cell_in old).ears) → LendsBy {E = E} n old new (lent.Ears boot ears)
-lends_ears n boot ears old new can is = (sym can, is)
+pub lends_ears : {E : Type 0} (g : ears.Ghosts E) (n boot : ℕ) (ears : E) (old new : Celled) → Some boot ≡ boot_to_lend old → new.core.turning ≡ with_ears old.core.turning (ears_lent n (Some boot) (cell_in old).ears) → Some (ears_view g ears) ≡ ears_in old.link
+    → LendsBy g n old new (lent.Ears boot ears)
+lends_ears g n boot ears old new can is its = (sym can, is, its)
 
-pub lends_nothing : (E : Type 0) (n : ℕ) (old new : Celled) → None ≡ boot_to_lend old → new.core.turning ≡ with_ears old.core.turning (ears_lent n None (cell_in old).ears) → LendsBy {E = E} n old new lent.Nobody
-lends_nothing E n old new none is = (sym none, is)
+pub lends_nothing : {E : Type 0} (g : ears.Ghosts E) (n : ℕ) (old new : Celled) → None ≡ boot_to_lend old → new.core.turning ≡ with_ears old.core.turning (ears_lent n None (cell_in old).ears) → LendsBy g n old new lent.Nobody
+lends_nothing g n old new none is = (sym none, is)
 
 -- what is kept for the pass
 
@@ -43,25 +47,26 @@ still found left before after t e out = record {
 
 -- the history stays
 
-module _ {E : Type 0} where
-  same_history : (n : ℕ) (old new : Celled) (r : Lent E) → LendsBy n old new r → history_of new ≡ history_of old
+module _ {E : Type 0} (g : ears.Ghosts E) where
+  same_history : (n : ℕ) (old new : Celled) (r : Lent E) → LendsBy g n old new r → history_of new ≡ history_of old
   same_history n old new (lent.Ears boot ears) h = ap history_at h.1
   same_history n old new lent.Nobody h = ap history_at h.1
   same_history n old new lent.NoMemory h = ap history_at h
 
-  lends_change : (n : ℕ) (old new : Celled) (r : Lent E) → LendsIn n old new r → Changes meaning n [] old new
+  lends_change : (n : ℕ) (old new : Celled) (r : Lent E) → LendsIn g n old new r → Changes meaning n [] old new
   lends_change n old new r h = still_turns_change old new n (same_history n old new r h.by) h.others
 
-  pub lent_may_leave : (before : DomainPass) (turn mid now : DomainTurn) (r : Lent E) → Enters meaning before turn → LendsIn turn.pass.number turn.value mid.value r → mid ≡ record turn { value = mid.value } → now ≡ mid
+  pub lent_may_leave : (before : DomainPass) (turn mid now : DomainTurn) (r : Lent E) → Enters meaning before turn → LendsIn g turn.pass.number turn.value mid.value r → mid ≡ record turn { value = mid.value } → now ≡ mid
       → Changes meaning now.pass.number [] now.entry now.value
   lent_may_leave before turn mid now r enters lends same told = silent_may_leave before turn mid now enters (lends_change turn.pass.number turn.value mid.value r lends) same told
 
-  lent_by : (n : ℕ) (found left : Celled) (before after : DomainPass) (r : Lent E) → n ≡ before.number → LendsIn n found left r → IsSilentTurn found left before after → HasLent before after r
+  lent_by : (n : ℕ) (found left : Celled) (before after : DomainPass) (r : Lent E) → n ≡ before.number → LendsIn g n found left r → IsSilentTurn found left before after → HasLent g before after r
   lent_by n found left before after (lent.Ears boot ears) number h t = record {
     found = found;
     left = left;
     turn = t;
     can = h.by.0;
+    are_its = h.by.2;
     share =
         t.share_is
         ∙ ears_share found left before.number (Some (out_for before.number boot)) (h.by.1 ∙ ap (λ (k : ℕ). with_ears found.core.turning (Some (out_for k boot))) number) h.out
@@ -71,12 +76,12 @@ module _ {E : Type 0} where
   lent_by n found left before after lent.Nobody number h t = record { found = found; still = still found left before after t h.by.1 h.out; none = h.by.0 }
   lent_by n found left before after lent.NoMemory number h t = record { found = found; still = still found left before after t h.by h.out }
 
-  pub lent_turn : (before after : DomainPass) (turn mid now : DomainTurn) (r : Lent E) → Enters meaning before turn → LendsIn turn.pass.number turn.value mid.value r → mid ≡ record turn { value = mid.value } → now ≡ mid
+  pub lent_turn : (before after : DomainPass) (turn mid now : DomainTurn) (r : Lent E) → Enters meaning before turn → LendsIn g turn.pass.number turn.value mid.value r → mid ≡ record turn { value = mid.value } → now ≡ mid
       → IsLegalHistory (history_of mid.value) → after ≡ left_by meaning now → IsSilentTurn turn.value mid.value before after
   lent_turn before after turn mid now r enters lends same told legal left =
       silent_turn before after turn mid now enters (lends_change turn.pass.number turn.value mid.value r lends) same told legal left
 
-  pub lent_once : (before after : DomainPass) (turn mid now : DomainTurn) (r : Lent E) → Enters meaning before turn → LendsIn turn.pass.number turn.value mid.value r → mid ≡ record turn { value = mid.value } → now ≡ mid
-      → IsLegalHistory (history_of mid.value) → after ≡ left_by meaning now → HasLent before after r
+  pub lent_once : (before after : DomainPass) (turn mid now : DomainTurn) (r : Lent E) → Enters meaning before turn → LendsIn g turn.pass.number turn.value mid.value r → mid ≡ record turn { value = mid.value } → now ≡ mid
+      → IsLegalHistory (history_of mid.value) → after ≡ left_by meaning now → HasLent g before after r
   lent_once before after turn mid now r enters lends same told legal left =
       lent_by turn.pass.number turn.value mid.value before after r (ap (λ (p : DomainPass). p.number) enters.pass) lends (lent_turn before after turn mid now r enters lends same told legal left)

@@ -59,7 +59,7 @@ loss_handed ls client count r l h =
     let told : loss_told (Some l.one) ≡ Some count = ap loss_told (sym l.found) ∙ h in
     sym (ap tells_loss l.kept) ∙ lost_if (tells_loss l.one.kept) l.one.lost count told
 
--- what was let go of
+-- what was dropped
 
 gone_if : (b : Bool) (l : Listening) (ls : List Listening) (client : ℕ) → is_of client l ≡ b → list_any (is_numbered l.kept.client) (registrations ls) ≡ false → has_client (left_by ls client) client ≡ false
     → has_client (if b then ls else l ∷ left_by ls client) client ≡ false

@@ -1,4 +1,4 @@
--- What a call does in one turn until it is let in, as one change of its cell.
+-- What a call does in one turn until it is admitted, as one change of its cell.
 use Rattle.std.proofs.Common.{◌≡◌, ◌≤◌, ℕ, ◌++◌, List, [], Option, None, Some, IfSome, refl, sym, ap, ◌∙◌, subst, append-nil, arith}
 use Rattle.history_spec.specs.Pass.{AreOf, own}
 use Rattle.domain_spec.specs.Types.{Call, Who}

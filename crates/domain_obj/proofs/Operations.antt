@@ -1,5 +1,5 @@
 -- A call that begins an operation or takes one up: what holds between two of its looks, and what becomes of it.
-use Rattle.std.proofs.Common.{◌≡◌, ℕ, ◌+◌, ◌≤◌, ◌++◌, List, [], ◌∷◌, Option, None, Some, false, refl, sym, ap, ◌∙◌, subst, arith}
+use Rattle.std.proofs.Common.{◌≡◌, ℕ, ◌+◌, ◌≤◌, ◌++◌, List, [], ◌∷◌, Option, None, Some, refl, sym, ap, ◌∙◌, subst, arith}
 use Rattle.virt_types.specs.Below.types_base.declared.caller.Front.{Front}
 use Rattle.history_spec.specs.Chapter.{tagged}
 use Rattle.domain_spec.specs.Types.{Answer, Ask, Call, Reply, Who}
@@ -10,12 +10,11 @@ use Rattle.domain_spec.specs.declared.core_step.First.TheVariants as first
 use Rattle.domain_spec.specs.declared.mark.Mark.{Mark}
 use Rattle.domain_spec.specs.declared.mark.Mark.TheVariants as mark
 use Rattle.domain_spec.specs.declared.open.OpenOperation.{OpenOperation}
-use Rattle.domain_spec.specs.declared.step.Outcome.{Outcome}
 use Rattle.domain_spec.specs.declared.step.Outcome.TheVariants as outcome
 use Rattle.domain_spec.specs.Call.{job_of}
 use Rattle.domain_obj.specs.InTurn.{DomainPass}
 use Rattle.domain_obj.specs.Placing.{IsPlaced}
-use Rattle.domain_obj.specs.Running.{Goes, IsAtRest}
+use Rattle.domain_obj.specs.Running.{Goes}
 use Rattle.domain_obj.proofs.Going.{goes_on}
 use Rattle.domain_core.specs.Celled.{CellShare}
 use Rattle.domain_obj.specs.Entered.{IsBegun, IsDoneNow, IsFirst, IsReadyToEnter, IsWaiting, begun_by, operating}
@@ -25,7 +24,7 @@ use Rattle.domain_obj.specs.Phasing.{IsDueFor, phase_mark}
 use Rattle.domain_obj.specs.Turned.{waiting_as}
 use Rattle.domain_obj.specs.declared.operating.phases.Over.{Over}
 use Rattle.domain_obj.specs.declared.operating.phases.Over.TheVariants as over
-use Rattle.domain_obj.proofs.Calling.{LooksOn, Rests, free_rests, ready_to_look, rests_on, share_back}
+use Rattle.domain_obj.proofs.Calling.{LooksOn, Rests, ready_to_look, rests_on, share_back}
 use Rattle.domain_obj.proofs.GoingOn.{lost_from, named, operation_or}
 use Rattle.domain_core.specs.OfTurns.{IsDue}
 
@@ -52,7 +51,7 @@ waits_on who d before now after count more k le w = record {
 pub waits_again : (who : Who) (d : Call) (before now after rested : DomainPass) (count more : ℕ) → Enters who d before now count → more ≤ count + 1 → IsWaiting who now after → rested ≡ after → Enters who d before rested more
 waits_again who d before now after rested count more k le w same = subst (λ (p : DomainPass). Enters who d before p more) (sym same) (waits_on who d before now after count more k le w)
 
--- it was let in and refused
+-- it was admitted and refused
 pub refused_done : (who : Who) (d : Call) (before now after : DomainPass) (count : ℕ) (report report_now : List (Ask × Answer)) (r : Reply) (place : Front) → Enters who d before now count → report_now ≡ report → IsDoneNow who d now after r place
     → IsRefusedDone who d before after report report_now r place
 refused_done who d before now after count report report_now r place k same h =

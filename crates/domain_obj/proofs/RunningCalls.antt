@@ -1,12 +1,11 @@
 -- A call, and then the hearing.
-use Rattle.std.proofs.Common.{◌≡◌, ◌⊎◌, inl, inr, ℕ, List, [], ◌++◌, Bool, true, false, IfSome, Option, None, Some, refl, sym, ap, ◌∙◌, subst}
+use Rattle.std.proofs.Common.{◌≡◌, inl, inr, ℕ, List, [], true, false, IfSome, Option, None, Some, refl, sym, ap, ◌∙◌, subst}
 use Rattle.virt_types.specs.declared.ask.GuestEvent.{GuestEvent}
 use Rattle.virt_types.specs.Below.types_base.declared.caller.Front.{Front}
 use Rattle.domain_spec.specs.Types.{Answer, Ask, Call, Who}
 use Rattle.domain_spec.specs.declared.mark.Mark.{Mark}
 use Rattle.domain_core.specs.Celled.{CellShare}
 use Rattle.domain_obj.specs.InTurn.{DomainPass}
-use Rattle.domain_obj.specs.Refusing.{IsLeftUndone, IsRefusedSo, IsSpentWaiting}
 use Rattle.domain_obj.specs.Running.{Goes, IsAtRest, IsReady, IsSeen, IsSpent}
 use Rattle.domain_obj.specs.declared.place.Seen.{Seen}
 use Rattle.domain_obj.specs.Hearing.{HasHushed}

@@ -102,7 +102,7 @@ single n (r ∷ rs) apart = single_if (r.number == n) r (filter (λ x. x.number 
 pub gone_of : (n client : ℕ) (rs : List Registration) → AreApart rs → with_its (of_pass n rs) client [] ≡ without_its (of_pass n rs) client
 gone_of n client rs apart = gone (of_pass n rs) client (single n rs apart)
 
--- what pended was let go of, and a loss that was due
+-- what pended was dropped, and a loss that was due
 
 abbrev taking_of : Registration → Taken
 taking_of r = record { client = r.client; taken = r.taken }

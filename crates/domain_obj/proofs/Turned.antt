@@ -1,5 +1,5 @@
--- What one turn leaves of the pass of a call that is not let in yet.
-use Rattle.std.proofs.Common.{◌≡◌, inl, inr, ◌<◌, ◌≤◌, ◌^◌, ℕ, suc, ◌++◌, List, [], ◌∷◌, length, is_some, false, Option, None, Some, slice_get, refl, sym, ap, ◌∙◌, subst, arith}
+-- What one turn leaves of the pass of a call that is not admitted yet.
+use Rattle.std.proofs.Common.{◌≡◌, inl, inr, ◌<◌, ◌≤◌, ◌^◌, ℕ, suc, ◌==◌, ◌++◌, List, [], ◌∷◌, length, is_some, Bool, true, false, if◌then◌else◌, Option, None, Some, slice_get, refl, sym, ap, ◌∙◌, subst, arith}
 use Rattle.virt_types.specs.Below.types_base.declared.caller.Front.{Front}
 use Rattle.history_spec.specs.Begins.{Begins}
 use Rattle.history_spec.specs.Chapter.{tagged}
@@ -32,7 +32,9 @@ use Rattle.domain_obj.proofs.Taking.{one_turn}
 use Rattle.domain_core.specs.Celled.{CellShare, Celled, KeepsOtherShares, cell_in, cell_share, chapter_of, monitor_of, standing_in}
 use Rattle.domain_core.specs.Keeping.{no_mark_lowers}
 use Rattle.domain_core.specs.Meaning.{history_of, meaning}
-use Rattle.domain_obj.specs.Attempting.{Attempts, Tries}
+use Rattle.domain_obj.specs.Attempting.{Attempts, Tries, WaitsIn, killed_at_first}
+use Rattle.domain_core.specs.Linked.{killed_link}
+use Rattle.domain_spec.specs.Types.call
 use Rattle.domain_core.specs.Shares.{IsFree, KeepsFirst}
 use Rattle.domain_obj.specs.Looking.{MayLook}
 use Rattle.domain_obj.specs.Turned.{HasTried, IsAwayNow, IsDoneAtOnce, IsLeftNow, IsReadyToLook, IsRefusedNow, WaitsNow, WasLetIn, job_let_in, waiting_as}
@@ -311,10 +313,25 @@ given_up_leaves : {G M E Z : Type 0} (n : ℕ) (who : Who) (d : Call) (f : First
     → (left : List (Mark ℕ)) × Adds n old new left × (own whose n left ≡ mark.Refused n who d code.OperationTimeout (jobs_in (cell_in mid)) ∷ [])
 given_up_leaves n who d f old mid new held boot looks h g = given_up_after n who d old mid new (excluded_still n who d f old mid held boot looks h) h.others g
 
+-- a guest that was ended changes nothing else
+
+killed_looks : {G M E Z : Type 0} (n : ℕ) (who : Who) (e : Call) (f : First) (d : Call) (held : JobRecord) (boot : Option ℕ) (looks : ℕ) (old mid : Celled) → LooksIn {G = G} {M = M} {E = E} {Z = Z} n who e f old mid (look.Excluded held boot looks)
+    → LooksIn {G = G} {M = M} {E = E} {Z = Z} n who e f old (killed_at_first d looks mid) (look.Excluded held boot looks)
+killed_looks {G} {M} {E} {Z} n who e f call.Destroy held boot looks old mid h = by (looks == 1) where
+  by : (t : Bool) → LooksIn {G = G} {M = M} {E = E} {Z = Z} n who e f old (if t then record mid { link = killed_link mid.link } else mid) (look.Excluded held boot looks)
+  by true = record { looks = h.looks; queue = h.queue; excluded = h.excluded; out = h.out; ticket = h.ticket; others = h.others }
+  by false = h
+killed_looks {G} {M} {E} {Z} n who e f d held boot looks old mid h = h
+
+looked_then : {G M E Z : Type 0} {n : ℕ} {who : Who} {d : Call} {f : First} {turns : ℕ} {boot : Option ℕ} {old new : Celled} (w : WaitsIn G M E Z n who d f turns boot old new)
+    → LooksIn {G = G} {M = M} {E = E} {Z = Z} n who d f old new (look.Excluded w.held boot w.looks)
+looked_then {G} {M} {E} {Z} {n} {who} {d} {f} {turns} {boot} {old} {new} w =
+    subst (λ (c : Celled). LooksIn {G = G} {M = M} {E = E} {Z = Z} n who d f old c (look.Excluded w.held boot w.looks)) (sym w.killed) (killed_looks n who d f d w.held boot w.looks old w.mid w.looked)
+
 attempts_change : {G M E Z : Type 0} (n : ℕ) (who : Who) (d : Call) (f : First) (turns : ℕ) (a old new : Celled) (r : Attempt G M E Z) → IsRenewed n who a old → Attempts n who d f turns old new r → (more : List (Mark ℕ)) × Changes meaning n more a new
 attempts_change n who d f turns a old new (attempt.Done r) renewed h = look_change n who a old new h.looks.0 renewed (look_adds n who d f old new h.looks.0 h.looks.1 h.others)
 attempts_change n who d f turns a old new (attempt.Away t x) renewed h = look_change n who a old new h.looks.0 renewed (look_adds n who d f old new h.looks.0 h.looks.1 h.others)
-attempts_change n who d f turns a old new (attempt.Waits boot) renewed (held, looks, h) = look_change n who a old new h.looks.0 renewed (look_adds n who d f old new h.looks.0 h.looks.1 h.others)
+attempts_change n who d f turns a old new (attempt.Waits boot) renewed w = let h = looked_then w in look_change n who a old new h.looks.0 renewed (look_adds n who d f old new h.looks.0 h.looks.1 h.others)
 attempts_change n who d f turns a old new (attempt.GaveUp held) renewed (mid, boot, looks, h, g, is_late) =
     let leaves = given_up_leaves n who d f old mid new held boot looks h g in look_change n who a old new leaves.0 renewed leaves.1
 attempts_change n who d f turns a old new attempt.WaitersFull renewed (waiting, h) =
@@ -378,9 +395,10 @@ attempted who d f turns before after turn now place old (attempt.Done r) l renew
 attempted who d f turns before after turn now place old (attempt.Away t x) l renewed h none at =
     let n = turn.pass.number in
     away_now n who d f before after turn.value old now.value t x h (goes_of who before after turn now old h.looks.0 l renewed (look_adds n who d f old now.value h.looks.0 h.looks.1 h.others)) renewed none
-attempted who d f turns before after turn now place old (attempt.Waits boot) l renewed (held, looks, h) none at =
+attempted who d f turns before after turn now place old (attempt.Waits boot) l renewed w none at =
     let n = turn.pass.number in
-    waits_now n who d f before after turn.value old now.value held boot looks h (goes_of who before after turn now old h.looks.0 l renewed (look_adds n who d f old now.value h.looks.0 h.looks.1 h.others)) renewed none
+    let h = looked_then w in
+    waits_now n who d f before after turn.value old now.value w.held boot w.looks h (goes_of who before after turn now old h.looks.0 l renewed (look_adds n who d f old now.value h.looks.0 h.looks.1 h.others)) renewed none
 attempted who d f turns before after turn now place old (attempt.GaveUp held) l renewed (mid, boot, looks, h, g, is_late) none at =
     let n = turn.pass.number in
     let leaves = given_up_leaves n who d f old mid now.value held boot looks h g in

@@ -35,7 +35,7 @@ pub record CarriesBoot (d : Call) (chapter : ℕ) (boot : Option ℕ) (admit : M
   pub chapter_is : admitted.chapter ≡ chapter
   pub there : chapter ≡ after.seen.chapter → slice_get after.seen.marks (length admitted.marks) ≡ Some admit
 
--- the call was let in and done, by these two marks of its pass and no others; the desk was asked just what the Done says, but
+-- the call was admitted and done, by these two marks of its pass and no others; the desk was asked just what the Done says, but
 -- for what found no memory; and what is kept for the pass is what was
 pub record IsDone (who : Who) (d : Call) (before after : DomainPass) (report now : List (Ask × Answer)) (r : Reply) (place : Front) : Type 0 where
   pub turns : ℕ
@@ -51,7 +51,7 @@ pub record IsDone (who : Who) (d : Call) (before after : DomainPass) (report now
   pub placed : IsPlaced place chapter (mark.Done before.number who d boot asks answers r events) after
   pub carries : CarriesBoot d chapter boot (mark.Admit before.number who (job_of d) d boot) before after
 
--- the call was let in and asked, and then no ticket was left: the desk was asked what the call was told by then, and once more
+-- the call was admitted and asked, and then no ticket was left: the desk was asked what the call was told by then, and once more
 pub record IsSpentAway (who : Who) (d : Call) (before after : DomainPass) (report now : List (Ask × Answer)) : Type 0 where
   pub turns : ℕ
   pub chapter : ℕ

@@ -99,7 +99,7 @@ abbrev pub HasTaken : ℕ → Bool → DomainPass → DomainPass → Result Took
 HasTaken client end before after (Ok took) = HasTakenEvents client end before after took.events took.is_lost
 HasTaken client end before after (Err e) = IsUntaken before after
 
--- what it would have taken was let go of, and its registration ended
+-- what it would have taken was dropped, and its registration ended
 pub record HasDropped (client : ℕ) (before after : DomainPass) : Type 0 where
   pub events : List Transition
   pub lost : Bool

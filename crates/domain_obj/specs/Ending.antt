@@ -1,4 +1,4 @@
--- A call that was let in and asks, to its end.
+-- A call that was admitted and asks, to its end.
 use Rattle.std.specs.Prelude.{◌≡◌, List, [], ◌∷◌, ◌++◌}
 use Rattle.domain_spec.specs.Types.{Answer, Ask}
 use Rattle.domain_obj.specs.Asking.{IsAsked}

@@ -1,4 +1,4 @@
--- One turn of a call that begins an operation or takes one up, until it is let in: what it leaves of the pass.
+-- One turn of a call that begins an operation or takes one up, until it is admitted: what it leaves of the pass.
 use Rattle.std.specs.Prelude.{◌≡◌, ◌⊎◌, ◌≤◌, ℕ, List, [], ◌∷◌, is_some, true, false, Option, None, Some}
 use Rattle.history_spec.specs.Chapter.{tagged}
 use Rattle.virt_types.specs.Below.types_base.declared.caller.Front.{Front}
@@ -37,7 +37,7 @@ begun_by chapter n who d boot first = tagged chapter (mark.Admit n who (job_of d
 abbrev pub operating : Option OpenOperation → CellShare → CellShare
 operating o s = record s { kept = record s.kept { waits = None; operation = o } }
 
--- it was let in, and has its operation, of which a phase is due
+-- it was admitted, and has its operation, of which a phase is due
 pub record IsBegun (who : Who) (d : Call) (before after : DomainPass) : Type 0 where
   pub fresh : before.spent ≡ false
   pub chapter : ℕ
@@ -50,7 +50,7 @@ pub record IsBegun (who : Who) (d : Call) (before after : DomainPass) : Type 0 w
   pub closed : IsClosed after
   pub share : after.share ≡ operating (Some operation) before.share
 
--- it was let in and refused, by these two marks of its pass and no others; nobody was asked
+-- it was admitted and refused, by these two marks of its pass and no others; nobody was asked
 pub record IsDoneNow (who : Who) (d : Call) (before after : DomainPass) (r : Reply) (place : Front) : Type 0 where
   pub fresh : before.spent ≡ false
   pub chapter : ℕ
@@ -70,7 +70,7 @@ pub record IsWaiting (who : Who) (before after : DomainPass) : Type 0 where
   pub goes : Goes 1 [] before after
   pub share : after.share ≡ waiting_as (Some who) before.share
 
--- what a turn leaves of the pass of a call that was not let in before it
+-- what a turn leaves of the pass of a call that was not admitted before it
 abbrev pub HasEntered : Who → Call → ℕ → DomainPass → DomainPass → Front → Entry → Type 0
 HasEntered who d turns before after place entry.Begun = IsBegun who d before after
 HasEntered who d turns before after place (entry.Done r) = IsDoneNow who d before after r place

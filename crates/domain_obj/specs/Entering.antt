@@ -1,4 +1,4 @@
--- What a call does in one turn that begins an operation or takes one up, until it is let in.
+-- What a call does in one turn that begins an operation or takes one up, until it is admitted.
 use Rattle.std.specs.Prelude.{◌≡◌, ◌⊎◌, ◌≤◌, ℕ, Option}
 use Rattle.domain_spec.specs.Types.{Call, Who}
 use Rattle.domain_spec.specs.Cell.{share_of}

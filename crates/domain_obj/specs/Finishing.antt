@@ -48,7 +48,7 @@ pub record IsStillAway (first now : DomainPass) (more : List (Ask × Answer)) : 
   pub operation : now.share.kept.operation ≡ first.share.kept.operation
   pub aside : AsideStays first.share.kept now.share.kept
 
--- it is done by this mark, in the chapter in which it was let in, and was told so much more
+-- it is done by this mark, in the chapter in which it was admitted, and was told so much more
 pub record IsFinishedBy (before after : DomainPass) (more : List (Ask × Answer)) (place : Front) (call : OpenCall) (asks : List Ask) (answers : List Answer) (m : Mark ℕ) : Type 0 where
   pub turns : ℕ
   pub chapter : ℕ

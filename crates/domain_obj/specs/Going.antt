@@ -31,7 +31,7 @@ pub record EndsIn (n : ℕ) (who : Who) (old new : Celled) (said : Reply) : Type
   pub others : KeepsOtherShares n old new
 
 module _ {G M E Z : Type 0} where
-  -- the due phase was let in where no normal job is open, and else excluded
+  -- the due phase was admitted where no normal job is open, and else excluded
   pub record PhasesIn (n : ℕ) (who : Who) (old new : Celled) (result : PhaseLook G M E Z) : Type 0 where
     pub phases : Phases n who old.core.turning new.core.turning (phased_of result)
     pub leads : LeadsOn (standing_in new).operation result

@@ -9,6 +9,7 @@ use Rattle.monitor_link.specs.Hearing.{Hears}
 use Rattle.monitor_link.specs.declared.link.Heard.{Heard}
 use Rattle.monitor_link.specs.declared.link.Heard.TheVariants as heard
 use Rattle.domain_obj.specs.Lending.{IsLent, IsUnheard, IsUnlent}
+use Rattle.monitor_link.specs.Views.{EarsView}
 use Rattle.domain_obj.specs.Telling.{IsTold, told_of}
 use Rattle.domain_obj.specs.declared.ends.Hushed.{Hushed}
 use Rattle.domain_obj.specs.declared.ends.Hushed.TheVariants as hushed
@@ -52,16 +53,24 @@ pub record RunsOut (before after : DomainPass) : Type 0 where
   pub last : DomainPass
   pub turns : ℕ
   pub goes : Goes turns [] before last
-  pub lent : (last ≡ before) ⊎ ((boot : ℕ) × IsLent boot before last)
+  pub lent : (last ≡ before) ⊎ ((boot : ℕ) × (its : EarsView) × IsLent boot its before last)
   pub spent : IsSpent last after
 
 module _ {E : Type 0} (ends faults : E → ℕ) (unheard : E → Option (List GuestEvent)) where
-  -- this was heard: the ears were lent in one turn, said it, and in the next turn it was told and they were given back
+  -- ears that a cell showed so
+  pub record AreEars (its : EarsView) (was : E) : Type 0 where
+    pub same_ends : its.ends ≡ ends was
+    pub same_faults : its.faults ≡ faults was
+    pub same_unheard : its.unheard ≡ unheard was
+
+  -- this was heard: the ears of the cell were lent in one turn, said it, and in the next turn it was told and they were given back
   pub record HearsOne (h : Heard) (before after : DomainPass) : Type 0 where
     pub boot : ℕ
     pub between : DomainPass
-    pub lent : IsLent boot before between
+    pub its : EarsView
+    pub lent : IsLent boot its before between
     pub was : E
+    pub are_its : AreEars its was
     pub now : E
     pub caused : IsHeardCaused h (ends now) (faults was) (faults now)
     pub heard_of : Hears (unheard was) (unheard now) h

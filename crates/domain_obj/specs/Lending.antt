@@ -7,6 +7,9 @@ use Rattle.domain_core.specs.Core.{with_ears}
 use Rattle.domain_obj.specs.InTurn.{DomainPass}
 use Rattle.domain_obj.specs.Running.{Goes}
 use Rattle.domain_obj.specs.declared.lending.Lent.{Lent}
+use Rattle.domain_core.specs.Linked.{ears_in}
+use Rattle.monitor_link.specs.Views.{EarsView, ears_view}
+use Rattle.monitor_link.specs.declared.link.Ears as ears
 use Rattle.domain_obj.specs.declared.lending.Lent.TheVariants as lent
 
 -- the ears of this boot are out for this number, and have told nothing yet
@@ -29,12 +32,13 @@ pub record IsSilentTurn (found left : Celled) (before after : DomainPass) : Type
   pub share_is : after.share ≡ cell_share left before.number
   pub saw : after.seen ≡ history_of left
 
--- a turn in which the ears of this boot were lent, which may be
-pub record IsLent (boot : ℕ) (before after : DomainPass) : Type 0 where
+-- a turn in which the ears of this boot were lent, which may be; they are those of the cell
+pub record IsLent (boot : ℕ) (its : EarsView) (before after : DomainPass) : Type 0 where
   pub found : Celled
   pub left : Celled
   pub turn : IsSilentTurn found left before after
   pub can : boot_to_lend found ≡ Some boot
+  pub are_its : Some its ≡ ears_in found.link
   pub share : after.share ≡ with_out before.share (Some (out_for before.number boot))
 
 -- a turn in which the history stayed, and what is kept for the pass
@@ -43,7 +47,7 @@ pub record IsStill (found : Celled) (before after : DomainPass) : Type 0 where
   pub saw : after.seen ≡ history_of found
   pub share : after.share ≡ before.share
 
--- a turn in which no ears were to be had
+-- a turn in which no ears were available
 pub record IsUnheard (before after : DomainPass) : Type 0 where
   pub found : Celled
   pub still : IsStill found before after
@@ -54,10 +58,10 @@ pub record IsUnlent (before after : DomainPass) : Type 0 where
   pub found : Celled
   pub still : IsStill found before after
 
-module _ {E : Type 0} where
+module _ {E : Type 0} (g : ears.Ghosts E) where
   -- what a cell lends to this number: the ears of the boot that may be lent, or nothing where none may be
   abbrev pub LendsBy : ℕ → Celled → Celled → Lent E → Type 0
-  LendsBy n old new (lent.Ears boot ears) = (boot_to_lend old ≡ Some boot) × (new.core.turning ≡ with_ears old.core.turning (Some (out_for n boot)))
+  LendsBy n old new (lent.Ears boot ears) = (boot_to_lend old ≡ Some boot) × (new.core.turning ≡ with_ears old.core.turning (Some (out_for n boot))) × (Some (ears_view g ears) ≡ ears_in old.link)
   LendsBy n old new lent.Nobody = (boot_to_lend old ≡ None) × (new.core.turning ≡ old.core.turning)
   LendsBy n old new lent.NoMemory = new.core.turning ≡ old.core.turning
 
@@ -68,6 +72,6 @@ module _ {E : Type 0} where
 
   -- what the pass knows after such a turn
   abbrev pub HasLent : DomainPass → DomainPass → Lent E → Type 0
-  HasLent before after (lent.Ears boot ears) = IsLent boot before after
+  HasLent before after (lent.Ears boot ears) = IsLent boot (ears_view g ears) before after
   HasLent before after lent.Nobody = IsUnheard before after
   HasLent before after lent.NoMemory = IsUnlent before after

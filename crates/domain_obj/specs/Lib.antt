@@ -21,6 +21,7 @@ pub mod Refusing
 pub mod Replies
 pub mod Running
 pub mod Runs
+pub mod Sending
 pub mod Telling
 pub mod Turned
 pub mod Turns

@@ -1,4 +1,4 @@
--- What a call needs that looks, and which boot it carries once it is let in.
+-- What a call needs that looks, and which boot it carries once it is admitted.
 use Rattle.std.specs.Prelude.{◌≡◌, ℕ, Option}
 use Rattle.history_spec.specs.Begins.{Begins}
 use Rattle.domain_spec.specs.Types.{Call, Who}

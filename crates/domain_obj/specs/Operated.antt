@@ -71,7 +71,7 @@ pub record RestsSo (who : Who) (d : Call) (before after : DomainPass) (report no
   pub share : after.share ≡ before.share
   pub placed : IsPlaced place final.chapter (phase_mark before.number who final) after
 
--- the call was let in and refused, by its Admit and its Done and no other mark of the pass; nobody was asked, and what is kept
+-- the call was admitted and refused, by its Admit and its Done and no other mark of the pass; nobody was asked, and what is kept
 -- for the pass is what was
 pub record IsRefusedDone (who : Who) (d : Call) (before after : DomainPass) (report now : List (Ask × Answer)) (r : Reply) (place : Front) : Type 0 where
   pub turns : ℕ

@@ -16,7 +16,6 @@ use Rattle.domain_obj.specs.Finishing.{IsPhased, IsStillAway}
 use Rattle.domain_obj.specs.InTurn.{DomainPass}
 use Rattle.domain_obj.specs.Placing.{IsPlaced}
 use Rattle.domain_obj.specs.Running.{Goes, IsSpent}
-use Rattle.domain_core.specs.declared.next.Next.{Next}
 use Rattle.domain_core.specs.Celled.{CellShare}
 use Rattle.domain_core.specs.OfTurns.{IsToldAtEnd}
 use Rattle.domain_obj.specs.Phasing.{IsPhaseDone, PhaseDone, marks_of, phase_let_in, phase_mark}
@@ -74,7 +73,7 @@ HasFinishedPhase before after report now (one.Phased said place) = (more : List 
 HasFinishedPhase before after report now one.Spent =
     (more : List (Ask × Answer)) × (asked : Ask) × (x : Answer) × (mid : DomainPass) × IsStillAway before mid more × IsAsked mid asked × (now ≡ report ++ (more ++ told (asked ∷ []) (x ∷ []))) × IsSpent mid after
 
--- no ticket was left for a phase of this operation: before it was let in, or while it waited
+-- no ticket was left for a phase of this operation: before it was admitted, or while it waited
 pub record IsPhaseLost (who : Who) (o : OpenOperation) (before after : DomainPass) (report now : List (Ask × Answer)) : Type 0 where
   pub turns : ℕ
   pub marks : List (ℕ × Mark ℕ)

@@ -41,7 +41,7 @@ pub record PhaseDone : Type 0 where
 abbrev pub phase_mark : ℕ → Who → PhaseDone → Mark ℕ
 phase_mark n who p = mark.Phase n who p.phase p.asks p.answers p.next p.events
 
--- its two marks, of its chapter: it was let in for the call of its operation
+-- its two marks, of its chapter: it was admitted for the call of its operation
 abbrev pub marks_of : ℕ → Who → Call → PhaseDone → List (ℕ × Mark ℕ)
 marks_of n who d p = tagged p.chapter (mark.Admit n who job.Nested d p.boot ∷ phase_mark n who p ∷ [])
 
@@ -62,11 +62,11 @@ pub record IsOverFor (who : Who) (o : OpenOperation) (pass : DomainPass) : Type 
   pub operation : pass.share.kept.operation ≡ Some o
   pub over : CanEnd (Some o) pass.number who
 
--- the phase as it was let in
+-- the phase as it was admitted
 abbrev pub phase_let_in : ℕ → Who → OpenOperation → Option ℕ → OpenJob
 phase_let_in n who o boot = record { number = n; who = who; job = job.Nested; call = o.call; boot = boot; before = None }
 
--- it was let in, and asks this; nobody was asked before
+-- it was admitted, and asks this; nobody was asked before
 pub record IsPhaseAway (who : Who) (o : OpenOperation) (before after : DomainPass) (x : Ask) (sent : Bool) : Type 0 where
   pub chapter : ℕ
   pub boot : Option ℕ

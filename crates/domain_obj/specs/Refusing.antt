@@ -29,7 +29,7 @@ pub record IsLeftUndone (before after : DomainPass) (report now : List (Ask × A
   pub reported : now ≡ report
   pub share : after.share ≡ before.share
 
--- no ticket was left before the call was let in: it left no mark of the pass, and nobody was asked
+-- no ticket was left before the call was admitted: it left no mark of the pass, and nobody was asked
 pub record IsSpentWaiting (before after : DomainPass) (report now : List (Ask × Answer)) : Type 0 where
   pub turns : ℕ
   pub last : DomainPass

@@ -1,4 +1,4 @@
--- One turn of a call that is not let in yet: what it leaves of the pass.
+-- One turn of a call that is not admitted yet: what it leaves of the pass.
 use Rattle.std.specs.Prelude.{◌≡◌, ◌≤◌, ℕ, List, [], ◌∷◌, is_some, length, slice_get, Bool, false, Option, None, Some}
 use Rattle.history_spec.specs.Begins.{Begins}
 use Rattle.history_spec.specs.Chapter.{tagged}
@@ -38,7 +38,7 @@ pub record IsReadyToLook (who : Who) (d : Call) (f : First) (pass : DomainPass) 
 abbrev pub waiting_as : Option Who → CellShare → CellShare
 waiting_as waits s = record s { kept = record s.kept { waits = waits } }
 
--- the call as it was let in
+-- the call as it was admitted
 abbrev pub job_let_in : ℕ → Who → Call → Option ℕ → OpenJob
 job_let_in n who d boot = record { number = n; who = who; job = job_of d; call = d; boot = boot; before = None }
 
@@ -51,7 +51,7 @@ pub record WasLetIn (f : First) (chapter : ℕ) (boot : Option ℕ) (admit : Mar
   pub there : chapter ≡ after.seen.chapter → slice_get after.seen.marks (length admitted.marks) ≡ Some admit
   pub carries : boot ≡ boot_first f (live_boot (standing_after admitted).state)
 
--- it was let in and done; nobody was asked
+-- it was admitted and done; nobody was asked
 pub record IsDoneAtOnce (who : Who) (d : Call) (f : First) (before after : DomainPass) (r : Reply) (place : Front) : Type 0 where
   pub fresh : before.spent ≡ false
   pub chapter : ℕ
@@ -66,7 +66,7 @@ pub record IsDoneAtOnce (who : Who) (d : Call) (f : First) (before after : Domai
   pub placed : IsPlaced place chapter (mark.Done before.number who d boot asks answers r events) after
   pub let_in : WasLetIn f chapter boot (mark.Admit before.number who (job_of d) d boot) before after
 
--- it was let in, and asks this; nobody was asked before
+-- it was admitted, and asks this; nobody was asked before
 pub record IsAwayNow (who : Who) (d : Call) (f : First) (before after : DomainPass) (x : Ask) (sent : Bool) : Type 0 where
   pub fresh : before.spent ≡ false
   pub chapter : ℕ
@@ -105,7 +105,7 @@ pub record IsLeftNow (before after : DomainPass) : Type 0 where
   pub goes : Goes 1 [] before after
   pub share : after.share ≡ waiting_as None before.share
 
--- what a turn leaves of the pass of a call that was not let in before it
+-- what a turn leaves of the pass of a call that was not admitted before it
 module _ {G M E Z : Type 0} where
   abbrev pub HasTried : Who → Call → First → ℕ → DomainPass → DomainPass → Front → Attempt G M E Z → Type 0
   HasTried who d f turns before after place (attempt.Done r) = IsDoneAtOnce who d f before after r place

@@ -1,5 +1,5 @@
 -- The turn of an answer: what it leaves of the pass, and what the pass has open then.
-use Rattle.std.specs.Prelude.{◌≡◌, ◌++◌, ℕ, List, is_some, Option, None, Some}
+use Rattle.std.specs.Prelude.{◌≡◌, ◌++◌, ℕ, List, is_some, Option, Some}
 use Rattle.history_spec.specs.Chapter.{tagged}
 use Rattle.history_spec.specs.Pass.{AreOf, own}
 use Rattle.virt_types.specs.Below.types_base.declared.caller.Front.{Front}

@@ -1,8 +1,10 @@
 // Who answers what a call asks.
-ghost use Rattle.std.specs.Prelude.{◌≡◌, ◌∷◌, ◌++◌, [], List, is_some};
+ghost use Rattle.std.specs.Prelude.{◌≡◌, ◌∷◌, ◌++◌, [], List, is_some, option_map};
 ghost use Rattle.domain_obj.specs.Asking.{FitsAsk, IsAsked, IsBetween};
+ghost use Rattle.domain_obj.specs.Sending.{SendsToGuest};
+ghost use Rattle.monitor_link.specs.Views.{link_view};
 ghost use Rattle.domain_spec.specs.Types.{Answer as TheAnswer, Ask as TheAsk};
-ghost use Rattle.domain_core.specs.Tickets.{IsCounted};
+ghost use Rattle.domain_core.specs.Tickets.{IsCounted, IsLinkAsked};
 ghost use Rattle.domain_core.specs.OfShares.{told};
 
 use crate::turns::DomainPass;
@@ -27,7 +29,9 @@ pub trait Desk<G: Guests> {
     ) -> (Answer, Option<Link<G>>)
         requires { IsAsked pass.now asked.now }
         ensures monitor { is_some ticket.new.monitor ≡ is_some ticket.old.monitor }
+        ensures sent { SendsToGuest G.M.Monitor asked.now ticket.old.monitor ticket.new.monitor result.0 }
         ensures fits { FitsAsk asked.now (is_some ticket.old.monitor) result.0 (is_some result.1) }
+        ensures made { IsLinkAsked asked.now (option_map (link_view G.M.Monitor G.E.Ears G.Z.Killer) result.1) }
         ensures counted { IsCounted G.M.ends G.M.faults ticket.new.monitor result.0 }
         ensures report { report self.new ≡ report self.old ++ told (asked.now ∷ []) (result.0 ∷ []) };
 

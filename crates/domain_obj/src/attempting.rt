@@ -1,8 +1,10 @@
-// What a call does in one turn until it is let in.
-ghost use Rattle.std.specs.Prelude.{◌≡◌, ◌<◌, ◌^◌, None};
-ghost use Rattle.domain_obj.specs.Attempting.{Attempts, Tries};
+// What a call does in one turn until it is admitted.
+ghost use Rattle.std.specs.Prelude.{◌≡◌, ◌<◌, ◌^◌, None, Some};
+ghost use Rattle.domain_core.specs.Celled.{cell_in};
+ghost use Rattle.domain_obj.specs.Attempting.{Attempts, Tries, killed_at_first};
 ghost use Rattle.domain_obj.specs.Looking.{MayLook, first_after};
 ghost use Rattle.domain_spec.specs.Call.{begins, takes_up};
+ghost use Rattle.domain_spec.specs.Kept.{looks_of};
 
 use crate::{DomainTurn, end_long_chapter, give_up_in, look_in};
 use domain_core::{Look, Ticket};
@@ -18,9 +20,9 @@ pub const ENOUGH: u32 = 30;
 /// What became of a call in a turn in which it looked.
 #[derive(Drop)]
 pub enum Attempt<G: Guests> {
-    /// It was let in, and is done; its caller is told this.
+    /// It was admitted, and is done; its caller is told this.
     Done(Reply),
-    /// It was let in, and asks this.
+    /// It was admitted, and asks this.
     Away(Ticket<G>, Ask),
     /// Its job is excluded, and it waits; this boot is live.
     Waits(Option<u64>),
@@ -46,11 +48,18 @@ pub fn kept_first(call: &Call, first: First, boot: Option<u64>) -> First
 }
 
 // A Destroy that is excluded at its first look ends the guest that is there, without asking it. It may wait for the guest.
-fn kill_first<G: Guests>(turn: &mut DomainTurn<G>, call: &Call, first: First)
-    ensures same { turn.new ≡ turn.old }
+fn kill_first<G: Guests>(turn: &mut DomainTurn<G>, who: Who, call: &Call, looks: u32)
+    requires excluded { turn.old.value.core.excluded ≡ Some (record { who = who; call = call.now }) }
+    requires looks { looks ≡ looks_of (cell_in turn.old.value).queue.callers who }
+    ensures value { turn.new.value ≡ killed_at_first call.now looks turn.old.value }
+    ensures same { turn.new ≡ record turn.old { value = turn.new.value } }
 {
-    match (call, first) {
-        (Call::Destroy, First::Now) => turn.value().kill(),
+    match call {
+        Call::Destroy => {
+            if looks == 1 {
+                turn.value().kill(who);
+            }
+        }
         _ => {}
     }
 }
@@ -78,7 +87,7 @@ fn look_or_give_up<G: Guests>(
                 give_up_in(turn, alloc, who, call);
                 return Attempt::GaveUp(held);
             }
-            kill_first(turn, call, first);
+            kill_first(turn, who, call, looks);
             Attempt::Waits(boot)
         }
         Look::WaitersFull(_) => Attempt::WaitersFull,

@@ -1,4 +1,4 @@
-// One turn of a call that is not let in yet.
+// One turn of a call that is not admitted yet.
 ghost use Rattle.std.specs.Prelude.{◌≡◌, IfErr, IfOk, None};
 ghost use Rattle.domain_obj.specs.Running.{IsSpent};
 ghost use Rattle.domain_obj.specs.Turned.{HasTried, IsReadyToLook};

@@ -1,9 +1,10 @@
 // The turn of an answer.
-ghost use Rattle.std.specs.Prelude.{◌≡◌, IfErr, IfOk, is_some};
+ghost use Rattle.std.specs.Prelude.{◌≡◌, IfErr, IfOk, is_some, option_map};
 ghost use Rattle.domain_obj.specs.Asking.{MayBeAnswered};
 ghost use Rattle.domain_obj.specs.Running.{IsSpent};
 ghost use Rattle.domain_obj.specs.Turns.{HasAnswered};
-ghost use Rattle.domain_core.specs.Tickets.{IsCounted};
+ghost use Rattle.domain_core.specs.Tickets.{IsCounted, IsLinkAsked};
+ghost use Rattle.monitor_link.specs.Views.{link_view};
 
 use crate::turns::{DomainPass, back_in, last_in, told_legal};
 use domain_core::{Back, DomainCell, Ticket};
@@ -27,6 +28,7 @@ pub fn answer_once<G: Guests, R: Wait>(
 ) -> Result<(DomainPass<G>, Back<G>, Front), DomainPass<G>>
     requires own { pass.cell ≡ cell.now }
     requires may { MayBeAnswered pass asked.now (is_some ticket.monitor) answer (is_some made) }
+    requires made { IsLinkAsked asked.now (option_map (link_view G.M.Monitor G.E.Ears G.Z.Killer) made) }
     requires counted { IsCounted G.M.ends G.M.faults ticket.monitor answer }
     ensures ok { IfOk result (λ r. HasAnswered asked.now answer pass r.0 r.1 r.2) }
     ensures spent { IfErr result (λ after. IsSpent pass after) }

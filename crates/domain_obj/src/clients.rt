@@ -35,7 +35,7 @@ fn told_owed<G: Guests>(turn: &mut DomainTurn<G>)
     turn.value().holds();
 }
 
-// All that pends for a client is let go of, and then a loss that is due; where it is to end, its registration
+// All that pends for a client is dropped, and then a loss that is due; where it is to end, its registration
 // ends. The answer is whether its loss was due.
 fn settle<G: Guests>(cell: &mut DomainCell<G>, by: Stamp, client: u32, end: bool) -> bool
     requires can { CanTake (cell_in cell.old) (step.Take by.number client) }
@@ -158,7 +158,7 @@ fn drop_in<G: Guests>(turn: &mut DomainTurn<G>, client: u32) -> bool
     drop_as(turn, client)
 }
 
-// Takes a turn, in which all that pends for a client of the pass is let go of, a loss that is due, and its registration.
+// Takes a turn, in which all that pends for a client of the pass is dropped, a loss that is due, and its registration.
 // It takes no memory. A pass for which no ticket is left comes back as the error.
 fn drop_once<G: Guests, R: Wait>(
     rt: &R,
@@ -263,7 +263,7 @@ impl<G: Guests> DomainObj<G> {
         take_once(rt, self.turn_cell(), alloc, pass, client, end)
     }
 
-    /// All that pends for a client of the pass is let go of, a loss that is due, and its registration, in one turn. It
+    /// All that pends for a client of the pass is dropped, a loss that is due, and its registration, in one turn. It
     /// takes no memory. A pass for which no ticket is left comes back as the error.
     pub fn drop_events<R: Wait>(
         &self,

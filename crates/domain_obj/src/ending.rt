@@ -1,4 +1,4 @@
-// What becomes of a call, and how one ends that was let in and asks.
+// What becomes of a call, and how one ends that was admitted and asks.
 ghost use Rattle.std.specs.Prelude.{◌≡◌, None, is_some};
 ghost use Rattle.domain_obj.specs.Finishing.{IsAway};
 ghost use Rattle.domain_obj.specs.Ending.{HasEnded};
@@ -14,7 +14,7 @@ use virt_types::{Ask, Front, Reply};
 /// What became of a call.
 #[derive(Drop)]
 pub enum Called {
-    /// It was let in and done, and its caller is told this; its Done is here.
+    /// It was admitted and done, and its caller is told this; its Done is here.
     Done(Reply, Front),
     /// Thirty of its looks or more found its job excluded, and it is refused; its Refused is here.
     TimedOut(Reply, Front),
@@ -22,7 +22,7 @@ pub enum Called {
     WaitersFull(Reply, Front),
     /// There was no memory for it, and nothing is left of it.
     NoMemory,
-    /// No ticket was left before it was let in.
+    /// No ticket was left before it was admitted.
     Spent,
     /// No ticket was left for the answer to something that it asked.
     SpentAway,

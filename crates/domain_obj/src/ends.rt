@@ -8,7 +8,7 @@ pub enum Hushed {
     Quiet(Seen),
     /// There was no memory to hear.
     NoMemory(Seen),
-    /// No ears were to be had: no guest is there, somebody else has them, or 64 events are held.
+    /// No ears were available: no guest is there, somebody else has them, or 64 events are held.
     Unheard(Seen),
     /// As much was heard as may be at once; there may be more.
     Often(Seen),

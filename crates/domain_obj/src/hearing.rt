@@ -15,7 +15,7 @@ use turn_cell::TurnCell;
 // How many things are heard at most.
 const MOST: u64 = 64;
 
-/// The pass hears the guest until its ears have nothing more to report, or none are to be had, or 64 things were heard: it
+/// The pass hears the guest until its ears have nothing more to report, or none are available, or 64 things were heard: it
 /// takes the ears in one turn, hears while it has none, and in another turn what was heard applies, and the ears are given
 /// back. It may wait for the guest.
 pub fn hear<G: Guests, R: Wait>(

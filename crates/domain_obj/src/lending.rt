@@ -17,7 +17,7 @@ use virt_types::NoMemory;
 pub enum Lent<E> {
     /// The ears of this boot.
     Ears(u64, E),
-    /// Nothing: no ears are to be had.
+    /// Nothing: no ears are available.
     Nobody,
     /// Nothing: there was no memory.
     NoMemory,
@@ -26,7 +26,7 @@ pub enum Lent<E> {
 // The ears of the guest that is there are lent, under this number.
 fn lend_as<G: Guests>(turn: &mut DomainTurn<G>, alloc: Global) -> Lent<G::E>
     ghost number: { ℕ }
-    ensures lends { LendsIn number turn.old.value turn.new.value result }
+    ensures lends { LendsIn G.E.Ears number turn.old.value turn.new.value result }
     ensures same { turn.new ≡ record turn.old { value = turn.new.value } }
 {
     let by = Stamp::named();
@@ -39,7 +39,7 @@ fn lend_as<G: Guests>(turn: &mut DomainTurn<G>, alloc: Global) -> Lent<G::E>
 
 // The ears of the guest that is there are lent, under the number of the pass that has the turn.
 fn lend_in<G: Guests>(turn: &mut DomainTurn<G>, alloc: Global) -> Lent<G::E>
-    ensures lends { LendsIn turn.old.pass.number turn.old.value turn.new.value result }
+    ensures lends { LendsIn G.E.Ears turn.old.pass.number turn.old.value turn.new.value result }
     ensures same { turn.new ≡ record turn.old { value = turn.new.value } }
 {
     lend_as(turn, alloc)
@@ -54,7 +54,7 @@ pub fn lend_once<G: Guests, R: Wait>(
     pass: DomainPass<G>,
 ) -> Result<(DomainPass<G>, Lent<G::E>, Seen), DomainPass<G>>
     requires own { pass.cell ≡ cell.now }
-    ensures ok { IfOk result (λ r. HasLent pass r.0 r.1) }
+    ensures ok { IfOk result (λ r. HasLent G.E.Ears pass r.0 r.1) }
     ensures seen { IfOk result (λ r. IsSeen r.2 r.0) }
     ensures spent { IfErr result (λ after. IsSpent pass after) }
 {

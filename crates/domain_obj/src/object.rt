@@ -77,7 +77,7 @@ impl<G: Guests> DomainObj<G> {
     }
 
     /// A call over the domain, which neither begins an operation nor takes one up. Where its job is excluded it waits, and
-    /// is refused after thirty looks (68), or at once where 32 others wait (203). Once it is let in the desk is asked,
+    /// is refused after thirty looks (68), or at once where 32 others wait (203). Once it is admitted the desk is asked,
     /// while the pass has no turn, until the call is done. Then the pass hears the guest. Without a ticket it is refused
     /// with 211, and the pass that comes back is spent; without memory with 2, and nothing is left of it.
     pub fn run<D: Desk<G>, R: Wait>(
@@ -102,10 +102,10 @@ impl<G: Guests> DomainObj<G> {
     }
 
     /// A call over the domain that begins an operation or takes one up. Where its job is excluded it waits, and is refused
-    /// after thirty looks (68), or at once where 32 others wait (203). Once it is let in its operation goes on phase after
+    /// after thirty looks (68), or at once where 32 others wait (203). Once it is admitted its operation goes on phase after
     /// phase, until it ends or rests; a phase that is excluded waits without a limit. The desk is asked while the pass has
     /// no turn. Then the pass hears the guest. Without a ticket the call is refused with 211, and the pass that comes back
-    /// is spent: where the operation was let in it stays open. Without memory before that it is refused with 2, and nothing
+    /// is spent: where the operation was admitted it stays open. Without memory before that it is refused with 2, and nothing
     /// is left of it.
     pub fn run_op<D: Desk<G>, R: Wait>(
         &self,
@@ -127,7 +127,7 @@ impl<G: Guests> DomainObj<G> {
         (pass, reply, place_at(place, seen_by(hushed)))
     }
 
-    /// The pass hears the guest until its ears have nothing more to report, none are to be had, or 64 things were heard.
+    /// The pass hears the guest until its ears have nothing more to report, none are available, or 64 things were heard.
     pub fn hear<R: Wait>(
         &self,
         rt: &R,

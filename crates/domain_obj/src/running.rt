@@ -18,7 +18,7 @@ use std::sync::Wait;
 use turn_cell::TurnCell;
 use virt_types::{Call, RefusalCode, Who};
 
-// It takes turns until it is let in or refused, with this room for a refusal.
+// It takes turns until it is admitted or refused, with this room for a refusal.
 fn run_in<G: Guests, D: Desk<G>, R: Wait>(
     rt: &R,
     cell: &TurnCell<DomainCell<G>>,
@@ -66,8 +66,8 @@ fn run_in<G: Guests, D: Desk<G>, R: Wait>(
     unreachable!()
 }
 
-/// A call takes turns until it is let in: where its job is excluded it rests and looks again, and in the turn of its
-/// thirtieth look it gives up. Once it is let in the desk is asked, while the pass has no turn, until the call is done. It
+/// A call takes turns until it is admitted: where its job is excluded it rests and looks again, and in the turn of its
+/// thirtieth look it gives up. Once it is admitted the desk is asked, while the pass has no turn, until the call is done. It
 /// neither begins an operation nor takes one up. Before each look, in the same turn, a chapter ends that holds 4,096 marks.
 pub fn run_call<G: Guests, D: Desk<G>, R: Wait>(
     rt: &R,

@@ -67,7 +67,7 @@ fn tell_in<G: Guests>(turn: &mut DomainTurn<G>, boot: u64, ears: G::E, told: Opt
 }
 
 /// Takes a turn, in which what these ears heard is told, and they are given back; with what the pass has seen then. A pass
-/// for which no ticket is left comes back as the error, and the ears are let go.
+/// for which no ticket is left comes back as the error, and the ears are dropped.
 pub fn tell_once<G: Guests, R: Wait>(
     rt: &R,
     cell: &TurnCell<DomainCell<G>>,

@@ -1,18 +1,20 @@
 // What a pass does in its turn, under its own number.
-ghost use Rattle.std.specs.Prelude.{◌≡◌, ◌<◌, ◌^◌, ℕ, IfOk, OnErr, OnOk, Some, is_some, length};
+ghost use Rattle.std.specs.Prelude.{◌≡◌, ◌<◌, ◌^◌, ℕ, IfOk, OnErr, OnOk, Some, is_some, length, option_map};
 ghost use Rattle.domain_spec.specs.CanTake.{CanLook, CanTake, WaitsAsNoOther};
 ghost use Rattle.domain_spec.specs.Fold.{at_base};
 ghost use Rattle.domain_spec.specs.Laws.{IsCounted as AreBootsCounted};
 ghost use Rattle.domain_spec.specs.Legal.{IsLegal};
 ghost use Rattle.domain_spec.specs.Read.{read};
 ghost use Rattle.domain_spec.specs.declared.core_step.CoreStep.TheVariants as step;
-ghost use Rattle.domain_core.specs.Celled.{cell_in, standing_in};
+ghost use Rattle.domain_core.specs.Celled.{cell_in, link_kept, standing_in};
 ghost use Rattle.domain_core.specs.Core.{is_occupied};
 ghost use Rattle.domain_obj.specs.InTurn.{EndsChapter, GivesUp, GoesBackIn, IsNotRenewed, IsRenewed, LooksIn};
 ghost use Rattle.domain_obj.specs.Placing.{IsLastPlace};
 ghost use Rattle.domain_core.specs.OfTurns.{IsKnownFirst};
 ghost use Rattle.domain_core.specs.Held.{IsOutWith};
-ghost use Rattle.domain_core.specs.Tickets.{IsAnswered, IsCounted};
+ghost use Rattle.domain_core.specs.Linked.{link_by};
+ghost use Rattle.domain_core.specs.Tickets.{IsAnswered, IsCounted, IsMadeAsAsked, look_ticket};
+ghost use Rattle.monitor_link.specs.Views.{link_view};
 ghost use Rattle.domain_core.specs.OfShares.{IsSteady};
 
 use crate::place::Seen;
@@ -81,6 +83,7 @@ fn look_as<G: Guests>(
     requires can { CanLook (cell_in turn.old.value) number who call.now first }
     requires known { IsKnownFirst first (cell_in turn.old.value) }
     ensures looks { LooksIn number who call.now first turn.old.value turn.new.value result }
+    ensures link { turn.new.value.link ≡ link_by (is_some (look_ticket result)) (link_kept turn.old.value turn.new.value) }
     ensures same { turn.new ≡ record turn.old { value = turn.new.value } }
 {
     let by = Stamp::named();
@@ -98,6 +101,7 @@ pub fn look_in<G: Guests>(
     requires can { CanLook (cell_in turn.old.value) turn.old.pass.number who call.now first }
     requires known { IsKnownFirst first (cell_in turn.old.value) }
     ensures looks { LooksIn turn.old.pass.number who call.now first turn.old.value turn.new.value result }
+    ensures link { turn.new.value.link ≡ link_by (is_some (look_ticket result)) (link_kept turn.old.value turn.new.value) }
     ensures same { turn.new ≡ record turn.old { value = turn.new.value } }
 {
     look_as(turn, alloc, who, call, first)
@@ -137,6 +141,7 @@ fn back_as<G: Guests>(
     requires can { CanTake (cell_in turn.old.value) (step.Back number answer) }
     requires ticket { is_some ticket.monitor ≡ is_some turn.old.value.out }
     requires answered { IsAnswered (cell_in turn.old.value) (is_some ticket.monitor) answer (is_some made) }
+    requires made { IsMadeAsAsked (cell_in turn.old.value) (option_map (link_view G.M.Monitor G.E.Ears G.Z.Killer) made) }
     requires counted { IsCounted G.M.ends G.M.faults ticket.monitor answer }
     ensures back { GoesBackIn number answer turn.old.value turn.new.value result }
     ensures same { turn.new ≡ record turn.old { value = turn.new.value } }
@@ -156,6 +161,7 @@ pub fn back_in<G: Guests>(
     requires can { CanTake (cell_in turn.old.value) (step.Back turn.old.pass.number answer) }
     requires ticket { is_some ticket.monitor ≡ is_some turn.old.value.out }
     requires answered { IsAnswered (cell_in turn.old.value) (is_some ticket.monitor) answer (is_some made) }
+    requires made { IsMadeAsAsked (cell_in turn.old.value) (option_map (link_view G.M.Monitor G.E.Ears G.Z.Killer) made) }
     requires counted { IsCounted G.M.ends G.M.faults ticket.monitor answer }
     ensures back { GoesBackIn turn.old.pass.number answer turn.old.value turn.new.value result }
     ensures same { turn.new ≡ record turn.old { value = turn.new.value } }

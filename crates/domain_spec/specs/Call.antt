@@ -1,18 +1,18 @@
 -- The calls on a domain: which job each takes, and what it asks of the guest or of the store.
-use Rattle.std.specs.Prelude.{ℕ, List, [], ◌∷◌, ◌++◌, Bool, true, false, Option, None, Some, unsigned_abs}
-use Rattle.domain_spec.specs.Types.{Ask, Call, Command, DeviceDef, Domain, DomainDef, Interface, Job, Live, Mac, OpKind, Phase, State}
+use Rattle.std.specs.Prelude.{List, [], ◌∷◌, Bool, true, false, Option, None, Some, unsigned_abs}
+use Rattle.domain_spec.specs.Types.{Ask, Call, Domain, DomainDef, Job, Live, OpKind, Phase, State}
 use Rattle.domain_spec.specs.Types.ask
 use Rattle.domain_spec.specs.Types.call
 use Rattle.domain_spec.specs.Types.command
-use Rattle.domain_spec.specs.Types.device
 use Rattle.domain_spec.specs.Types.job
 use Rattle.domain_spec.specs.Types.kind
 use Rattle.domain_spec.specs.Types.phase
 use Rattle.domain_spec.specs.Types.state
 use Rattle.domain_spec.specs.declared.planned.PlannedAsk.{PlannedAsk}
-use Rattle.domain_spec.specs.Asks.{plain, undone_by}
+use Rattle.domain_spec.specs.Asks.{plain}
 use Rattle.domain_spec.specs.Reading.{is_running, is_paused}
-use Rattle.domain_spec.specs.Devices.{device_like, free_slot, is_on_network, network_of}
+use Rattle.domain_spec.specs.Devices.{device_like, free_slot}
+pub use Rattle.domain_spec.specs.Plans.{attach_plan, detach_plan, device_lease, lease_for, lease_if, lease_of, tell, tell_if}
 
 -- the normal job that each call takes; a call that begins an operation takes Modify
 abbrev pub job_of : Call → Job
@@ -65,50 +65,6 @@ is_on_stored (call.Define def) = true
 is_on_stored call.Undefine = true
 is_on_stored (call.SetAutostart on) = true
 is_on_stored other = false
-
--- one command
-abbrev pub tell : Command → List Ask
-tell c = ask.Command c ∷ []
-
--- one command where it is wanted
-abbrev pub tell_if : Bool → Command → List Ask
-tell_if true c = tell c
-tell_if false c = []
-
--- an address is asked for where the interface has a MAC
-abbrev pub lease_for : List ℕ → Option Mac → List Ask
-lease_for network None = []
-lease_for network (Some mac) = ask.Lease network mac ∷ []
-
--- an address is asked for where the interface is on a network
-abbrev pub lease_if : Bool → Interface → List Ask
-lease_if true i = lease_for (network_of i) i.mac
-lease_if false i = []
-
--- an interface of type network gets an address
-abbrev pub lease_of : Interface → List Ask
-lease_of i = lease_if (is_on_network i.kind) i
-
--- a disk needs no address
-abbrev pub device_lease : DeviceDef → List Ask
-device_lease (device.Disk d) = []
-device_lease (device.Interface i) = lease_of i
-
--- the host's side of a device is added first, then the guest's; where that is refused, the host's
--- side is removed again
-abbrev pub attach_plan : DeviceDef → Option ℕ → List PlannedAsk
-attach_plan d None = []
-attach_plan d (Some slot) =
-    plain (device_lease d ++ tell (command.AddBackend slot d))
-    ++ undone_by (tell (command.RemoveBackend slot)) (tell (command.AddDevice slot d))
-
--- the guest's side of a device is removed first, then the host's; where that is refused, the guest's
--- side is added again
-abbrev pub detach_plan : Option (ℕ × DeviceDef) → List PlannedAsk
-detach_plan None = []
-detach_plan (Some placed) =
-    plain (tell (command.RemoveDevice placed.0))
-    ++ undone_by (tell (command.AddDevice placed.0 placed.1)) (tell (command.RemoveBackend placed.0))
 
 -- the one command of a call on a live guest
 abbrev pub command_of : Live → Call → List Ask

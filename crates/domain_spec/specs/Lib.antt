@@ -41,3 +41,8 @@ pub mod TakeUp
 pub mod Tests
 pub mod Types
 pub mod WholeOperation
+pub mod Conditions
+pub mod Planned
+pub mod Listeners
+pub mod GuestSteps
+pub mod Plans

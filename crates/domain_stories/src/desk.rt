@@ -1,8 +1,10 @@
 // The desk of one thread: it answers at once, and may hold its pass before a phase until it is set free.
-ghost use Rattle.std.specs.Prelude.{◌≡◌, [], ◌∷◌, ◌++◌, is_some};
+ghost use Rattle.std.specs.Prelude.{◌≡◌, [], ◌∷◌, ◌++◌, is_some, option_map};
 ghost use Rattle.domain_threads.specs.Below.domain_obj.Asking.{FitsAsk, IsAsked, IsBetween};
 ghost use Rattle.domain_spec.specs.Asks.{is_ok_answer};
-ghost use Rattle.domain_threads.specs.Below.domain_obj.OfCells.{IsAnsweredAs, IsCounted, comes, told};
+ghost use Rattle.domain_threads.specs.Below.domain_obj.OfCells.{IsAnsweredAs, IsCounted, IsLinkAsked, comes, told};
+ghost use Rattle.domain_threads.specs.Below.domain_obj.Sending.{SendsToGuest};
+ghost use Rattle.monitor_link.specs.Views.{link_view};
 
 use crate::report::Report;
 use crate::scene::Scene;
@@ -50,8 +52,10 @@ fn ask_whom<G: Guests>(
     monitor: &mut Option<G::M>,
     asked: &Ask,
 ) -> (Answer, Option<Link<G>>)
+    ensures sent { SendsToGuest G.M.Monitor asked.now monitor.old monitor.new result.0 }
     ensures answered { IsAnsweredAs (is_some monitor.old) asked.now result.0 }
     ensures counted { IsCounted G.M.ends G.M.faults monitor.new result.0 }
+    ensures made { IsLinkAsked asked.now (option_map (link_view G.M.Monitor G.E.Ears G.Z.Killer) result.1) }
     ensures link { is_some result.1 ≡ comes asked.now (is_ok_answer result.0) }
     ensures monitor { is_some monitor.new ≡ is_some monitor.old }
 {

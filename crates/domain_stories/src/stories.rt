@@ -161,7 +161,7 @@ pub(crate) const STORIES: &[Story] = &[
         told: &[],
     },
     // The monitor withholds its answer to a suspend until one of 33 other threads, which wait for it, is turned away; then
-    // the others are let in.
+    // the others are admitted.
     Story {
         title: "33 wait",
         manner: Manner::Withholds(Withheld::Stop, Signal::Full),

@@ -12,7 +12,8 @@ use Rattle.domain_obj.specs.Below.domain_core.contracts.turns.DomainTurns.TheIns
 use Rattle.event_queue.proofs.listeners.Listeners.TheSendSync as listeners
 use Rattle.job_rules.proofs.queue.Queue.TheSendSync as queue
 use Rattle.monitor_link.specs.declared.link.Ears as ears
-use Rattle.monitor_link.specs.declared.link.Guests as guests
+use Rattle.monitor_link.specs.declared.guests.Guests as guests
+use Rattle.monitor_link.specs.declared.link.Killer as killer
 use Rattle.monitor_link.specs.declared.link.Monitor as monitor
 use Rattle.domain_obj.specs.Below.core_log.contracts.record.Record
 use Rattle.domain_obj.specs.Below.core_log.contracts.record.Record.TheInside as kept
@@ -47,7 +48,7 @@ turns_send = view_send turns.the_row _ _ _ _ (recorded_send (turns.the_field).ro
   ),
 )))
 
-module _ (G M E Z : RattleType) (g : guests.Ghosts G.Denot M.Denot E.Denot Z.Denot) (m : monitor.Ghosts M.Denot) (e : ears.Ghosts E.Denot) where
-  pub cell_send : IsSend M → IsSend E → IsSend Z → IsSend (DomainCell.the_row G M E Z g m e)
-  cell_send sm se sz = let T = cell.the_type G M E Z g m e in view_send (cell.the_row G M E Z g m e) _ _ _ _ (recorded_send (cell.the_field G M E Z g m e).row _ _ T.to_one (struct_send (struct.shape T)
-      (turns_send, (option.the_field_send (Here.the_row G M E Z g m e) (here.the_send G M E Z g m e sm se sz), (option.the_field_send u64 (plain_send _ _ _ _ _), tt)))))
+module _ (G M E Z : RattleType) (g : guests.Ghosts G.Denot M.Denot E.Denot Z.Denot) (m : monitor.Ghosts M.Denot) (e : ears.Ghosts E.Denot) (z : killer.Ghosts Z.Denot) where
+  pub cell_send : IsSend M → IsSend E → IsSend Z → IsSend (DomainCell.the_row G M E Z g m e z)
+  cell_send sm se sz = let T = cell.the_type G M E Z g m e z in view_send (cell.the_row G M E Z g m e z) _ _ _ _ (recorded_send (cell.the_field G M E Z g m e z).row _ _ T.to_one (struct_send (struct.shape T)
+      (turns_send, (option.the_field_send (Here.the_row G M E Z g m e z) (here.the_send G M E Z g m e z sm se sz), (option.the_field_send u64 (plain_send _ _ _ _ _), tt)))))

@@ -26,7 +26,7 @@ use Rattle.driver_service.specs.Below.driver_cells.contracts.cells.Cells
 use Rattle.driver_crossing.proofs.Shared.{room_sync}
 use Rattle.files_disk.specs.declared.files.Files as files
 use Rattle.monitor_link.specs.declared.link.Ears as ears
-use Rattle.monitor_link.specs.declared.link.Guests as guests
+use Rattle.monitor_link.specs.declared.guests.Guests as guests
 use Rattle.monitor_link.specs.declared.link.Killer as killer
 use Rattle.monitor_link.specs.declared.link.Monitor as monitor
 use Rattle.object_list.proofs.list.ObjectList.TheSendSync as object_list
@@ -56,7 +56,7 @@ module _ (F K G M E Z : RattleType) (f : files.Ghosts F.Denot) (k : opening.Ghos
   Storing = Keeper.the_row F K f k
 
   abbrev Celled : RattleType
-  Celled = DomainCell.the_row G M E Z g m e
+  Celled = DomainCell.the_row G M E Z g m e z
 
   -- lists that marks of the list of domains speak of
   abbrev Listed : RattleType → RattleType
@@ -75,7 +75,7 @@ module _ (F K G M E Z : RattleType) (f : files.Ghosts F.Denot) (k : opening.Ghos
   pub row_send : IsSend (RowOf.the_row ObjectList.the_row Storing Celled G (Listed (Option.the_row Entry.the_row)) ListMark.the_row (Listed u64) StoreBase.the_row StoreMark.the_row unit Base.the_row (Mark.the_row u64) Share.the_row
       listing.ghosts stores turns)
   row_send = row.the_send ObjectList.the_row Storing Celled G (Listed (Option.the_row Entry.the_row)) ListMark.the_row (Listed u64) StoreBase.the_row StoreMark.the_row unit Base.the_row (Mark.the_row u64) Share.the_row
-      listing.ghosts stores turns object_list.the_send keeper_send (cell_send G M E Z g m e sm se sz) sg
+      listing.ghosts stores turns object_list.the_send keeper_send (cell_send G M E Z g m e z sm se sz) sg
 
   cells_field_sync : IsSync (Cells.the_field F K G M E Z f k g m e z).row
   cells_field_sync = struct_sync (struct.shape (Cells.the_type F K G M E Z f k g m e z)) (

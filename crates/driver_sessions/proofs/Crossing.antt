@@ -9,7 +9,7 @@ use Rattle.driver_sessions.specs.contracts.seats.Seated
 use Rattle.driver_sessions.specs.contracts.seats.Seated.TheInside as seated
 use Rattle.files_disk.specs.declared.files.Files as files
 use Rattle.monitor_link.specs.declared.link.Ears as ears
-use Rattle.monitor_link.specs.declared.link.Guests as guests
+use Rattle.monitor_link.specs.declared.guests.Guests as guests
 use Rattle.monitor_link.specs.declared.link.Killer as killer
 use Rattle.monitor_link.specs.declared.link.Monitor as monitor
 use Rattle.six_rows.proofs.Below.row_session.connection.SixRows.TheSendSync as six

@@ -7,7 +7,7 @@ ghost use Rattle.monitor_link.specs.Causes.{IsAnswerCaused, IsHeardCaused, IsOfG
 use crate::asks::react;
 use crate::happening::Happening;
 use crate::queue::Queue;
-use monitor_link::{Counts, Ears, Heard, Killer, Monitor};
+use monitor_link::{Counts, Heard};
 use std::alloc::Global;
 use virt_types::{Answer, Command, DomainDef, EndReason, NoMemory, ScriptEntryList, TryCopy};
 
@@ -48,19 +48,11 @@ impl SimGuest {
             counts: Counts::NONE,
         })
     }
-}
 
-impl Monitor for SimGuest {
-    ghost use Rattle.std.specs.Prelude.{None};
-
-    ghost ends = { λ g. g.counts.ends };
-
-    ghost faults = { λ g. g.counts.faults };
-
-    ghost exchanges = { λ _. None };
-
+    /// Its answer to a command, which it counts where it says that it has ended, or that the link was lost. Where there is
+    /// no memory for the answer nothing changes.
     #[inline]
-    fn ask(&mut self, command: &Command) -> Answer
+    pub fn ask(&mut self, command: &Command) -> Answer
         ensures machine { Reacts self.old command.now result self.new }
         ensures own { IsOfGuest result }
         ensures cause { IsAnswerCaused result self.new.counts.ends self.old.counts.faults self.new.counts.faults }
@@ -75,18 +67,9 @@ impl Monitor for SimGuest {
             Err(NoMemory) => Answer::NoMemory,
         }
     }
-}
 
-impl Ears for SimGuest {
-    ghost use Rattle.std.specs.Prelude.{None};
-
-    ghost ends = { λ g. g.counts.ends };
-
-    ghost faults = { λ g. g.counts.faults };
-
-    ghost unheard = { λ _. None };
-
-    fn hear(&mut self) -> Heard
+    /// What is heard of it next.
+    pub fn hear(&mut self) -> Heard
         ensures heard { result ≡ (hearing self.old).heard }
         ensures guest { self.new ≡ (hearing self.old).guest }
         ensures cause { IsHeardCaused result self.new.counts.ends self.old.counts.faults self.new.counts.faults }
@@ -108,11 +91,9 @@ impl Ears for SimGuest {
         self.counts.count_heard(heard);
         heard
     }
-}
 
-impl Killer for SimGuest {
-    /// A guest that has ended keeps its first reason.
-    fn kill(&mut self)
+    /// Ends it. A guest that has ended keeps its first reason.
+    pub fn kill(&mut self)
         ensures { self.new ≡ killed self.old }
     {
         self.ended = Some(self.ended.unwrap_or(EndReason::Killed));

@@ -1,16 +1,18 @@
 // Links to modelled guests. The parts of a link share one guest under a lock, so each may go to a thread
-// of its own; where one is let go, the others still work.
-ghost use Rattle.std.specs.Prelude.{IfErr};
+// of its own; where one is dropped, the others still work.
+ghost use Rattle.std.specs.Prelude.{◌≡◌, ◌+◌, ℕ, IfErr};
 
 use crate::guest::SimGuest;
-use monitor_link::{Counts, Ears, Guests, Heard, Killer, Link, Monitor};
+use monitor_link::{Counts, Ears, Guest, Guests, Heard, Killer, Link, Monitor, said_guest};
 use std::alloc::Global;
 use std::sync::{Arc, Mutex, Wait};
+use types_ghost::Said;
 use virt_types::{Answer, Command, DomainDef, Fault, NoMemory};
 
 /// The part of a link to a modelled guest that sends commands.
 #[derive(Drop)]
 pub struct SimMonitor<H> {
+    of: Said<Guest>,
     guest: Arc<Mutex<SimGuest>, Global>,
     rt: H,
     counts: Counts,
@@ -18,6 +20,8 @@ pub struct SimMonitor<H> {
 
 impl<H: Wait + Copy + Send + Sync> Monitor for SimMonitor<H> {
     ghost use Rattle.std.specs.Prelude.{None};
+
+    ghost guest = { λ m. m.of.value };
 
     ghost ends = { λ m. m.counts.ends };
 
@@ -35,6 +39,7 @@ impl<H: Wait + Copy + Send + Sync> Monitor for SimMonitor<H> {
 /// The part of a link to a modelled guest that hears its events.
 #[derive(Drop)]
 pub struct SimEars<H> {
+    of: Said<Guest>,
     guest: Arc<Mutex<SimGuest>, Global>,
     rt: H,
     counts: Counts,
@@ -42,6 +47,8 @@ pub struct SimEars<H> {
 
 impl<H: Wait + Copy + Send + Sync> Ears for SimEars<H> {
     ghost use Rattle.std.specs.Prelude.{None};
+
+    ghost guest = { λ e. e.of.value };
 
     ghost ends = { λ e. e.counts.ends };
 
@@ -59,14 +66,43 @@ impl<H: Wait + Copy + Send + Sync> Ears for SimEars<H> {
 /// The part of a link to a modelled guest that ends it.
 #[derive(Drop)]
 pub struct SimKiller<H> {
+    of: Said<Guest>,
+    kills: Said<u64>,
     guest: Arc<Mutex<SimGuest>, Global>,
     rt: H,
 }
 
 impl<H: Wait + Copy + Send + Sync> Killer for SimKiller<H> {
+    ghost guest = { λ z. z.of.value };
+
+    ghost kills = { λ z. z.kills.value };
+
     fn kill(&mut self) {
+        self.kills = one_more(&self.kills);
         self.guest.lock(&self.rt).kill();
     }
+}
+
+// Contracts count the calls of a killer: none yet.
+fn none_yet() -> Said<u64>
+    ensures { result.value ≡ 0 }
+{
+    Said::named()
+}
+
+// One more of them.
+fn one_more(kills: &Said<u64>) -> Said<u64>
+    ensures { result.value ≡ kills.now.value + 1 }
+{
+    after(kills)
+}
+
+// Their number is named in two steps, since a pick sees the callee's arguments alone.
+fn after(_kills: &Said<u64>) -> Said<u64>
+    ghost number: { ℕ }
+    ensures { result.value ≡ number }
+{
+    Said::named()
 }
 
 /// What makes modelled guests. It fails only where there is no memory.
@@ -100,16 +136,20 @@ impl<H: Wait + Copy + Send + Sync> Guests for SimGuests<H> {
         let for_killer = Arc::try_clone(&for_monitor)?;
         Ok(Link {
             monitor: SimMonitor {
+                of: said_guest(def, boot),
                 guest: for_monitor,
                 rt,
                 counts: Counts::NONE,
             },
             ears: SimEars {
+                of: said_guest(def, boot),
                 guest: for_ears,
                 rt,
                 counts: Counts::NONE,
             },
             killer: SimKiller {
+                of: said_guest(def, boot),
+                kills: none_yet(),
                 guest: for_killer,
                 rt,
             },

@@ -1,5 +1,5 @@
 pub mod Causes
 pub mod Counting
 pub mod Exchanges
-pub mod Faking
 pub mod Hearing
+pub mod Views

@@ -3,10 +3,12 @@
 
 mod counts;
 mod exchange;
-mod fake;
+mod guest;
+mod guests;
 mod link;
 
 pub use counts::Counts;
 pub use exchange::Exchange;
-pub use fake::Fake;
-pub use link::{Ears, Guests, Heard, Killer, Link, Monitor};
+pub use guest::{Guest, said_guest};
+pub use guests::{Guests, Link};
+pub use link::{Ears, Heard, Killer, Monitor};

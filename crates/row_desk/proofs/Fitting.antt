@@ -1,6 +1,6 @@
 -- Whoever was asked, the answer is one that the call which asked may be given.
-use Rattle.std.proofs.Common.{◌≡◌, ◌∙◌, ◌++◌, ◌⊎◌, ℕ, Bool, true, false, List, [], ◌∷◌, Option, None, Some, Result, Ok, Err, ap, arith, inl, inr, is_some, le_refl, refl, subst, sym}
-use Rattle.std.specs.Prelude.{◌<◌, ◌≤◌, IfErr}
+use Rattle.std.proofs.Common.{◌≡◌, ◌∙◌, ◌++◌, ◌⊎◌, ℕ, Bool, true, false, List, [], ◌∷◌, Option, None, Some, Result, Ok, Err, ap, arith, inl, inr, is_some, option_map, le_refl, refl, subst, sym}
+use Rattle.std.specs.Prelude.{◌<◌, ◌≤◌, IfErr, IfOk}
 use Rattle.outside_spec.specs.Faults.{Rose}
 use Rattle.files_disk.specs.Telling.{Told}
 use Rattle.virt_types.specs.Below.types_base.declared.memory.Fault.{Fault}
@@ -17,14 +17,18 @@ use Rattle.domain_spec.specs.Types.given
 use Rattle.def_keeper.specs.declared.mark.StoreFault.{StoreFault}
 use Rattle.def_keeper.specs.declared.mark.StoreFault.TheVariants as store
 use Rattle.def_keeper.specs.Keeper.{Keeping}
-use Rattle.domain_obj.specs.OfCells.{IsAnsweredAs, IsCounted, comes}
-use Rattle.monitor_link.specs.declared.exchange.Exchange.{Exchange}
-use Rattle.monitor_link.specs.declared.link.Link.{Link}
+use Rattle.domain_obj.specs.OfCells.{IsAnsweredAs, IsCounted, IsLinkAsked, comes}
+use Rattle.monitor_link.specs.declared.guests.Link.{Link}
 use Rattle.monitor_link.specs.Causes.{IsFaultCaused}
 use Rattle.store_asks.specs.Answers.{HasAnswered as KeeperAnswers}
 use Rattle.store_asks.specs.Asks.{change_answer, image_answer, no_network}
 use Rattle.domain_obj.specs.OfCells.{told}
-use Rattle.row_desk.specs.Asking.{AsksMaker, AsksStore, HasAnswered, IsAnsweredByStore, IsForStore, IsMade, IsSent, SendsToGuest, link_of, made_answer, unmade}
+use Rattle.domain_obj.specs.Sending.{IsSent, SendsToGuest, WasSent}
+use Rattle.monitor_link.specs.Views.{IsLinkTo, guest_of, link_view}
+use Rattle.monitor_link.specs.declared.link.Ears as ears
+use Rattle.monitor_link.specs.declared.link.Killer as killer
+use Rattle.monitor_link.specs.declared.link.Monitor as monitor
+use Rattle.row_desk.specs.Asking.{AsksMaker, AsksStore, IsAnsweredByStore, IsForStore, IsMade, link_of, made_answer, unmade}
 use Rattle.row_desk.specs.Served.{HasMade, HasServed}
 use Rattle.row_desk.specs.Stored.{stored_in}
 use Rattle.row_desk.specs.Views.{StorePass}
@@ -104,8 +108,8 @@ module _ {G M E Z : Type 0} where
   lost_by before now false (Err fault.Failed) e cause = cause
   lost_by before now there (Err fault.NoMemory) e cause = no_memory_lost e
 
-  lost_of : (exchanges : M → Option (List Exchange)) (there : Bool) (before now : ℕ) (a : Answer) (link : Option (Link G M E Z)) → a ≡ answer.Lost → IsMade exchanges there before now a link → Rose before now
-  lost_of exchanges there before now a link lost made = lost_by before now there made.made (sym made.answer_is ∙ lost) made.cause
+  lost_of : (g : monitor.Ghosts M) (e : ears.Ghosts E) (z : killer.Ghosts Z) (d : DomainDef) (boot : ℕ) (there : Bool) (before now : ℕ) (a : Answer) (link : Option (Link G M E Z)) → a ≡ answer.Lost → IsMade g e z d boot there before now a link → Rose before now
+  lost_of g e z d boot there before now a link lost made = lost_by before now there made.made (sym made.answer_is ∙ lost) made.cause
 
 -- an answer of the store needs no count
 store_counted : {M : Type 0} (ends faults : M → ℕ) (monitor : Option M) (a : Answer) → IsOfStore a → IsCounted ends faults monitor a
@@ -120,13 +124,13 @@ store_counted ends faults (Some m) answer.NoMemory says = tt
 rose_some : (before now : ℕ) → Rose before now → 1 ≤ now
 rose_some before now rose = omega (arith, rose)
 
-sent_counted : {M : Type 0} (ends faults : M → ℕ) (exchanges : M → Option (List Exchange)) (c : Command) (m n : M) (a : Answer) → HasAnswered ends faults exchanges c m n a → IsCounted ends faults (Some n) a
-sent_counted ends faults exchanges c m n (answer.Ok v) h = tt
-sent_counted ends faults exchanges c m n (answer.Refused class) h = tt
-sent_counted ends faults exchanges c m n (answer.Ended why) h = h.cause
-sent_counted ends faults exchanges c m n answer.Lost h = rose_some (faults m) (faults n) h.cause
-sent_counted ends faults exchanges c m n answer.Device h = tt
-sent_counted ends faults exchanges c m n answer.NoMemory h = tt
+sent_counted : {M : Type 0} (g : monitor.Ghosts M) (c : Command) (m n : M) (a : Answer) → WasSent g c m n a → IsCounted g.ends g.faults (Some n) a
+sent_counted g c m n (answer.Ok v) h = tt
+sent_counted g c m n (answer.Refused class) h = tt
+sent_counted g c m n (answer.Ended why) h = h.cause
+sent_counted g c m n answer.Lost h = rose_some (g.faults m) (g.faults n) h.cause
+sent_counted g c m n answer.Device h = tt
+sent_counted g c m n answer.NoMemory h = tt
 
 -- commands, and guests that were made, are not of the store
 command_aside : (c : Command) (a : Answer) → stored_in (told (ask.Command c ∷ []) (a ∷ [])) ≡ []
@@ -152,31 +156,31 @@ aside disk report t first from to none same s = subst (λ (p : StorePass). HasSe
 same_count : {G : Type 0} (unmade_count : G → ℕ) (old new : G) → new ≡ old → unmade_count old ≤ unmade_count new
 same_count {G = G} unmade_count old new same = subst (λ (g : G). unmade_count old ≤ unmade_count g) (sym same) (le_refl (unmade_count old))
 
-module _ {M : Type 0} (ends faults : M → ℕ) (exchanges : M → Option (List Exchange)) where
-  unsent : (c : Command) (after : Option M) (a : Answer) → IsSent ends faults exchanges c None after a → IsUnsent a
+module _ {M : Type 0} (g : monitor.Ghosts M) where
+  unsent : (c : Command) (after : Option M) (a : Answer) → IsSent g c None after a → IsUnsent a
   unsent c None a is = subst IsUnsent (sym is) tt
   unsent c (Some n) a is = absurd is
 
-  sent_stays : (c : Command) (before after : Option M) (a : Answer) → IsSent ends faults exchanges c before after a → is_some after ≡ is_some before
+  sent_stays : (c : Command) (before after : Option M) (a : Answer) → IsSent g c before after a → is_some after ≡ is_some before
   sent_stays c None None a is = refl
   sent_stays c None (Some n) a is = absurd is
   sent_stays c (Some m) None a is = absurd is
   sent_stays c (Some m) (Some n) a is = refl
 
-  command_counted : (c : Command) (before after : Option M) (a : Answer) → IsSent ends faults exchanges c before after a → IsCounted ends faults after a
+  command_counted : (c : Command) (before after : Option M) (a : Answer) → IsSent g c before after a → IsCounted g.ends g.faults after a
   command_counted c before None a is = tt
   command_counted c None (Some n) a is = absurd is
-  command_counted c (Some m) (Some n) a is = sent_counted ends faults exchanges c m n a is
+  command_counted c (Some m) (Some n) a is = sent_counted g c m n a is
 
-module _ {M E Z G F : Type 0} (ends faults : M → ℕ) (exchanges : M → Option (List Exchange)) (unmade_count : G → ℕ) (disk : F → Told) (counts : F → ℕ) where
+module _ {M E Z G F : Type 0} (g : monitor.Ghosts M) (e : ears.Ghosts E) (z : killer.Ghosts Z) (unmade_count : G → ℕ) (disk : F → Told) (counts : F → ℕ) where
   -- one of them was asked
   pub record Does (q : Ask) (before after : Option M) (old new : G) (from to : StorePass) (a : Answer) (link : Option (Link G M E Z)) : Type 0 where
-    pub guest : SendsToGuest ends faults exchanges q before after a
-    pub maker : AsksMaker exchanges unmade_count q (is_some before) old new a link
+    pub guest : SendsToGuest g q before after a
+    pub maker : AsksMaker g e z unmade_count q (is_some before) old new a link
     pub store : AsksStore disk counts q from to a
 
   pub fits : (q : Ask) (before after : Option M) (old new : G) (from to : StorePass) (a : Answer) (link : Option (Link G M E Z)) → Does q before after old new from to a link → IsAnsweredAs (is_some before) q a
-  fits (ask.Command c) None after old new from to a link h = unsent ends faults exchanges c after a h.guest
+  fits (ask.Command c) None after old new from to a link h = unsent g c after a h.guest
   fits (ask.Command c) (Some m) after old new from to a link h = tt
   fits (ask.Make d boot) None after old new from to a link h = ap is_ended_answer h.maker.answer_is ∙ made_not_ended false h.maker.made
   fits (ask.Make d boot) (Some m) after old new from to a link h = ap is_ended_answer h.maker.answer_is ∙ made_not_ended true h.maker.made
@@ -198,27 +202,40 @@ module _ {M E Z G F : Type 0} (ends faults : M → ℕ) (exchanges : M → Optio
   linked (ask.Lease network mac) before after old new from to a link h = ap is_some h.maker.1
   linked (ask.WriteImage n k running d bytes) before after old new from to a link h = ap is_some h.maker.1
 
+  link_made : (d : DomainDef) (boot : ℕ) (there : Bool) (before now : ℕ) (a : Answer) (link : Option (Link G M E Z)) (r : Result (Link G M E Z) Fault) → link ≡ link_of r → IfOk r (λ l. IsLinkTo (guest_of d boot) (link_view g e z l))
+      → IsLinkAsked (ask.Make d boot) (option_map (link_view g e z) link)
+  link_made d boot there before now a link (Ok l) is h = subst (λ (k : Option (Link G M E Z)). IsLinkAsked (ask.Make d boot) (option_map (link_view g e z) k)) (sym is) h
+  link_made d boot there before now a link (Err f) is h = subst (λ (k : Option (Link G M E Z)). IsLinkAsked (ask.Make d boot) (option_map (link_view g e z) k)) (sym is) tt
+
+  pub link_asked : (q : Ask) (before after : Option M) (old new : G) (from to : StorePass) (a : Answer) (link : Option (Link G M E Z)) → Does q before after old new from to a link → IsLinkAsked q (option_map (link_view g e z) link)
+  link_asked (ask.Make d boot) before after old new from to a link h = link_made d boot (is_some before) (unmade_count old) (unmade_count new) a link h.maker.made h.maker.link_is h.maker.guest
+  link_asked (ask.Command c) before after old new from to a link h = tt
+  link_asked (ask.Put d on) before after old new from to a link h = tt
+  link_asked (ask.Drop uuid) before after old new from to a link h = tt
+  link_asked (ask.Lease network mac) before after old new from to a link h = tt
+  link_asked (ask.WriteImage n k running d bytes) before after old new from to a link h = tt
+
   pub monitor_stays : (q : Ask) (before after : Option M) (old new : G) (from to : StorePass) (a : Answer) (link : Option (Link G M E Z)) → Does q before after old new from to a link → is_some after ≡ is_some before
-  monitor_stays (ask.Command c) before after old new from to a link h = sent_stays ends faults exchanges c before after a h.guest
+  monitor_stays (ask.Command c) before after old new from to a link h = sent_stays g c before after a h.guest
   monitor_stays (ask.Make d boot) before after old new from to a link h = ap is_some h.guest
   monitor_stays (ask.Put d on) before after old new from to a link h = ap is_some h.guest
   monitor_stays (ask.Drop uuid) before after old new from to a link h = ap is_some h.guest
   monitor_stays (ask.Lease network mac) before after old new from to a link h = ap is_some h.guest
   monitor_stays (ask.WriteImage n k running d bytes) before after old new from to a link h = ap is_some h.guest
 
-  make_counted : (after : Option M) (before : Option M) (a : Answer) (r : Result (Link G M E Z) Fault) → after ≡ before → a ≡ made_answer (is_some before) r → IsCounted ends faults after a
+  make_counted : (after : Option M) (before : Option M) (a : Answer) (r : Result (Link G M E Z) Fault) → after ≡ before → a ≡ made_answer (is_some before) r → IsCounted g.ends g.faults after a
   make_counted None before a r same is = tt
   make_counted (Some n) before a r same is =
       let b : is_some before ≡ true = ap is_some (sym same) in
-      subst (IsCounted ends faults (Some n)) (sym (is ∙ ap (λ (t : Bool). made_answer t r) b)) (made_counted ends faults n r)
+      subst (IsCounted g.ends g.faults (Some n)) (sym (is ∙ ap (λ (t : Bool). made_answer t r) b)) (made_counted g.ends g.faults n r)
 
-  pub counted : (q : Ask) (before after : Option M) (old new : G) (from to : StorePass) (a : Answer) (link : Option (Link G M E Z)) → Does q before after old new from to a link → IsCounted ends faults after a
-  counted (ask.Command c) before after old new from to a link h = command_counted ends faults exchanges c before after a h.guest
+  pub counted : (q : Ask) (before after : Option M) (old new : G) (from to : StorePass) (a : Answer) (link : Option (Link G M E Z)) → Does q before after old new from to a link → IsCounted g.ends g.faults after a
+  counted (ask.Command c) before after old new from to a link h = command_counted g c before after a h.guest
   counted (ask.Make d boot) before after old new from to a link h = make_counted after before a h.maker.made h.guest h.maker.answer_is
-  counted (ask.Put d on) before after old new from to a link h = store_counted ends faults after a (store_says disk counts (ask.Put d on) from to a tt h.store)
-  counted (ask.Drop uuid) before after old new from to a link h = store_counted ends faults after a (store_says disk counts (ask.Drop uuid) from to a tt h.store)
-  counted (ask.Lease network mac) before after old new from to a link h = store_counted ends faults after a (store_says disk counts (ask.Lease network mac) from to a tt h.store)
-  counted (ask.WriteImage n k running d bytes) before after old new from to a link h = store_counted ends faults after a (store_says disk counts (ask.WriteImage n k running d bytes) from to a tt h.store)
+  counted (ask.Put d on) before after old new from to a link h = store_counted g.ends g.faults after a (store_says disk counts (ask.Put d on) from to a tt h.store)
+  counted (ask.Drop uuid) before after old new from to a link h = store_counted g.ends g.faults after a (store_says disk counts (ask.Drop uuid) from to a tt h.store)
+  counted (ask.Lease network mac) before after old new from to a link h = store_counted g.ends g.faults after a (store_says disk counts (ask.Lease network mac) from to a tt h.store)
+  counted (ask.WriteImage n k running d bytes) before after old new from to a link h = store_counted g.ends g.faults after a (store_says disk counts (ask.WriteImage n k running d bytes) from to a tt h.store)
 
   -- it is tied to the store as it was
   pub serves : (q : Ask) (before after : Option M) (old new : G) (from to : StorePass) (a : Answer) (link : Option (Link G M E Z)) (report : List (Ask × Answer)) (first : StorePass)
@@ -235,7 +252,7 @@ module _ {M E Z G F : Type 0} (ends faults : M → ℕ) (exchanges : M → Optio
       → Does q before after old new from to a link → HasMade report first (unmade_count old) → HasMade (report ++ told (q ∷ []) (a ∷ [])) first (unmade_count new)
   makes (ask.Make d boot) before after old new from to a link report first h s =
       makes_on (ask.Make d boot) a report first (unmade_count old) (unmade_count new) s h.maker.counts
-      (λ x n e lost. lost_of exchanges (is_some before) (unmade_count old) (unmade_count new) a link lost h.maker)
+      (λ x n at lost. lost_of g e z d boot (is_some before) (unmade_count old) (unmade_count new) a link lost h.maker)
   makes (ask.Command c) before after old new from to a link report first h s =
       makes_on (ask.Command c) a report first (unmade_count old) (unmade_count new) s (same_count unmade_count old new h.maker.0) (λ x n e lost. cc)
   makes (ask.Put d on) before after old new from to a link report first h s =
@@ -249,7 +266,7 @@ module _ {M E Z G F : Type 0} (ends faults : M → ℕ) (exchanges : M → Optio
 
   -- so is the report with this ask
   pub keeps : (q : Ask) (before after : Option M) (old new : G) (from to : StorePass) (a : Answer) (link : Option (Link G M E Z)) (report now : List (Ask × Answer)) (first : StorePass) (count : ℕ)
-      → SendsToGuest ends faults exchanges q before after a → AsksMaker exchanges unmade_count q (is_some before) old new a link → AsksStore disk counts q from to a → now ≡ report ++ told (q ∷ []) (a ∷ [])
+      → SendsToGuest g q before after a → AsksMaker g e z unmade_count q (is_some before) old new a link → AsksStore disk counts q from to a → now ≡ report ++ told (q ∷ []) (a ∷ [])
       → HasServed disk report first from × HasMade report count (unmade_count old) → HasServed disk now first to × HasMade now count (unmade_count new)
   keeps q before after old new from to a link report now first count guest maker store is was =
       let does : Does q before after old new from to a link = record { guest = guest; maker = maker; store = store } in

@@ -1,7 +1,9 @@
 // A row's desk is one that calls over a domain ask.
-ghost use Rattle.std.specs.Prelude.{◌≡◌, [], ◌∷◌, ◌++◌, is_some};
+ghost use Rattle.std.specs.Prelude.{◌≡◌, [], ◌∷◌, ◌++◌, is_some, option_map};
 ghost use Rattle.domain_obj.specs.Asking.{FitsAsk, IsAsked, IsBetween};
-ghost use Rattle.domain_obj.specs.OfCells.{IsCounted};
+ghost use Rattle.domain_obj.specs.OfCells.{IsCounted, IsLinkAsked};
+ghost use Rattle.domain_obj.specs.Sending.{SendsToGuest};
+ghost use Rattle.monitor_link.specs.Views.{link_view};
 ghost use Rattle.domain_obj.specs.OfCells.{told};
 
 use crate::desk::RowDesk;

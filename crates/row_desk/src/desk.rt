@@ -1,8 +1,10 @@
 // The desk of one row, for one call.
-ghost use Rattle.std.specs.Prelude.{◌≡◌, [], ◌∷◌, ◌++◌, is_some};
+ghost use Rattle.std.specs.Prelude.{◌≡◌, [], ◌∷◌, ◌++◌, is_some, option_map};
 ghost use Rattle.domain_spec.specs.Asks.{is_ok_answer};
-ghost use Rattle.domain_obj.specs.OfCells.{IsAnsweredAs, IsCounted, comes};
-ghost use Rattle.row_desk.specs.Asking.{AsksMaker, AsksStore, SendsToGuest};
+ghost use Rattle.domain_obj.specs.OfCells.{IsAnsweredAs, IsCounted, IsLinkAsked, comes};
+ghost use Rattle.domain_obj.specs.Sending.{SendsToGuest};
+ghost use Rattle.monitor_link.specs.Views.{link_view};
+ghost use Rattle.row_desk.specs.Asking.{AsksMaker, AsksStore};
 ghost use Rattle.row_desk.specs.Served.{HasMade, HasServed};
 ghost use Rattle.domain_obj.specs.OfCells.{told};
 
@@ -47,8 +49,8 @@ fn ask_whom<'a, R: Wait, G: Guests, F: Files + Drop, K: Opening>(
     monitor: &mut Option<G::M>,
     asked: &Ask,
 ) -> (Answer, Option<Link<G>>)
-    ensures guest { SendsToGuest G.M.ends G.M.faults G.M.exchanges asked.now monitor.old monitor.new result.0 }
-    ensures maker { AsksMaker G.M.exchanges G.faults asked.now (is_some monitor.old) guests.old guests.new result.0 result.1 }
+    ensures guest { SendsToGuest G.M.Monitor asked.now monitor.old monitor.new result.0 }
+    ensures maker { AsksMaker G.M.Monitor G.E.Ears G.Z.Killer G.faults asked.now (is_some monitor.old) guests.old guests.new result.0 result.1 }
     ensures store { AsksStore F.told F.faults asked.now store.old store.new result.0 }
 {
     match asked {
@@ -90,11 +92,12 @@ impl<'a, R: Wait, G: Guests, F: Files + Drop, K: Opening, P: Handed> RowDesk<'a,
     /// Answers an ask: a command by this monitor, once; where there is none, since the guest has still to be made, Ok without
     /// a value. With the answer that a guest was made comes its link. It may wait for the guest and for the store.
     pub fn answer(&mut self, monitor: &mut Option<G::M>, asked: &Ask) -> (Answer, Option<Link<G>>)
-        ensures guest { SendsToGuest G.M.ends G.M.faults G.M.exchanges asked.now monitor.old monitor.new result.0 }
-        ensures maker { AsksMaker G.M.exchanges G.faults asked.now (is_some monitor.old) self.old.guests self.new.guests result.0 result.1 }
+        ensures guest { SendsToGuest G.M.Monitor asked.now monitor.old monitor.new result.0 }
+        ensures maker { AsksMaker G.M.Monitor G.E.Ears G.Z.Killer G.faults asked.now (is_some monitor.old) self.old.guests self.new.guests result.0 result.1 }
         ensures store { AsksStore F.told F.faults asked.now self.old.store self.new.store result.0 }
         ensures fits { IsAnsweredAs (is_some monitor.old) asked.now result.0 }
         ensures link { is_some result.1 ≡ comes asked.now (is_ok_answer result.0) }
+        ensures made { IsLinkAsked asked.now (option_map (link_view G.M.Monitor G.E.Ears G.Z.Killer) result.1) }
         ensures monitor { is_some monitor.new ≡ is_some monitor.old }
         ensures counted { IsCounted G.M.ends G.M.faults monitor.new result.0 }
         ensures report { self.new.report ≡ self.old.report ++ told (asked.now ∷ []) (result.0 ∷ []) }

@@ -1,6 +1,7 @@
 // What guests answer: a command goes to the monitor of one, and a new one is made.
 ghost use Rattle.std.specs.Prelude.{◌≡◌};
-ghost use Rattle.row_desk.specs.Asking.{IsMade, IsSent, unmade};
+ghost use Rattle.domain_obj.specs.Sending.{IsSent};
+ghost use Rattle.row_desk.specs.Asking.{IsMade, unmade};
 
 use monitor_link::{Guests, Link, Monitor};
 use virt_types::{Answer, AnswerValue, Command, DomainDef, Fault};
@@ -8,7 +9,7 @@ use virt_types::{Answer, AnswerValue, Command, DomainDef, Fault};
 /// Sends a command to a guest's monitor. Where there is none yet, the command is not sent, and is answered Ok without a
 /// value.
 pub(crate) fn send<M: Monitor>(monitor: &mut Option<M>, command: &Command) -> Answer
-    ensures { IsSent M.ends M.faults M.exchanges command.now monitor.old monitor.new result }
+    ensures { IsSent M.Monitor command.now monitor.old monitor.new result }
 {
     match monitor {
         Some(monitor) => monitor.ask(command),
@@ -24,7 +25,7 @@ pub(crate) fn make<G: Guests>(
     definition: &DomainDef,
     boot: u64,
 ) -> (Answer, Option<Link<G>>)
-    ensures { IsMade G.M.exchanges is_there (G.faults guests.old) (G.faults guests.new) result.0 result.1 }
+    ensures { IsMade G.M.Monitor G.E.Ears G.Z.Killer definition.now boot is_there (G.faults guests.old) (G.faults guests.new) result.0 result.1 }
 {
     match guests.make(definition, boot) {
         Ok(link) => (Answer::Ok(AnswerValue::Nothing), Some(link)),

@@ -65,6 +65,8 @@ pub struct StoryMonitor<H, M> {
 }
 
 impl<H: Wait, M: Monitor> Monitor for StoryMonitor<H, M> {
+    ghost guest = { λ m. M.guest m.monitor };
+
     ghost ends = { λ m. M.ends m.monitor };
 
     ghost faults = { λ m. M.faults m.monitor };
@@ -89,6 +91,8 @@ pub struct StoryEars<E> {
 impl<E: Ears> Ears for StoryEars<E> {
     ghost use Rattle.std.specs.Prelude.{None};
 
+    ghost guest = { λ e. E.guest e.ears };
+
     ghost ends = { λ e. E.ends e.ears };
 
     ghost faults = { λ e. E.faults e.ears };
@@ -111,6 +115,10 @@ pub struct StoryKiller<Z> {
 }
 
 impl<Z: Killer> Killer for StoryKiller<Z> {
+    ghost guest = { λ z. Z.guest z.killer };
+
+    ghost kills = { λ z. Z.kills z.killer };
+
     fn kill(&mut self) {
         self.killer.kill();
         self.signals.give(Signal::Killed);

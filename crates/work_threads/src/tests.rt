@@ -38,31 +38,47 @@ impl Work<u32, u32> for Adds {
     }
 }
 
+// What is left of two pieces of work, how many had no thread, and how often one was refused.
+#[derive(Drop)]
+struct Left {
+    one: u32,
+    other: u32,
+    without: u32,
+    refused: u32,
+}
+
+fn post_one<'s, E, R: Threads + Wait + Sync + 's>(
+    scope: &Scope<'s, E>,
+    rt: &'s R,
+    shared: &'s u32,
+    own: &'s AtomicU32,
+    amount: u32,
+    refused: &AtomicU32,
+) -> Posted<u32, AtomicU32, Adds, u32> {
+    post(scope, rt, shared, own, Adds { amount }, || {
+        refused.fetch_add(1, Ordering::SeqCst);
+    })
+}
+
 fn post_two<'s, E, R: Threads + Wait + Sync + 's>(
     scope: &Scope<'s, E>,
     rt: &'s R,
     shared: &'s u32,
     own: &'s AtomicU32,
-) -> (u32, u32) {
-    let one: Posted<u32, AtomicU32, Adds, u32> = post(
-        scope,
-        rt,
-        shared,
-        own,
-        Adds { amount: 1 },
-        || (),
-    );
-    let other: Posted<u32, AtomicU32, Adds, u32> = post(
-        scope,
-        rt,
-        shared,
-        own,
-        Adds { amount: 2 },
-        || (),
-    );
-    (wait(rt, one), wait(rt, other))
+) -> Left {
+    let refused = AtomicU32::new(0);
+    let one = post_one(scope, rt, shared, own, 1, &refused);
+    let other = post_one(scope, rt, shared, own, 2, &refused);
+    let without = u32::from(!one.is_running()) + u32::from(!other.is_running());
+    Left {
+        one: wait(rt, one),
+        other: wait(rt, other),
+        without,
+        refused: refused.load(Ordering::SeqCst),
+    }
 }
 
+// Whether threads are refused here depends on the limits of the process; the work is done anyway.
 #[test]
 fn what_was_posted_is_left_when_it_is_waited_for(rt: HostRuntime) {
     let shared = 40;
@@ -70,11 +86,12 @@ fn what_was_posted_is_left_when_it_is_waited_for(rt: HostRuntime) {
     let left = thread::scope(
         thread::scope_env(),
         &rt,
-        |scope| -> (u32, u32)
+        |scope| -> Left
             requires { shared ≡ shared }
         { post_two(scope, &rt, &shared, &own) },
     );
-    assert_eq!(rt; left, (41, 42));
+    assert_eq!(rt; (left.one, left.other), (41, 42));
+    assert_eq!(rt; left.refused, left.without);
     assert_eq!(rt; own.load(Ordering::SeqCst), 3);
 }
 

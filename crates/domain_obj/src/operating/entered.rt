@@ -1,4 +1,4 @@
-// One turn of a call that begins an operation or takes one up, until it is let in.
+// One turn of a call that begins an operation or takes one up, until it is admitted.
 ghost use Rattle.std.specs.Prelude.{◌≡◌, IfErr, IfOk};
 ghost use Rattle.domain_obj.specs.Running.{IsSpent};
 ghost use Rattle.domain_obj.specs.Entered.{HasEntered, IsReadyToEnter};

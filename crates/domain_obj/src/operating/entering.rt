@@ -1,4 +1,4 @@
-// What a call does in one turn that begins an operation or takes one up, until it is let in.
+// What a call does in one turn that begins an operation or takes one up, until it is admitted.
 ghost use Rattle.std.specs.Prelude.{◌≡◌, ◌<◌, ◌^◌, ℕ};
 ghost use Rattle.domain_obj.specs.Entering.{Enters, EntersAnew, LooksForIn, MayEnter, Operates};
 
@@ -14,9 +14,9 @@ use virt_types::{Call, Reply, Who};
 /// What became of a call in a turn in which it looked whether its operation may begin, or be taken up.
 #[derive(Drop)]
 pub enum Entry {
-    /// It was let in, and a phase of its operation is due.
+    /// It was admitted, and a phase of its operation is due.
     Begun,
-    /// It was let in and refused; its caller is told this.
+    /// It was admitted and refused; its caller is told this.
     Done(Reply),
     /// Its job is excluded, and it waits.
     Waits,

@@ -47,7 +47,7 @@ fn go_on<G: Guests>(turn: &mut DomainTurn<G>, alloc: Global, who: Who) -> PhaseL
 }
 
 /// A long chapter ends, if there is memory for the next one, and then the due phase of the operation that the pass has
-/// open is let in where no normal job is open.
+/// open is admitted where no normal job is open.
 pub fn phase_in<G: Guests>(turn: &mut DomainTurn<G>, alloc: Global, who: Who) -> PhaseLook<G>
     requires may { MayGoOn turn.old.pass.number who turn.old.value }
     requires chapter { turn.old.value.core.turning.chapter < 2 ^ 62 }

@@ -24,7 +24,7 @@ pub enum Operated {
     Ended(Reply, Front),
     /// Its operation rests, and its caller is told this; its last Phase is here.
     Rests(Reply, Front),
-    /// It was let in and refused; its Done is here.
+    /// It was admitted and refused; its Done is here.
     Refused(Reply, Front),
     /// Thirty of its looks or more found its job excluded, and it is refused; its Refused is here.
     TimedOut(Reply, Front),
@@ -32,7 +32,7 @@ pub enum Operated {
     WaitersFull(Reply, Front),
     /// There was no memory for it, and nothing is left of it.
     NoMemory,
-    /// No ticket was left before it was let in.
+    /// No ticket was left before it was admitted.
     Spent,
     /// No ticket was left for a phase of its operation, or for its end: the operation stays open.
     SpentAmid,
@@ -49,7 +49,7 @@ fn operated_as(over: Over) -> Operated
     }
 }
 
-// It takes turns until it is let in or refused, with this room for a refusal; and then its operation goes on.
+// It takes turns until it is admitted or refused, with this room for a refusal; and then its operation goes on.
 fn operate_in<G: Guests, D: Desk<G>, R: Wait>(
     rt: &R,
     cell: &TurnCell<DomainCell<G>>,
@@ -93,7 +93,7 @@ fn operate_in<G: Guests, D: Desk<G>, R: Wait>(
     unreachable!()
 }
 
-/// A call that begins an operation or takes one up takes turns until it is let in: where its job is excluded it rests and
+/// A call that begins an operation or takes one up takes turns until it is admitted: where its job is excluded it rests and
 /// looks again, and in the turn of its thirtieth look it gives up. Then its operation goes on phase after phase, until it
 /// ends or rests; a phase that is excluded rests and looks again, without a limit. The desk is asked while the pass has no
 /// turn. Before each look and each phase, in the same turn, a chapter ends that holds 4,096 marks.

@@ -14,7 +14,7 @@ use turn_cell::TurnCell;
 use virt_types::{Front, Reply, Who};
 
 /// Takes a turn, in which a long chapter ends, if there is memory for the next one, and then the due phase of the pass's
-/// operation is let in where no normal job is open. With the place of the chapter's last mark of some pass. A pass for which
+/// operation is admitted where no normal job is open. With the place of the chapter's last mark of some pass. A pass for which
 /// no ticket is left comes back as the error.
 pub fn phase_once<G: Guests, R: Wait>(
     rt: &R,

@@ -1,10 +1,15 @@
-use Rattle.std.proofs.Common.{◌∙◌, subst}
+use Rattle.std.proofs.Common.{option_map, ◌∙◌, subst}
 use Rattle.domain_spec.specs.Fold.{at_base}
 use Rattle.domain_spec.specs.Legal.{IsLegal}
 use Rattle.domain_core.specs.Celled.{cell_in}
 use Rattle.domain_obj.specs.InTurn.{DomainTurn}
-use Rattle.domain_obj.proofs.Answering.{answered_once, back_may_leave}
+use Rattle.monitor_link.specs.Views.{link_view}
+use Rattle.domain_obj.proofs.Answering.{answered_once, asks_there, back_may_leave}
 use Rattle.domain_obj.proofs.calls.answer_once.Goals as goal
+
+pub back_in-left-requires-clause-made : goal.back_in-left-requires-clause-made
+back_in-left-requires-clause-made g c =
+    asks_there c.args.pass c.in-Ok.turn c.told_legal.new.turn c.args.asked.now (option_map (link_view g.G.M.Monitor g.G.E.Ears g.G.Z.Killer) c.args.made) c.requires.may.last c.in-Ok.ensures.turn c.told_legal.ensures.same c.requires.made
 
 pub leave-requires-clause-goes_on : goal.leave-requires-clause-goes_on
 leave-requires-clause-goes_on g c =

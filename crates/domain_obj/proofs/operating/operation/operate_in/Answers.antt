@@ -6,7 +6,7 @@ use Rattle.domain_obj.specs.Operated.{HasOperated}
 use Rattle.domain_obj.specs.declared.operating.operation.Operated.{Operated}
 use Rattle.domain_spec.specs.declared.core_step.First.TheVariants as first
 use Rattle.domain_obj.proofs.Calling.{gave_up, left_undone, looks_first, one_more, spent_waiting, waiters_full}
-use Rattle.domain_obj.proofs.Operations.{due_to_run, operated_so, ready_to_enter, refused_done, waits_again}
+use Rattle.domain_obj.proofs.Operations.{operated_so, ready_to_enter, refused_done, waits_again}
 use Rattle.domain_obj.proofs.operating.operation.operate_in.Goals as goal
 
 pub loop-init : goal.loop-init

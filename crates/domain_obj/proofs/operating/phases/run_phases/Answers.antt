@@ -2,7 +2,7 @@ use Rattle.std.proofs.Common.{subst, ◌∙◌}
 use Rattle.domain_obj.specs.declared.operating.phases.OnePhase.{OnePhase}
 use Rattle.domain_obj.specs.declared.operating.phases.OnePhase.TheVariants as one
 use Rattle.domain_core.specs.declared.next.Next.{Next}
-use Rattle.domain_obj.proofs.GoingOn.{RunsPhase, due_to_run, ended_so, goes_on_again, goes_on_first, lost_amid, lost_before_end, over_to_end, rests}
+use Rattle.domain_obj.proofs.GoingOn.{RunsPhase, ended_so, goes_on_again, goes_on_first, lost_amid, lost_before_end, rests}
 use Rattle.domain_obj.proofs.operating.phases.run_phases.Goals as goal
 
 pub loop-init : goal.loop-init

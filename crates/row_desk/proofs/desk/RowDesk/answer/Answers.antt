@@ -3,7 +3,7 @@ use Rattle.row_desk.proofs.desk.RowDesk.answer.Goals as goal
 
 pub invariant_of-self : goal.invariant_of-self
 invariant_of-self g c =
-    keeps g.G.M.Monitor.ends g.G.M.Monitor.faults g.G.M.Monitor.exchanges g.G.Guests.faults g.F.Files.told g.F.Files.faults c.args.asked.now c.args.monitor.now
+    keeps g.G.M.Monitor g.G.E.Ears g.G.Z.Killer g.G.Guests.faults g.F.Files.told g.F.Files.faults c.args.asked.now c.args.monitor.now
     c.ask_whom-answer.new.monitor c.self.inside.guests c.ask_whom-answer.new.guests c.self.inside.store c.ask_whom-answer.new.store c.ask_whom-answer.result.0 c.ask_whom-answer.result.1
     c.self.inside.report.asked c.and-self-inside.result.asked g.P.Handed.store g.P.Handed.faults c.ask_whom-answer.ensures.guest c.ask_whom-answer.ensures.maker c.ask_whom-answer.ensures.store
     c.and-self-inside.ensures c.self.invariant

@@ -1,0 +1,6 @@
+//! Values that contracts alone see.
+#![tactic(auto)]
+
+mod said;
+
+pub use said::Said;

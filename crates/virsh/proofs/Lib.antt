@@ -1,0 +1,10 @@
+pub mod Within
+pub mod InTurn
+pub mod Answering
+pub mod Put
+pub mod Listens
+pub mod Ordered
+pub mod Shapes
+pub mod Printable
+pub mod Telling
+pub mod Doing
