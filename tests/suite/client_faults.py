@@ -2,6 +2,8 @@
 
 import os
 import socket
+import subprocess
+import sys
 
 from suite.cases import case, check
 from suite.client import (
@@ -16,10 +18,18 @@ from suite.client import (
     sending,
 )
 from suite.client_commands import DEMO, NET, POOL, domain, network, pool
-from suite.daemon import Place
+from suite.daemon import DEADLINE, Place
 from suite.wire import Packet, call, event, refused, reply
 
 LINK = "virsh: link\n"
+
+#: Becomes the client, which may then have at most so many bytes of memory.
+STARVED = (
+    "import os, resource, sys;"
+    "most = int(sys.argv[1]);"
+    "resource.setrlimit(resource.RLIMIT_AS, (most, most));"
+    "os.execv(sys.argv[2], sys.argv[2:])"
+)
 
 
 @case("client", "A refusal is said with its message and what it keeps, and is status 1", client=True)
@@ -252,3 +262,24 @@ def long_replies(place: Place) -> None:
     text = "x" * (4_194_304 - 32)
     got = done("NETWORK_GET_XML_DESC", NET, 0, gives=(text,))
     check_done(place, [network(), got], text, "net-dumpxml", "default")
+
+
+@case("client", "Where memory runs out it is status 12, and nothing is printed", client=True)
+def out_of_memory(place: Place) -> None:
+    text = "x" * 4_000_000
+    for most, ended in (
+        (8_000_000, (12, b"", "virsh: out of memory\n")),
+        (64_000_000, (0, text.encode(), "")),
+    ):
+        got = done("NETWORK_GET_XML_DESC", NET, 0, gives=(text,))
+        daemon = ScriptedDaemon([network(), got])
+        client = (str(place.client), "-c", daemon.address, "net-dumpxml", "default")
+        ran = subprocess.run(
+            [sys.executable, "-c", STARVED, str(most), *client],
+            stdin=subprocess.DEVNULL,
+            capture_output=True,
+            timeout=DEADLINE,
+            check=False,
+        )
+        daemon.close()
+        check(ended, (ran.returncode, ran.stdout, ran.stderr.decode()), f"with {most:,} bytes")
