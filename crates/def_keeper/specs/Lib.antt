@@ -11,6 +11,7 @@ pub mod Finding
 pub mod Tidying
 pub mod Opened
 pub mod Boots
+pub mod Filing
 pub mod Imaging
 pub mod Examining
 pub mod Judging

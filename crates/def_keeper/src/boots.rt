@@ -6,8 +6,6 @@ ghost use Rattle.store_spec.specs.FileNames.{status_draft, status_name};
 ghost use Rattle.store_spec.specs.StatusFile.{status_bytes};
 ghost use Rattle.def_keeper.specs.Boots.{DropsStatus, PutsDraft, PutsStatus};
 
-use crate::keeper::Keeper;
-use crate::opening::Opening;
 use crate::spelling::{status_bytes, status_draft, status_name};
 use files_disk::Files;
 use std::alloc::Global;
@@ -65,7 +63,8 @@ fn put_draft<F: Files>(
     }
 }
 
-fn put_in<F: Files>(alloc: Global, files: &mut F, status: &Status) -> Result<(), Fault>
+/// Writes what is known of a live boot. It is not synced, and changes no definition.
+pub(crate) fn put_in<F: Files>(alloc: Global, files: &mut F, status: &Status) -> Result<(), Fault>
     ensures told { PutsStatus status.now (F.told files.old) (F.told files.new) result }
     ensures cause { IsErrOf result fault.Failed → Rose (F.faults files.old) (F.faults files.new) }
     ensures faults { F.faults files.old ≤ F.faults files.new }
@@ -76,7 +75,8 @@ fn put_in<F: Files>(alloc: Global, files: &mut F, status: &Status) -> Result<(),
     }
 }
 
-fn drop_in<F: Files>(alloc: Global, files: &mut F, uuid: Uuid) -> Result<(), Fault>
+/// Removes what is known of a boot that has ended.
+pub(crate) fn drop_in<F: Files>(alloc: Global, files: &mut F, uuid: Uuid) -> Result<(), Fault>
     ensures told { DropsStatus uuid (F.told files.old) (F.told files.new) result }
     ensures cause { IsErrOf result fault.Failed → Rose (F.faults files.old) (F.faults files.new) }
     ensures faults { F.faults files.old ≤ F.faults files.new }
@@ -87,28 +87,5 @@ fn drop_in<F: Files>(alloc: Global, files: &mut F, uuid: Uuid) -> Result<(), Fau
             Err(Failed) => Err(Fault::Failed),
         },
         Err(NoMemory) => Err(Fault::NoMemory),
-    }
-}
-
-impl<F: Files, K: Opening> Keeper<F, K> {
-    /// Writes what is known of a live boot. It is not synced, and changes no definition: the map and
-    /// its history are as before, whatever the answer.
-    pub fn put_status(&mut self, status: &Status) -> Result<(), Fault>
-        ensures told { PutsStatus status.now (F.told self.old.files) (F.told self.new.files) result }
-        ensures same { self.new ≡ record self.old { files = self.new.files } }
-        ensures cause { IsErrOf result fault.Failed → Rose (F.faults self.old.files) (F.faults self.new.files) }
-        ensures faults { F.faults self.old.files ≤ F.faults self.new.files }
-    {
-        put_in(self.alloc, &mut self.files, status)
-    }
-
-    /// Removes what is known of a boot that has ended.
-    pub fn drop_status(&mut self, uuid: Uuid) -> Result<(), Fault>
-        ensures told { DropsStatus uuid (F.told self.old.files) (F.told self.new.files) result }
-        ensures same { self.new ≡ record self.old { files = self.new.files } }
-        ensures cause { IsErrOf result fault.Failed → Rose (F.faults self.old.files) (F.faults self.new.files) }
-        ensures faults { F.faults self.old.files ≤ F.faults self.new.files }
-    {
-        drop_in(self.alloc, &mut self.files, uuid)
     }
 }

@@ -9,6 +9,7 @@ ghost use Rattle.def_keeper.specs.Safe.{IsMapOf, IsSettledAt, KeepsAll};
 ghost use Rattle.files_disk.specs.Telling.{Told};
 
 use crate::chronicle::Chronicle;
+use crate::filed::Filed;
 use crate::good::known_change;
 use crate::keep::change_in;
 use crate::mark::{DefKey, StoreFault};
@@ -28,15 +29,17 @@ pub struct Keeper<F: Files, K: Opening> {
     pub(crate) map: DefMap,
     pub(crate) chronicle: Chronicle,
     pub(crate) doubt: Option<DefKey>,
+    pub(crate) filed: Vec<Option<Filed>>,
     pub(crate) of: PhantomData<K>,
 }
 
 impl<F: Files, K: Opening> Model for Keeper<F, K> {
+    ghost use Rattle.def_keeper.specs.Filing.{rows_in};
     ghost use Rattle.def_keeper.specs.Keeper.{IsSafe, Keeping};
 
     ghost Value = { Keeping F };
 
-    ghost view = { λ k. record { files = k.files; map = k.map; history = k.chronicle; doubt = k.doubt } };
+    ghost view = { λ k. record { files = k.files; map = k.map; history = k.chronicle; doubt = k.doubt; filed = rows_in k.filed.items } };
 
     ghost invariant = { λ k. IsSafe K.sound (F.told k.files) k.map k.chronicle k.doubt };
 }
@@ -79,7 +82,7 @@ impl<F: Files, K: Opening> Keeper<F, K> {
     pub fn adopt(alloc: Global, files: F, map: DefMap) -> Keeper<F, K>
         requires sound { K.sound → IsSettledAt (F.told files) (found map) }
         requires good { AllGood (found map) }
-        ensures { result ≡ record { files = files; map = map; history = first_chapter (F.told files) map; doubt = None } }
+        ensures { result ≡ record { files = files; map = map; history = first_chapter (F.told files) map; doubt = None; filed = λ slot. None } }
     {
         let chronicle = begin(&files, &map);
         Keeper {
@@ -88,6 +91,7 @@ impl<F: Files, K: Opening> Keeper<F, K> {
             map,
             chronicle,
             doubt: None,
+            filed: Vec::new(alloc),
             of: PhantomData,
         }
     }
@@ -105,6 +109,7 @@ impl<F: Files, K: Opening> Keeper<F, K> {
         ensures doubt { IsDoubtAfter change self.old.doubt self.new.doubt result }
         ensures names { Refuses change (found self.old.map) result }
         ensures quiet { IsQuiet self.old.files self.new.files result }
+        ensures filed { self.new.filed ≡ self.old.filed }
         ensures marks { HasLeft number change self.old.doubt (found self.old.map) (moment_of (F.told self.new.files)) (open_chapter (F.told self.old.files) self.old.map self.old.doubt self.old.history) self.new.history result }
         ensures device { HasDevice (F.faults self.old.files) (F.faults self.new.files) result }
         ensures faults { F.faults self.old.files ≤ F.faults self.new.files }

@@ -3,7 +3,9 @@
 
 mod boots;
 mod chronicle;
+mod comparing;
 mod examining;
+mod filed;
 mod finding;
 mod good;
 mod image_turns;
@@ -17,6 +19,7 @@ mod mark;
 mod open;
 mod opening;
 mod outcome;
+mod renewing;
 mod report;
 mod spelling;
 mod statuses;
@@ -27,6 +30,7 @@ mod turns;
 pub use chronicle::Chronicle;
 pub use def_map::DefMap;
 pub use examining::examine;
+pub use filed::{Filed, Renewed, StatusFile};
 pub use image_turns::{read_image_in, write_image_in};
 pub use keeper::Keeper;
 pub use laws::openings_keep_definitions;

@@ -34,6 +34,7 @@ fn change_as<F: Files, K: Opening>(
     ensures doubt { IsDoubtAfter change turn.old.value.doubt turn.new.value.doubt result }
     ensures names { Refuses change (found turn.old.value.map) result }
     ensures quiet { IsQuiet turn.old.value.files turn.new.value.files result }
+    ensures filed { turn.new.value.filed ≡ turn.old.value.filed }
     ensures marks { HasLeft number change turn.old.value.doubt (found turn.old.value.map) (moment_of (F.told turn.new.value.files)) (open_chapter (F.told turn.old.value.files) turn.old.value.map turn.old.value.doubt turn.old.value.history) turn.new.value.history result }
     ensures device { HasDevice (F.faults turn.old.value.files) (F.faults turn.new.value.files) result }
     ensures faults { F.faults turn.old.value.files ≤ F.faults turn.new.value.files }
@@ -55,6 +56,7 @@ pub fn change_in<F: Files, K: Opening>(
     ensures doubt { IsDoubtAfter change turn.old.value.doubt turn.new.value.doubt result }
     ensures names { Refuses change (found turn.old.value.map) result }
     ensures quiet { IsQuiet turn.old.value.files turn.new.value.files result }
+    ensures filed { turn.new.value.filed ≡ turn.old.value.filed }
     ensures marks { HasLeft turn.old.pass.number change turn.old.value.doubt (found turn.old.value.map) (moment_of (F.told turn.new.value.files)) (open_chapter (F.told turn.old.value.files) turn.old.value.map turn.old.value.doubt turn.old.value.history) turn.new.value.history result }
     ensures device { HasDevice (F.faults turn.old.value.files) (F.faults turn.new.value.files) result }
     ensures faults { F.faults turn.old.value.files ≤ F.faults turn.new.value.files }
