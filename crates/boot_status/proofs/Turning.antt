@@ -5,15 +5,17 @@ use Rattle.turn_cell.specs.Passes.{Enters, Turned, left_by}
 use Rattle.turn_cell.specs.Turning.{Changes}
 use Rattle.turn_cell.proofs.Turning.{changes_by, turn_tells}
 use Rattle.files_disk.specs.Telling.{Told}
+use Rattle.virt_types.specs.Below.types_base.declared.caller.Front.{Front}
 use Rattle.virt_types.specs.Below.types_base.declared.memory.Fault.{Fault}
 use Rattle.virt_types.specs.declared.status.Status.{Status}
+use Rattle.def_keeper.specs.declared.filed.Renewed.{Renewed}
 use Rattle.def_keeper.specs.declared.mark.StoreBase.{StoreBase}
 use Rattle.def_keeper.specs.declared.mark.StoreMark.{StoreMark}
 use Rattle.def_keeper.specs.Keeper.{Keeping}
 use Rattle.def_keeper.specs.Marks.{StoreHistory}
 use Rattle.def_keeper.specs.Turns.{meaning, new_base_keeps, no_mark_lowers}
-use Rattle.boot_status.specs.Keeping.{HasReplaced, KeeperPassed}
-use Rattle.boot_status.specs.Storing.{IsReplaced}
+use Rattle.boot_status.specs.Keeping.{HasRenewed, KeeperPassed}
+use Rattle.boot_status.specs.Storing.{IsRenewed}
 
 abbrev pub KeeperTurned : Type 0 → Type 0
 KeeperTurned F = Turned (Keeping F) StoreBase StoreMark (Unit {0})
@@ -29,26 +31,26 @@ module _ {F : Type 0} (told : F → Told) where
       (added-more old.history new.history [] chapter marks) tt (λ j other. refl)
 
   module _ (faults : F → ℕ) where
-    -- so what replacing leaves may be left
-    pub leaves : (before after : Option Status) (result : Result (Unit {0}) Fault) (had : KeeperPassed) (turn now : KeeperTurned F) → Enters (meaning told) had turn → now ≡ record turn { value = now.value }
-        → IsReplaced told faults before after turn.value now.value result → Changes (meaning told) now.pass.number [] now.entry now.value
-    leaves before after result had turn now enters same replaced =
+    -- so what is left then may be left
+    pub leaves : (slot : ℕ) (place : Front) (status : Option Status) (result : Result Renewed Fault) (had : KeeperPassed) (turn now : KeeperTurned F) → Enters (meaning told) had turn → now ≡ record turn { value = now.value }
+        → IsRenewed told faults slot place status turn.value now.value result → Changes (meaning told) now.pass.number [] now.entry now.value
+    leaves slot place status result had turn now enters same renewed =
         let entry : turn.value ≡ now.entry = enters.value ∙ sym (ap (λ (t : KeeperTurned F). t.entry) same) in
-        let history : now.value.history ≡ turn.value.history = ap (λ (k : Keeping F). k.history) replaced.rest in
+        let history : now.value.history ≡ turn.value.history = ap (λ (k : Keeping F). k.history) renewed.rest in
         same_history now.pass.number now.entry now.value (history ∙ ap (λ (k : Keeping F). k.history) entry)
 
     -- the pass after the turn
-    pub has_replaced : (before after : Option Status) (result : Result (Unit {0}) Fault) (had : KeeperPassed) (turn now : KeeperTurned F) (pass : KeeperPassed) → Enters (meaning told) had turn → now ≡ record turn { value = now.value }
-        → IsReplaced told faults before after turn.value now.value result → pass ≡ left_by (meaning told) now → HasReplaced told faults before after had pass result
-    has_replaced before after result had turn now pass enters same replaced is =
-        let history : now.value.history ≡ turn.value.history = ap (λ (k : Keeping F). k.history) replaced.rest in
+    pub has_renewed : (slot : ℕ) (place : Front) (status : Option Status) (result : Result Renewed Fault) (had : KeeperPassed) (turn now : KeeperTurned F) (pass : KeeperPassed) → Enters (meaning told) had turn → now ≡ record turn { value = now.value }
+        → IsRenewed told faults slot place status turn.value now.value result → pass ≡ left_by (meaning told) now → HasRenewed told faults slot place status had pass result
+    has_renewed slot place status result had turn now pass enters same renewed is =
+        let history : now.value.history ≡ turn.value.history = ap (λ (k : Keeping F). k.history) renewed.rest in
         let change = same_history turn.pass.number turn.value now.value history in
         let tells = turn_tells (meaning told) (no_mark_lowers told) (new_base_keeps told) [] had pass turn now enters same change is in
         record {
           fresh = enters.fresh;
           found = turn.value;
           left = now.value;
-          replaced = replaced;
+          renewed = renewed;
           seen = tells.0.seen;
           went = tells.1;
         }

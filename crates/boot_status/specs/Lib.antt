@@ -1,4 +1,3 @@
-pub mod Reporting
 pub mod Storing
 pub mod Keeping
 pub mod Below

@@ -3,7 +3,9 @@
 /// What came of keeping the status of a boot. No reply to a caller depends on it; a fault is for the log.
 #[derive(Clone, Copy, Debug, PartialEq, Eq)]
 pub enum StatusKept {
-    /// The status is as before: nothing was done.
+    /// One from a later place of the domain's history was put before: nothing was done.
+    Overtaken,
+    /// The file says it already: nothing was done.
     Unchanged,
     /// The status was written, or removed.
     Done,

@@ -2,8 +2,8 @@
 use Rattle.std.specs.Prelude.{◌≡◌, ◌≢◌, ◌⊎◌, ◌<◌, ◌≤◌, ◌*◌, ◌+◌, ℕ, List, [], ◌∷◌, length, Option, None, Some}
 use Rattle.virt_types.specs.declared.ask.GuestEvent.{GuestEvent}
 use Rattle.domain_obj.specs.InTurn.{DomainPass}
-use Rattle.domain_obj.specs.Running.{Goes, IsSeen, IsSpent}
-use Rattle.domain_obj.specs.declared.place.Seen.{Seen}
+use Rattle.domain_obj.specs.Running.{Goes, IsLastSeen, IsSpent}
+use Rattle.domain_obj.specs.declared.place.LastSeen.{LastSeen}
 use Rattle.monitor_link.specs.Causes.{IsHeardCaused}
 use Rattle.monitor_link.specs.Hearing.{Hears}
 use Rattle.monitor_link.specs.declared.link.Heard.{Heard}
@@ -18,23 +18,23 @@ use Rattle.domain_obj.specs.declared.once.Once.TheVariants as once
 use Rattle.domain_obj.specs.declared.said.Told.{Told}
 
 -- a hearing in which something was told may not be the last
-abbrev pub after_telling : Option Told → Seen → Once
+abbrev pub after_telling : Option Told → LastSeen → Once
 after_telling (Some t) seen = once.Heard seen
 after_telling None seen = once.Last (hushed.Quiet seen)
 
 -- how a hearing ends in which this was heard
-abbrev pub after_hearing : Heard → Seen → Once
+abbrev pub after_hearing : Heard → LastSeen → Once
 after_hearing heard.NoMemory seen = once.Last (hushed.NoMemory seen)
 after_hearing h seen = after_telling (told_of h) seen
 
 -- so many turns leave the pass as it was, but for what it has seen
-pub record LeavesNothing (turns : ℕ) (before after : DomainPass) (seen : Seen) : Type 0 where
+pub record LeavesNothing (turns : ℕ) (before after : DomainPass) (seen : LastSeen) : Type 0 where
   pub goes : Goes turns [] before after
   pub share : after.share ≡ before.share
-  pub at : IsSeen seen after
+  pub at : IsLastSeen seen after
 
 -- some turns did, at most two for each of 64 hearings
-pub record LeavesSoon (before after : DomainPass) (seen : Seen) : Type 0 where
+pub record LeavesSoon (before after : DomainPass) (seen : LastSeen) : Type 0 where
   pub turns : ℕ
   pub some : 1 ≤ turns
   pub most : turns ≤ 128
@@ -90,7 +90,7 @@ module _ {E : Type 0} (ends faults : E → ℕ) (unheard : E → Option (List Gu
 
   -- one hearing
   abbrev pub HasHeardOnce : DomainPass → DomainPass → Once → Type 0
-  HasHeardOnce before after (once.Heard seen) = (h : Heard) × HearsOne h before after × (told_of h ≢ None) × IsSeen seen after
+  HasHeardOnce before after (once.Heard seen) = (h : Heard) × HearsOne h before after × (told_of h ≢ None) × IsLastSeen seen after
   HasHeardOnce before after (once.Last hushed.Spent) = RunsOut before after
   HasHeardOnce before after (once.Last (hushed.Quiet seen)) = (turns : ℕ) × EndsHearing turns before after (hushed.Quiet seen) × LeavesNothing turns before after seen
   HasHeardOnce before after (once.Last (hushed.NoMemory seen)) = (turns : ℕ) × EndsHearing turns before after (hushed.NoMemory seen) × LeavesNothing turns before after seen
@@ -98,7 +98,7 @@ module _ {E : Type 0} (ends faults : E → ℕ) (unheard : E → Option (List Gu
   HasHeardOnce before after (once.Last (hushed.Often seen)) = ⊥
 
   -- fewer than 64 things were heard and told, and then the last hearing left the pass as it was
-  pub record Hushes (before after : DomainPass) (q : Hushed) (seen : Seen) : Type 0 where
+  pub record Hushes (before after : DomainPass) (q : Hushed) (seen : LastSeen) : Type 0 where
     pub all : List Heard
     pub few : length all < 64
     pub last : DomainPass

@@ -22,6 +22,7 @@ pub mod Replies
 pub mod Running
 pub mod Runs
 pub mod Sending
+pub mod Status
 pub mod Telling
 pub mod Turned
 pub mod Turns

@@ -1,5 +1,5 @@
 -- What calls over a domain leave of the pass that runs them.
-use Rattle.std.specs.Prelude.{◌≡◌, ◌≤◌, ◌⊎◌, ℕ, ◌+◌, List, [], length, true, None}
+use Rattle.std.specs.Prelude.{◌≡◌, ◌≤◌, ◌⊎◌, ℕ, ◌+◌, List, [], length, true, false, None, IfOk}
 use Rattle.history_spec.specs.declared.history.History.{History}
 use Rattle.virt_types.specs.declared.call.Query.{Query}
 use Rattle.domain_spec.specs.declared.mark.Mark.{Mark}
@@ -11,6 +11,8 @@ use Rattle.domain_spec.specs.Read.{read}
 use Rattle.domain_core.specs.Meaning.{meaning}
 use Rattle.domain_core.specs.Core.{is_occupied}
 use Rattle.domain_obj.specs.InTurn.{DomainPass}
+use Rattle.domain_obj.specs.Status.{boot_status}
+use Rattle.domain_obj.specs.declared.place.LastSeen.{LastSeen}
 use Rattle.domain_obj.specs.declared.place.Seen.{Seen}
 use Rattle.domain_obj.specs.declared.queries.Queried.{Queried}
 use Rattle.domain_obj.specs.declared.queries.Queried.TheVariants as queried
@@ -40,6 +42,14 @@ pub record IsSeen (seen : Seen) (pass : DomainPass) : Type 0 where
   pub chapter : seen.front.chapter ≡ pass.seen.chapter
   pub marks : seen.front.marks ≡ length pass.seen.marks
   pub occupied : seen.occupied ≡ is_occupied (standing_after pass.seen)
+
+-- the same of a pass that took a turn, with the status of the boot that was live there
+pub record IsLastSeen (seen : LastSeen) (pass : DomainPass) : Type 0 where
+  pub fresh : pass.spent ≡ false
+  pub chapter : seen.front.chapter ≡ pass.seen.chapter
+  pub marks : seen.front.marks ≡ length pass.seen.marks
+  pub occupied : seen.occupied ≡ is_occupied (standing_after pass.seen)
+  pub status : IfOk seen.status (λ s. s ≡ boot_status (standing_after pass.seen).state)
 
 -- no ticket was left: the pass is spent
 abbrev pub IsSpent : DomainPass → DomainPass → Type 0

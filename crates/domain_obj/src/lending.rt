@@ -1,9 +1,9 @@
 // The turn in which ears are lent.
 ghost use Rattle.std.specs.Prelude.{◌≡◌, ℕ, IfErr, IfOk};
-ghost use Rattle.domain_obj.specs.Running.{IsSeen, IsSpent};
+ghost use Rattle.domain_obj.specs.Running.{IsLastSeen, IsSpent};
 ghost use Rattle.domain_obj.specs.Lending.{HasLent, LendsIn};
 
-use crate::{DomainPass, DomainTurn, Seen, seen_in, told_legal};
+use crate::{DomainPass, DomainTurn, LastSeen, last_seen_in, told_legal};
 use domain_core::DomainCell;
 use history_spec::Stamp;
 use monitor_link::Guests;
@@ -52,10 +52,10 @@ pub fn lend_once<G: Guests, R: Wait>(
     cell: &TurnCell<DomainCell<G>>,
     alloc: Global,
     pass: DomainPass<G>,
-) -> Result<(DomainPass<G>, Lent<G::E>, Seen), DomainPass<G>>
+) -> Result<(DomainPass<G>, Lent<G::E>, LastSeen), DomainPass<G>>
     requires own { pass.cell ≡ cell.now }
     ensures ok { IfOk result (λ r. HasLent G.E.Ears pass r.0 r.1) }
-    ensures seen { IfOk result (λ r. IsSeen r.2 r.0) }
+    ensures seen { IfOk result (λ r. IsLastSeen r.2 r.0) }
     ensures spent { IfErr result (λ after. IsSpent pass after) }
 {
     let mut turn = match cell.enter(rt, pass) {
@@ -63,7 +63,7 @@ pub fn lend_once<G: Guests, R: Wait>(
         Err((pass, _)) => return Err(pass),
     };
     let lent = lend_in(&mut turn, alloc);
-    let seen = seen_in(&mut turn);
+    let seen = last_seen_in(&mut turn);
     told_legal(&mut turn);
     Ok((cell.leave(turn), lent, seen))
 }

@@ -21,6 +21,7 @@ mod queries;
 mod replies;
 mod running;
 mod said;
+mod status;
 mod telling;
 mod turns;
 
@@ -34,13 +35,14 @@ pub use finishing::{Finished, finish};
 pub use hearing::hear;
 pub use object::DomainObj;
 pub use operating::operation::{Operated, run_operation};
-pub use place::Seen;
+pub use place::{LastSeen, Seen};
 pub use places::At;
 pub use queries::{Queried, query};
 pub use refusals::{ReplyRoom, no_memory};
 pub use running::run_call;
 pub use said::Told;
+pub use status::status_of;
 pub use turns::{
-    DomainPass, DomainTurn, back_in, end_long_chapter, give_up_in, last_in, look_in, occupied_in,
-    read_in, seen_in, told_legal,
+    DomainPass, DomainTurn, back_in, end_long_chapter, give_up_in, last_in, last_seen_in, look_in,
+    occupied_in, read_in, seen_in, told_legal,
 };

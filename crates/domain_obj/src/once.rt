@@ -7,7 +7,7 @@ use crate::ends::Hushed;
 use crate::lending::{Lent, lend_once};
 use crate::said::told_of;
 use crate::telling::tell_once;
-use crate::{DomainPass, Seen};
+use crate::{DomainPass, LastSeen};
 use domain_core::DomainCell;
 use monitor_link::{Ears, Guests, Heard};
 use std::alloc::Global;
@@ -18,13 +18,13 @@ use turn_cell::TurnCell;
 #[derive(Drop)]
 pub enum Once {
     /// Something was heard and told; there may be more.
-    Heard(Seen),
+    Heard(LastSeen),
     /// It was the last.
     Last(Hushed),
 }
 
 // How a hearing ends in which this was heard.
-fn after_hearing(heard: Heard, seen: Seen) -> Once
+fn after_hearing(heard: Heard, seen: LastSeen) -> Once
     ensures { result ≡ after_hearing heard seen }
 {
     match heard {

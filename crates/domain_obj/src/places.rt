@@ -1,20 +1,17 @@
 // Where a call over a domain left its last mark, and what its pass has seen.
-ghost use Rattle.std.specs.Prelude.{◌≡◌, IfSome};
-ghost use Rattle.domain_obj.specs.Places.{place_or, seen_by};
+ghost use Rattle.std.specs.Prelude.{◌≡◌};
+ghost use Rattle.domain_obj.specs.Places.{front_seen, place_or, seen_by};
 
-use crate::{Hushed, Seen};
+use crate::{Hushed, LastSeen};
 use virt_types::Front;
 
-/// Where a call over a domain left its last mark, and what its pass has seen of the domain. It speaks of a pass for which
-/// tickets are left.
-#[derive(Clone, Copy, Debug, PartialEq, Eq)]
+/// Where a call over a domain left its last mark, and what its pass has seen of the domain.
+#[derive(Drop)]
 pub struct At {
     /// The place of the call's last mark; where it left none, how far the history goes that the pass has seen.
     pub place: Front,
-    /// How far the history goes that the pass has seen.
-    pub seen: Front,
-    /// Whether there was a domain, or an operation rested, by then.
-    pub occupied: bool,
+    /// What the pass has seen; none where no ticket was left for it.
+    pub seen: Option<LastSeen>,
 }
 
 // Of a pass that has seen nothing, since no ticket was left for it.
@@ -23,24 +20,30 @@ const NOWHERE: Front = Front {
     marks: 0,
 };
 
-/// The place of the last mark, or how far the pass has seen.
-pub(crate) fn place_at(place: Option<Front>, seen: Option<Seen>) -> At
-    ensures place { result.place ≡ place_or place result.seen }
-    ensures seen { IfSome seen (λ s. (result.seen ≡ s.front) × (result.occupied ≡ s.occupied)) }
+// How far the pass has seen.
+fn front_seen(seen: &Option<LastSeen>) -> Front
+    ensures { result ≡ front_seen seen.now }
 {
-    let (seen, occupied) = match seen {
-        Some(seen) => (seen.front, seen.occupied),
-        None => (NOWHERE, true),
-    };
+    match seen {
+        Some(seen) => seen.front,
+        None => NOWHERE,
+    }
+}
+
+/// The place of the last mark, or how far the pass has seen.
+pub(crate) fn place_at(place: Option<Front>, seen: Option<LastSeen>) -> At
+    ensures place { result.place ≡ place_or place (front_seen seen) }
+    ensures seen { result.seen ≡ seen }
+{
+    let front = front_seen(&seen);
     At {
-        place: place.unwrap_or(seen),
+        place: place.unwrap_or(front),
         seen,
-        occupied,
     }
 }
 
 /// What the pass has seen that heard so; none where no ticket was left.
-pub(crate) fn seen_by(hushed: Hushed) -> Option<Seen>
+pub(crate) fn seen_by(hushed: Hushed) -> Option<LastSeen>
     ensures { result ≡ seen_by hushed }
 {
     match hushed {

@@ -1,12 +1,12 @@
 // The turn in which what was heard is told, and the ears are given back.
 ghost use Rattle.std.specs.Prelude.{◌≡◌, ℕ, IfErr, IfOk, Some};
-ghost use Rattle.domain_obj.specs.Running.{IsSeen, IsSpent};
+ghost use Rattle.domain_obj.specs.Running.{IsLastSeen, IsSpent};
 ghost use Rattle.domain_core.specs.Celled.{cell_in};
 ghost use Rattle.domain_obj.specs.Lending.{IsListening, out_for};
 ghost use Rattle.domain_obj.specs.Telling.{IsTold, IsToldCounted, IsToldIn, TellsIn};
 
 use crate::said::Told;
-use crate::{DomainPass, DomainTurn, Seen, seen_in, told_legal};
+use crate::{DomainPass, DomainTurn, LastSeen, last_seen_in, told_legal};
 use domain_core::DomainCell;
 use history_spec::Stamp;
 use monitor_link::Guests;
@@ -75,12 +75,12 @@ pub fn tell_once<G: Guests, R: Wait>(
     boot: u64,
     ears: G::E,
     told: Option<Told>,
-) -> Result<(DomainPass<G>, Seen), DomainPass<G>>
+) -> Result<(DomainPass<G>, LastSeen), DomainPass<G>>
     requires own { pass.cell ≡ cell.now }
     requires listening { IsListening boot pass }
     requires counted { IsToldCounted (G.E.ends ears) (G.E.faults ears) told }
     ensures ok { IfOk result (λ r. IsTold boot told pass r.0) }
-    ensures seen { IfOk result (λ r. IsSeen r.1 r.0) }
+    ensures seen { IfOk result (λ r. IsLastSeen r.1 r.0) }
     ensures spent { IfErr result (λ after. IsSpent pass after) }
 {
     let mut turn = match cell.enter(rt, pass) {
@@ -89,7 +89,7 @@ pub fn tell_once<G: Guests, R: Wait>(
     };
     told_legal(&mut turn);
     tell_in(&mut turn, boot, ears, told);
-    let seen = seen_in(&mut turn);
+    let seen = last_seen_in(&mut turn);
     told_legal(&mut turn);
     Ok((cell.leave(turn), seen))
 }

@@ -10,6 +10,7 @@ ghost use Rattle.domain_core.specs.Celled.{cell_in, link_kept, standing_in};
 ghost use Rattle.domain_core.specs.Core.{is_occupied};
 ghost use Rattle.domain_obj.specs.InTurn.{EndsChapter, GivesUp, GoesBackIn, IsNotRenewed, IsRenewed, LooksIn};
 ghost use Rattle.domain_obj.specs.Placing.{IsLastPlace};
+ghost use Rattle.domain_obj.specs.Status.{boot_status};
 ghost use Rattle.domain_core.specs.OfTurns.{IsKnownFirst};
 ghost use Rattle.domain_core.specs.Held.{IsOutWith};
 ghost use Rattle.domain_core.specs.Linked.{link_by};
@@ -17,7 +18,8 @@ ghost use Rattle.domain_core.specs.Tickets.{IsAnswered, IsCounted, IsMadeAsAsked
 ghost use Rattle.monitor_link.specs.Views.{link_view};
 ghost use Rattle.domain_core.specs.OfShares.{IsSteady};
 
-use crate::place::Seen;
+use crate::place::{LastSeen, Seen};
+use crate::status::status_of;
 use domain_core::{Back, DomainCell, Look, Ticket};
 use domain_spec::First;
 use history_spec::Stamp;
@@ -210,6 +212,23 @@ pub fn seen_in<G: Guests>(turn: &mut DomainTurn<G>) -> Seen
     Seen {
         front: Front { chapter, marks },
         occupied,
+    }
+}
+
+/// The same, with the status of the boot that is live in this turn.
+pub fn last_seen_in<G: Guests>(turn: &mut DomainTurn<G>) -> LastSeen
+    ensures chapter { result.front.chapter ≡ turn.old.value.core.turning.chapter }
+    ensures marks { result.front.marks ≡ length (cell_in turn.old.value).marks }
+    ensures occupied { result.occupied ≡ is_occupied (standing_in turn.old.value) }
+    ensures status { IfOk result.status (λ s. s ≡ boot_status (standing_in turn.old.value).state) }
+    ensures same { turn.new ≡ turn.old }
+{
+    let Seen { front, occupied } = seen_in(turn);
+    let status = status_of(turn.value().state());
+    LastSeen {
+        front,
+        occupied,
+        status,
     }
 }
 

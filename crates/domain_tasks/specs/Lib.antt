@@ -1,5 +1,6 @@
 pub mod Passes
 pub mod Telling
+pub mod Statuses
 pub mod Serving
 pub mod Tasked
 pub mod OfObjects

@@ -14,7 +14,10 @@ use Rattle.domain_spec.specs.Types.{Answer, Ask, Call, Reply, Who}
 use Rattle.virt_types.specs.declared.ask.GuestEvent.{GuestEvent}
 use Rattle.virt_types.specs.declared.call.Query.{Query}
 use Rattle.virt_types.specs.Below.types_base.declared.caller.Front.{Front}
+use Rattle.domain_tasks.specs.Statuses.{seen_of, status_of}
 use Rattle.domain_tasks.specs.Telling.{TellsQueried, front_by, not_built_reply, seen_by, unseen}
+use Rattle.domain_tasks.specs.declared.status.StatusRead.{StatusRead}
+use Rattle.domain_tasks.specs.declared.status.StatusRead.TheVariants as read
 
 -- a query took a turn and read there, or no ticket was left
 pub record HasRead (q : Query) (before after : DomainPass) (said : Reply) (place : Option Front) (seen : Seen) : Type 0 where
@@ -39,15 +42,16 @@ module _ {E : Type 0} (ends faults : E → ℕ) (unheard : E → Option (List Gu
       ((begins d ≡ None) × (takes_up d ≡ None) × HasRun ends faults unheard who d before after report now said at)
       ⊎ (Operates d × HasRunOperation ends faults unheard who d before after report now said at)
 
-  -- and that is where it left its last mark, and what its pass has seen
-  pub record HasCalled (who : Who) (d : Call) (before after : DomainPass) (report now : List (Ask × Answer)) (said : Reply) (place : Option Front) (seen : Seen) : Type 0 where
+  -- and that is where it left its last mark, what its pass has seen, and the status that it read there
+  pub record HasCalled (who : Who) (d : Call) (before after : DomainPass) (report now : List (Ask × Answer)) (said : Reply) (place : Option Front) (seen : Seen) (status : StatusRead) : Type 0 where
     pub came : At
     pub done : HasDone who d before after report now said came
     pub at : place ≡ Some came.place
-    pub sees : seen ≡ record { front = came.seen; occupied = came.occupied }
+    pub sees : seen ≡ seen_of came.seen
+    pub reads : status ≡ status_of came.seen
 
   -- what the task came to, of which the domain said this; for a query nobody was asked
-  abbrev pub HasServed : Who → Task → DomainPass → DomainPass → List (Ask × Answer) → List (Ask × Answer) → Reply → Option Front → Seen → Type 0
-  HasServed who (task.Read q) before after report now said place seen = HasRead q before after said place seen × (now ≡ report)
-  HasServed who (task.Run d) before after report now said place seen = HasCalled who d before after report now said place seen
-  HasServed who other before after report now said place seen = IsNotBuilt before after report now said place seen
+  abbrev pub HasServed : Who → Task → DomainPass → DomainPass → List (Ask × Answer) → List (Ask × Answer) → Reply → Option Front → Seen → StatusRead → Type 0
+  HasServed who (task.Read q) before after report now said place seen status = HasRead q before after said place seen × (now ≡ report) × (status ≡ read.NotDue)
+  HasServed who (task.Run d) before after report now said place seen status = HasCalled who d before after report now said place seen status
+  HasServed who other before after report now said place seen status = IsNotBuilt before after report now said place seen × (status ≡ read.NotDue)

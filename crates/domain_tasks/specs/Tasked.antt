@@ -20,7 +20,9 @@ use Rattle.virt_types.specs.Below.types_base.declared.refusal.RefusalCode.TheVar
 use Rattle.virt_types.specs.declared.value.Reply.TheVariants as reply
 use Rattle.domain_tasks.specs.Passes.{known}
 use Rattle.domain_tasks.specs.Serving.{HasServed}
+use Rattle.domain_tasks.specs.Statuses.{TellsStatus}
 use Rattle.domain_tasks.specs.Telling.{IsPrinted, not_built_reply, unseen}
+use Rattle.domain_tasks.specs.declared.status.StatusRead.{StatusRead}
 
 -- the domain came to no answer: its pass is spent, or there was no memory
 abbrev pub IsStoppedAt : KnownPass → Reply → Type 0
@@ -58,11 +60,11 @@ Sees after t seen = SeesAt after.spent after t seen
 module _ {E : Type 0} (ends faults : E → ℕ) (unheard : E → Option (List GuestEvent)) where
   -- the task came to what the domain said, and its caller is told that: so the reply is the task's, or the domain came to
   -- none, or there was no memory to tell it in another form; the pass saw more, keeps what it had, and can serve the next
-  -- request
-  pub record HasTasked (who : Who) (t : Task) (before after : DomainPass) (report now : List (Ask × Answer)) (r : Reply) (place : Option Front) (seen : Seen) : Type 0 where
+  -- request; and of a call the status of the boot was read, at the end of what the pass has seen
+  pub record HasTasked (who : Who) (t : Task) (before after : DomainPass) (report now : List (Ask × Answer)) (r : Reply) (place : Option Front) (seen : Seen) (status : StatusRead) : Type 0 where
     pub said : Reply
     pub saw : Seen
-    pub serves : HasServed ends faults unheard who t before after report now said place saw
+    pub serves : HasServed ends faults unheard who t before after report now said place saw status
     pub prints : IsPrinted said r
     pub answers : Answers (known before) (known after) t place r
     pub reads_now : ReadsNow (known after) t place
@@ -71,3 +73,4 @@ module _ {E : Type 0} (ends faults : E → ℕ) (unheard : E → Option (List Gu
     pub keeps : after.spent ≡ false → after.share ≡ before.share
     pub ready : IsReady after
     pub sees : Sees after t seen
+    pub tells : TellsStatus after t status

@@ -5,6 +5,7 @@ ghost use Rattle.domain_obj.specs.Entering.{Operates};
 ghost use Rattle.domain_spec.specs.Call.{begins, takes_up};
 ghost use Rattle.domain_tasks.specs.Serving.{HasCalled, HasDone};
 
+use crate::status::{StatusRead, parts_of};
 use domain_obj::{At, Desk, DomainObj, DomainPass, Seen, takes_up};
 use monitor_link::Guests;
 use std::alloc::Global;
@@ -65,8 +66,8 @@ fn run_either<G: Guests, D: Desk<G>, R: Wait>(
     }
 }
 
-/// A call is run, and then the pass hears the guest. With what is said of it, the place of its last mark, and what the pass
-/// has seen.
+/// A call is run, and then the pass hears the guest. With what is said of it, the place of its last mark, what the pass has
+/// seen, and the status that it read there.
 pub fn run<G: Guests, D: Desk<G>, R: Wait>(
     rt: &R,
     alloc: Global,
@@ -75,15 +76,13 @@ pub fn run<G: Guests, D: Desk<G>, R: Wait>(
     who: Who,
     call: &Call,
     desk: &mut D,
-) -> (DomainPass<G>, Reply, Option<Front>, Seen)
+) -> (DomainPass<G>, Reply, Option<Front>, Seen, StatusRead)
     requires own { pass.cell ≡ domain.now }
     requires ready { IsReady pass }
-    ensures { HasCalled G.E.ends G.E.faults G.E.unheard who call.now pass result.0 (D.report desk.old) (D.report desk.new) result.1 result.2 result.3 }
+    ensures { HasCalled G.E.ends G.E.faults G.E.unheard who call.now pass result.0 (D.report desk.old) (D.report desk.new) result.1 result.2 result.3 result.4 }
 {
     let (pass, said, at) = run_either(rt, alloc, domain, pass, who, call, desk);
-    let seen = Seen {
-        front: at.seen,
-        occupied: at.occupied,
-    };
-    (pass, said, Some(at.place), seen)
+    let At { place, seen } = at;
+    let (seen, status) = parts_of(seen);
+    (pass, said, Some(place), seen, status)
 }

@@ -4,9 +4,11 @@
 
 mod calling;
 mod reading;
+mod status;
 mod tasks;
 mod telling;
 
 pub use domain_obj::{Chronicle, DomainCell, DomainObj, DomainPass, Queried, ReplyRoom, no_memory};
 pub use outcome_spec::{Keeper, Opening, Outcome};
+pub use status::StatusRead;
 pub use tasks::{Tasked, run_task};

@@ -7,6 +7,7 @@ ghost use Rattle.domain_tasks.specs.Telling.{unseen};
 
 use crate::calling::run;
 use crate::reading::{UNSEEN, read};
+use crate::status::StatusRead;
 use crate::telling::{not_built, tell};
 use domain_obj::{Desk, DomainObj, DomainPass, Seen};
 use monitor_link::Guests;
@@ -26,9 +27,11 @@ pub struct Tasked {
     /// What the pass has seen of the domain when it comes back, with the hearing of the guest after a call. Where no ticket is
     /// left for it, or nothing was asked of the domain, what is told of a domain of which nothing was seen.
     pub seen: Seen,
+    /// The status of the boot that was live in the last turn of a call.
+    pub status: StatusRead,
 }
 
-// What the domain says of a task, the place that this rests on, and what the pass has seen.
+// What the domain says of a task, the place that this rests on, what the pass has seen, and the status that a call read.
 fn serve<G: Guests, D: Desk<G>, R: Wait>(
     rt: &R,
     alloc: Global,
@@ -37,16 +40,19 @@ fn serve<G: Guests, D: Desk<G>, R: Wait>(
     who: Who,
     task: &Task,
     desk: &mut D,
-) -> (DomainPass<G>, Reply, Option<Front>, Seen)
+) -> (DomainPass<G>, Reply, Option<Front>, Seen, StatusRead)
     requires own { pass.cell ≡ domain.now }
     requires ready { IsReady pass }
-    ensures { HasServed G.E.ends G.E.faults G.E.unheard who task.now pass result.0 (D.report desk.old) (D.report desk.new) result.1 result.2 result.3 }
+    ensures { HasServed G.E.ends G.E.faults G.E.unheard who task.now pass result.0 (D.report desk.old) (D.report desk.new) result.1 result.2 result.3 result.4 }
 {
     match task {
-        Task::Read(query) => read(rt, alloc, domain, pass, query),
+        Task::Read(query) => {
+            let (pass, said, place, seen) = read(rt, alloc, domain, pass, query);
+            (pass, said, place, seen, StatusRead::NotDue)
+        }
         Task::Run(call) => run(rt, alloc, domain, pass, who, call, desk),
-        Task::Register => (pass, not_built(alloc), None, UNSEEN),
-        Task::Deregister => (pass, not_built(alloc), None, UNSEEN),
+        Task::Register => (pass, not_built(alloc), None, UNSEEN, StatusRead::NotDue),
+        Task::Deregister => (pass, not_built(alloc), None, UNSEEN, StatusRead::NotDue),
     }
 }
 
@@ -74,14 +80,15 @@ pub fn run_task<G: Guests, D: Desk<G>, R: Wait>(
 ) -> (DomainPass<G>, Tasked)
     requires own { pass.cell ≡ domain.now }
     requires ready { IsReady pass }
-    ensures { HasTasked G.E.ends G.E.faults G.E.unheard who task.now pass result.0 (D.report desk.old) (D.report desk.new) result.1.reply result.1.place result.1.seen }
+    ensures { HasTasked G.E.ends G.E.faults G.E.unheard who task.now pass result.0 (D.report desk.old) (D.report desk.new) result.1.reply result.1.place result.1.seen result.1.status }
 {
-    let (pass, said, place, saw) = serve(rt, alloc, domain, pass, who, task, desk);
+    let (pass, said, place, saw, status) = serve(rt, alloc, domain, pass, who, task, desk);
     let seen = seen_by(&pass, saw);
     let tasked = Tasked {
         reply: tell(alloc, said),
         place,
         seen,
+        status,
     };
     (pass, tasked)
 }

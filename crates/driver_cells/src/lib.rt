@@ -7,7 +7,7 @@ mod spent;
 
 pub use cells::{Cells, Row};
 pub use domain_tasks::{
-    Chronicle, DomainCell, DomainObj, DomainPass, Outcome, Queried, Tasked, run_task,
+    Chronicle, DomainCell, DomainObj, DomainPass, Outcome, Queried, StatusRead, Tasked, run_task,
 };
 pub use resting::state_of;
 pub use spent::{NO_FRONT, run_out};

@@ -12,6 +12,7 @@ use Rattle.list_holds.specs.Held.{HasHeld}
 use Rattle.list_holds.specs.Released.{LetsGo}
 use Rattle.list_replies.specs.Telling.{TellsFault}
 use Rattle.driver_cells.specs.OfOutcomes.{HasSpent, Outcome}
+use Rattle.driver_cells.specs.OfTasks.{StatusRead}
 use Rattle.row_desk.specs.Views.{StorePass}
 use Rattle.virt_types.specs.declared.ask.GuestEvent.{GuestEvent}
 use Rattle.virt_types.specs.Below.types_base.declared.caller.CellName.TheVariants as cell
@@ -54,21 +55,20 @@ module _ {G : Type 0} where
     pub name : o.cell ≡ cell.Nowhere
 
   module _ {F E : Type 0} (told : F → Told) (stores : F → ℕ) (maker : G → ℕ) (ends faults : E → ℕ) (unheard : E → Option (List GuestEvent)) where
-    -- of a row whose pass of the list holds a slot: the task was run in the domain there, and the slot was released with what
-    -- the domain's pass had seen by then. What a call changed of the status of the domain's boot was reported to the store,
-    -- after the last turn of the domain
+    -- of a row whose pass of the list holds a slot: the task was run in the domain there; the store was told the status that a
+    -- call read of the domain's boot in its last turn, with the place of that; and then the slot was released with what the
+    -- domain's pass had seen by then
     pub record IsServedIn (who : Who) (t : Task) (slot : ℕ) (before after : DriverRow G) (o : Outcome) : Type 0 where
       pub old : DomainPass
-      pub first : DomainPass
-      pub last : DomainPass
       pub new : DomainPass
       pub mid : StorePass
       pub place : Option Front
       pub seen : Seen
+      pub status : StatusRead
       pub domains : Replaces slot old new before.domains after.domains
       pub serves :
-          HasServedTask told ends faults unheard who t before.store mid (maker before.guests) (maker after.guests) first last o.reply place seen
-      pub reports : HasReported told stores t old first last new mid after.store before.unkept after.unkept
+          HasServedTask told ends faults unheard who t before.store mid (maker before.guests) (maker after.guests) old new o.reply place seen status
+      pub reports : HasReported told stores slot seen.front status mid after.store before.unkept after.unkept
       pub lets_go : LetsGo slot seen.front seen.occupied before.list after.list
       pub rests : RestsAt slot place o
 

@@ -13,7 +13,7 @@ pub(crate) fn counted(unkept: u64, kept: StatusKept) -> u64
     ensures { Counts kept unkept result }
 {
     match kept {
-        StatusKept::Unchanged | StatusKept::Done => unkept,
+        StatusKept::Overtaken | StatusKept::Unchanged | StatusKept::Done => unkept,
         StatusKept::Failed | StatusKept::NoMemory | StatusKept::Spent => unkept.saturating_add(1),
     }
 }

@@ -71,9 +71,9 @@ fn hold_and_serve<R: Wait, G: Guests, F: Files + Drop, K: Opening>(
 /// Asks the list for the slot of the domain, runs the task there, and releases the slot. Where the list gives no slot, its
 /// mark decides the reply. Where a pass of the row is spent, nothing is done.
 ///
-/// Where a call began or ended a boot, or changed the state, the operation or the phase of the domain, the status file is
-/// written or removed after the call's last turn of the domain. A fault there is counted in the row; the outcome does not
-/// depend on it.
+/// In its last turn of the domain a call reads the status of the domain's boot, and the store is told it with its place: the
+/// status file is written or removed where it does not say that yet, and where no later status was put. A fault there is
+/// counted in the row; the outcome does not depend on it.
 pub fn serve_held<R: Wait, G: Guests, F: Files + Drop, K: Opening>(
     rt: &R,
     alloc: Global,

@@ -4,7 +4,7 @@ ghost use Rattle.held_tasks.specs.Course.{IsServedIn, RestsAt};
 ghost use Rattle.held_tasks.specs.Holding.{HoldsSlot};
 
 use crate::counting::counted;
-use crate::status::{look, tell};
+use crate::status::tell;
 use crate::store::{Means, serve_with};
 use boot_status::Opening;
 use driver_cells::{Cells, NO_FRONT, Outcome, Row, Tasked, state_of};
@@ -36,9 +36,8 @@ fn outcome_at(slot: u32, place: Option<Front>, reply: Reply) -> Outcome
     }
 }
 
-/// Runs the task in the domain of the slot that the row's pass of the list holds, tells the store what a call changed of the
-/// status of the domain's boot, and releases the slot. The store is told before the release, while no other domain can get the
-/// slot.
+/// Runs the task in the domain of the slot that the row's pass of the list holds, tells the store the status that a call read
+/// of the domain's boot, and releases the slot. The store is told before the release, while no other domain can get the slot.
 pub(crate) fn serve_in_slot<R: Wait, G: Guests, F: Files + Drop, K: Opening>(
     rt: &R,
     alloc: Global,
@@ -58,12 +57,15 @@ pub(crate) fn serve_in_slot<R: Wait, G: Guests, F: Files + Drop, K: Opening>(
         store: store.into_pass(),
     };
     let domain = &cells.domains[slot as usize];
-    let (pass, before) = look(rt, domain, pass, task);
     let (means, pass, tasked) = serve_with(rt, alloc, &cells.store, domain, means, pass, who, task);
-    let (pass, after) = look(rt, domain, pass, task);
     let Means { guests, store } = means;
-    let (store, kept) = tell(rt, &cells.store, store, before, after);
-    let Tasked { reply, place, seen } = tasked;
+    let Tasked {
+        reply,
+        place,
+        seen,
+        status,
+    } = tasked;
+    let (store, kept) = tell(rt, &cells.store, store, slot, seen.front, status);
     let held = list.into_pass();
     let list = give_back(rt, &cells.list, held, slot, seen.front, seen.occupied);
     let rests = state_of(&store);

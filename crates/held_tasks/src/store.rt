@@ -37,7 +37,7 @@ fn serve_at<R: Wait, G: Guests, F: Files + Drop, K: Opening, P: Handed>(
     requires free { pass.share ≡ nothing_kept }
     requires handed { means.store ≡ P.store }
     requires maker { G.faults means.guests ≡ P.faults }
-    ensures { HasServedTask F.told G.E.ends G.E.faults G.E.unheard who task.now means.store result.0.store (G.faults means.guests) (G.faults result.0.guests) pass result.1 result.2.reply result.2.place result.2.seen }
+    ensures { HasServedTask F.told G.E.ends G.E.faults G.E.unheard who task.now means.store result.0.store (G.faults means.guests) (G.faults result.0.guests) pass result.1 result.2.reply result.2.place result.2.seen result.2.status }
 {
     let Means { guests, store } = means;
     let mut desk: RowDesk<R, G, F, K, P> = RowDesk::new(rt, alloc, cell, guests, store);
@@ -60,7 +60,7 @@ pub(crate) fn serve_with<R: Wait, G: Guests, F: Files + Drop, K: Opening>(
     requires store { means.store.cell ≡ cell.now }
     requires own { pass.cell ≡ domain.now }
     requires free { pass.share ≡ nothing_kept }
-    ensures { HasServedTask F.told G.E.ends G.E.faults G.E.unheard who task.now means.store result.0.store (G.faults means.guests) (G.faults result.0.guests) pass result.1 result.2.reply result.2.place result.2.seen }
+    ensures { HasServedTask F.told G.E.ends G.E.faults G.E.unheard who task.now means.store result.0.store (G.faults means.guests) (G.faults result.0.guests) pass result.1 result.2.reply result.2.place result.2.seen result.2.status }
 {
     serve_at::<R, G, F, K, Brand>(rt, alloc, cell, domain, means, pass, who, task)
 }

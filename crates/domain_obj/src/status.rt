@@ -2,7 +2,7 @@
 ghost use Rattle.std.specs.Prelude.{◌≡◌, IfOk, None, Ok, option_map};
 ghost use Rattle.domain_spec.specs.Read.{job_info};
 ghost use Rattle.domain_spec.specs.Reading.{boot_in, live_boot};
-ghost use Rattle.boot_status.specs.Reporting.{boot_status, guest_status};
+ghost use Rattle.domain_obj.specs.Status.{boot_status, guest_status};
 
 use core_rules::state_in;
 use virt_types::{Domain, NoMemory, Op, OpKind, Phase, State, Status, TryCopy};
