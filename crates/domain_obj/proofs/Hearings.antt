@@ -5,8 +5,8 @@ use Rattle.domain_spec.specs.Types.{EndReason}
 use Rattle.domain_spec.specs.Cell.{LentEars}
 use Rattle.domain_core.specs.Celled.{CellShare}
 use Rattle.domain_obj.specs.InTurn.{DomainPass}
-use Rattle.domain_obj.specs.Running.{Goes, IsAtRest, IsReady, IsSeen, IsSpent}
-use Rattle.domain_obj.specs.declared.place.Seen.{Seen}
+use Rattle.domain_obj.specs.Running.{Goes, IsAtRest, IsLastSeen, IsReady, IsSpent}
+use Rattle.domain_obj.specs.declared.place.LastSeen.{LastSeen}
 use Rattle.domain_obj.proofs.Going.{goes_nowhere, goes_on}
 use Rattle.domain_obj.specs.Hearing.{AreEars, EndsHearing, HasHeardOnce, HasHushed, HasLeft, HearsAll, HearsOne, Hushes, LeavesNothing, LeavesSoon, RunsOut, after_hearing, after_telling}
 use Rattle.domain_obj.specs.Lending.{IsLent, IsListening, IsStill, IsUnheard, IsUnlent, out_for, with_out}
@@ -52,12 +52,12 @@ two_turns : (boot : ℕ) (its : EarsView) (t : Option Told) (before between afte
 two_turns boot its t before between after ready lent told =
     (goes_on 1 1 [] [] before between after lent.turn.goes told.turn.goes, back_again before between after (Some (out_for before.number boot)) (rest_of before ready lent.turn.fresh) lent.share told.share)
 
-leaves_two : (boot : ℕ) (its : EarsView) (t : Option Told) (before between after : DomainPass) (seen : Seen) → IsReady before → IsLent boot its before between → IsTold boot t between after → IsSeen seen after → LeavesNothing 2 before after seen
+leaves_two : (boot : ℕ) (its : EarsView) (t : Option Told) (before between after : DomainPass) (seen : LastSeen) → IsReady before → IsLent boot its before between → IsTold boot t between after → IsLastSeen seen after → LeavesNothing 2 before after seen
 leaves_two boot its t before between after seen ready lent told at =
     let two = two_turns boot its t before between after ready lent told in
     record { goes = two.0; share = two.1; at = at }
 
-leaves_one : (before after : DomainPass) (seen : Seen) (found : _) → IsStill found before after → IsSeen seen after → LeavesNothing 1 before after seen
+leaves_one : (before after : DomainPass) (seen : LastSeen) (found : _) → IsStill found before after → IsLastSeen seen after → LeavesNothing 1 before after seen
 leaves_one before after seen found still at = record { goes = still.goes; share = still.share; at = at }
 
 -- no ticket was left
@@ -99,10 +99,10 @@ at_least heard turns some = omega (arith, some)
 module _ {E : Type 0} (ends faults : E → ℕ) (unheard : E → Option (List GuestEvent)) where
   -- one hearing
 
-  pub not_heard : (before after : DomainPass) (seen : Seen) → IsUnheard before after → IsSeen seen after → HasHeardOnce ends faults unheard before after (once.Last (hushed.Unheard seen))
+  pub not_heard : (before after : DomainPass) (seen : LastSeen) → IsUnheard before after → IsLastSeen seen after → HasHeardOnce ends faults unheard before after (once.Last (hushed.Unheard seen))
   not_heard before after seen h at = (1, (refl, h), leaves_one before after seen h.found h.still at)
 
-  pub not_lent : (before after : DomainPass) (seen : Seen) → IsUnlent before after → IsSeen seen after → HasHeardOnce ends faults unheard before after (once.Last (hushed.NoMemory seen))
+  pub not_lent : (before after : DomainPass) (seen : LastSeen) → IsUnlent before after → IsLastSeen seen after → HasHeardOnce ends faults unheard before after (once.Last (hushed.NoMemory seen))
   not_lent before after seen h at = (1, inr (refl, h), leaves_one before after seen h.found h.still at)
 
   hears_one : (h : Heard) (boot : ℕ) (its : EarsView) (before between after : DomainPass) (was now : E) → IsLent boot its before between → AreEars ends faults unheard its was → IsHeardCaused h (ends now) (faults was) (faults now) → Hears (unheard was) (unheard now) h → IsTold boot (told_of h) between after
@@ -110,20 +110,20 @@ module _ {E : Type 0} (ends faults : E → ℕ) (unheard : E → Option (List Gu
   hears_one h boot its before between after was now lent are_its caused heard_of told =
       record { boot = boot; between = between; its = its; lent = lent; are_its = are_its; was = was; now = now; caused = caused; heard_of = heard_of; is_told = told }
 
-  loud_or_not : (h : Heard) (t : Option Told) (before after : DomainPass) (seen : Seen) → told_of h ≡ t → h ≢ heard.NoMemory → HearsOne ends faults unheard h before after → LeavesNothing 2 before after seen
+  loud_or_not : (h : Heard) (t : Option Told) (before after : DomainPass) (seen : LastSeen) → told_of h ≡ t → h ≢ heard.NoMemory → HearsOne ends faults unheard h before after → LeavesNothing 2 before after seen
       → HasHeardOnce ends faults unheard before after (after_telling t seen)
   loud_or_not h (Some t) before after seen is other one leaves = (h, one, (λ e. some_none t (sym is ∙ e)), leaves.at)
   loud_or_not h None before after seen is other one leaves = (2, (refl, h, one, is, other), leaves)
 
-  so_by : (h : Heard) (before after : DomainPass) (seen : Seen) → HearsOne ends faults unheard h before after → LeavesNothing 2 before after seen → HasHeardOnce ends faults unheard before after (after_hearing h seen)
+  so_by : (h : Heard) (before after : DomainPass) (seen : LastSeen) → HearsOne ends faults unheard h before after → LeavesNothing 2 before after seen → HasHeardOnce ends faults unheard before after (after_hearing h seen)
   so_by heard.NoMemory before after seen one leaves = (2, inl (refl, one), leaves)
   so_by (heard.Event e) before after seen one leaves = loud_or_not (heard.Event e) (told_of (heard.Event e)) before after seen refl (event_other e) one leaves
   so_by (heard.Ended why) before after seen one leaves = loud_or_not (heard.Ended why) (told_of (heard.Ended why)) before after seen refl (end_other why) one leaves
   so_by heard.Lost before after seen one leaves = loud_or_not heard.Lost (told_of heard.Lost) before after seen refl lost_other one leaves
   so_by heard.Quiet before after seen one leaves = loud_or_not heard.Quiet (told_of heard.Quiet) before after seen refl quiet_other one leaves
 
-  pub heard_so : (h : Heard) (boot : ℕ) (its : EarsView) (before between after : DomainPass) (was now : E) (seen : Seen) → IsReady before → IsLent boot its before between → AreEars ends faults unheard its was → IsHeardCaused h (ends now) (faults was) (faults now) → Hears (unheard was) (unheard now) h
-      → IsTold boot (told_of h) between after → IsSeen seen after → HasHeardOnce ends faults unheard before after (after_hearing h seen)
+  pub heard_so : (h : Heard) (boot : ℕ) (its : EarsView) (before between after : DomainPass) (was now : E) (seen : LastSeen) → IsReady before → IsLent boot its before between → AreEars ends faults unheard its was → IsHeardCaused h (ends now) (faults was) (faults now) → Hears (unheard was) (unheard now) h
+      → IsTold boot (told_of h) between after → IsLastSeen seen after → HasHeardOnce ends faults unheard before after (after_hearing h seen)
   heard_so h boot its before between after was now seen ready lent are_its caused hears told at =
       so_by h before after seen (hears_one h boot its before between after was now lent are_its caused hears told) (leaves_two boot its (told_of h) before between after seen ready lent told at)
 
@@ -147,7 +147,7 @@ module _ {E : Type 0} (ends faults : E → ℕ) (unheard : E → Option (List Gu
   two_of : (h : Heard) (before after : DomainPass) → IsReady before → HearsOne ends faults unheard h before after → Goes 2 [] before after × (after.share ≡ before.share)
   two_of h before after ready one = two_turns one.boot one.its (told_of h) before one.between after ready one.lent one.is_told
 
-  pub keeps_on : (times : ℕ) (first now after : DomainPass) (seen : Seen) → IsReady now → Keeps times first now → HasHeardOnce ends faults unheard now after (once.Heard seen) → Keeps (times + 1) first after
+  pub keeps_on : (times : ℕ) (first now after : DomainPass) (seen : LastSeen) → IsReady now → Keeps times first now → HasHeardOnce ends faults unheard now after (once.Heard seen) → Keeps (times + 1) first after
   keeps_on times first now after seen ready k (h, one, some, at) =
       let two = two_of h now after ready one in
       record {
@@ -158,20 +158,20 @@ module _ {E : Type 0} (ends faults : E → ℕ) (unheard : E → Option (List Gu
         share = two.1 ∙ k.share;
       }
 
-  pub ready_then : (now after : DomainPass) (seen : Seen) → IsReady now → HasHeardOnce ends faults unheard now after (once.Heard seen) → IsReady after
+  pub ready_then : (now after : DomainPass) (seen : LastSeen) → IsReady now → HasHeardOnce ends faults unheard now after (once.Heard seen) → IsReady after
   ready_then now after seen ready (h, one, some, at) =
       let two = two_of h now after ready one in
       ready_on now after ready two.1 two.0.went.spent
 
-  pub cell_then : (now after : DomainPass) (seen : Seen) → IsReady now → HasHeardOnce ends faults unheard now after (once.Heard seen) → after.cell ≡ now.cell
+  pub cell_then : (now after : DomainPass) (seen : LastSeen) → IsReady now → HasHeardOnce ends faults unheard now after (once.Heard seen) → after.cell ≡ now.cell
   cell_then now after seen ready (h, one, some, at) = (two_of h now after ready one).0.went.same.cell
 
-  pub often : (times : ℕ) (first now after : DomainPass) (seen : Seen) → times + 1 ≡ 64 → IsReady now → Keeps times first now → HasHeardOnce ends faults unheard now after (once.Heard seen) → HasHushed ends faults unheard first after (hushed.Often seen)
+  pub often : (times : ℕ) (first now after : DomainPass) (seen : LastSeen) → times + 1 ≡ 64 → IsReady now → Keeps times first now → HasHeardOnce ends faults unheard now after (once.Heard seen) → HasHushed ends faults unheard first after (hushed.Often seen)
   often times first now after seen e ready k once =
       let more = keeps_on times first now after seen ready k once in
       (more.all, more.count ∙ e, more.hears, record { goes = subst (λ (n : ℕ). Goes (2 * n) [] first after) e more.goes; share = more.share; at = once.3 })
 
-  hushes : (times turns : ℕ) (first now after : DomainPass) (q : Hushed) (seen : Seen) → times < 64 → Keeps times first now → EndsHearing ends faults unheard turns now after q → LeavesNothing turns now after seen → Hushes ends faults unheard first after q seen
+  hushes : (times turns : ℕ) (first now after : DomainPass) (q : Hushed) (seen : LastSeen) → times < 64 → Keeps times first now → EndsHearing ends faults unheard turns now after q → LeavesNothing turns now after seen → Hushes ends faults unheard first after q seen
   hushes times turns first now after q seen few k ends_so leaves = record {
     all = k.all;
     few = subst (λ (n : ℕ). n < 64) (sym k.count) few;
@@ -204,7 +204,7 @@ module _ {E : Type 0} (ends faults : E → ℕ) (unheard : E → Option (List Gu
   few_turns turns before after (hushed.Often seen) h = absurd h
   few_turns turns before after hushed.Spent h = absurd h
 
-  soon : (before after : DomainPass) (q : Hushed) (seen : Seen) → Hushes ends faults unheard before after q seen → LeavesSoon before after seen
+  soon : (before after : DomainPass) (q : Hushed) (seen : LastSeen) → Hushes ends faults unheard before after q seen → LeavesSoon before after seen
   soon before after q seen h =
       let few = few_turns h.turns h.last after q h.ends_so in
       record { turns = 2 * length h.all + h.turns; some = at_least (length h.all) h.turns few.0; most = at_most (length h.all) h.turns h.few few.1; leaves = h.leaves }

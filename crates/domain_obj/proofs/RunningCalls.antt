@@ -1,17 +1,17 @@
 -- A call, and then the hearing.
-use Rattle.std.proofs.Common.{◌≡◌, inl, inr, ℕ, List, [], true, false, IfSome, Option, None, Some, refl, sym, ap, ◌∙◌, subst}
+use Rattle.std.proofs.Common.{◌≡◌, inl, inr, ℕ, Bool, List, [], true, Option, None, Some, refl, sym, ap, ◌∙◌, subst}
 use Rattle.virt_types.specs.declared.ask.GuestEvent.{GuestEvent}
 use Rattle.virt_types.specs.Below.types_base.declared.caller.Front.{Front}
 use Rattle.domain_spec.specs.Types.{Answer, Ask, Call, Who}
 use Rattle.domain_spec.specs.declared.mark.Mark.{Mark}
 use Rattle.domain_core.specs.Celled.{CellShare}
 use Rattle.domain_obj.specs.InTurn.{DomainPass}
-use Rattle.domain_obj.specs.Running.{Goes, IsAtRest, IsReady, IsSeen, IsSpent}
-use Rattle.domain_obj.specs.declared.place.Seen.{Seen}
+use Rattle.domain_obj.specs.Running.{Goes, IsAtRest, IsLastSeen, IsReady, IsSpent}
+use Rattle.domain_obj.specs.declared.place.LastSeen.{LastSeen}
 use Rattle.domain_obj.specs.Hearing.{HasHushed}
 use Rattle.domain_obj.specs.declared.ends.Hushed.{Hushed}
 use Rattle.domain_obj.specs.declared.ends.Hushed.TheVariants as hushed
-use Rattle.domain_obj.specs.Places.{IsAt, place_or, seen_by}
+use Rattle.domain_obj.specs.Places.{IsAt, SeesLast, front_seen, place_or, seen_by}
 use Rattle.domain_obj.specs.declared.places.At.{At}
 use Rattle.domain_obj.specs.Called.{HasCalled}
 use Rattle.domain_obj.specs.declared.ending.Called.{Called}
@@ -87,33 +87,22 @@ operated_cell who d before after report now operated.SpentAmid h = spent_cell h.
 
 -- what it has seen
 
-true_false : {A : Type 0} → true ≡ false → A
-true_false e = cc
+sees_one : (after : DomainPass) (seen : LastSeen) → IsLastSeen seen after → SeesLast after.spent after (Some seen)
+sees_one after seen at = subst (λ (spent : Bool). SeesLast spent after (Some seen)) (sym at.fresh) at
 
-same_seen : (x s : Seen) → Some x ≡ Some s → x ≡ s
-same_seen x s e = cc
-
-seen_at : (after : DomainPass) (seen : Seen) (at : At) → IsSeen seen after → (at.seen ≡ seen.front) × (at.occupied ≡ seen.occupied) → IsSeen (record { front = at.seen; occupied = at.occupied }) after
-seen_at after seen at h (front, occupied) = record {
-  chapter = ap (λ (f : Front). f.chapter) front ∙ h.chapter;
-  marks = ap (λ (f : Front). f.marks) front ∙ h.marks;
-  occupied = occupied ∙ h.occupied;
-}
-
-seen_is : (o : Option Seen) (s : Seen) (at : At) → IfSome o (λ x. (at.seen ≡ x.front) × (at.occupied ≡ x.occupied)) → o ≡ Some s → (at.seen ≡ s.front) × (at.occupied ≡ s.occupied)
-seen_is None s at h e = cc
-seen_is (Some x) s at h e = subst (λ (y : Seen). (at.seen ≡ y.front) × (at.occupied ≡ y.occupied)) (same_seen x s e) h
+sees_none : (after : DomainPass) → after.spent ≡ true → SeesLast after.spent after None
+sees_none after is = subst (λ (spent : Bool). SeesLast spent after None) (sym is) tt
 
 module _ {E : Type 0} (ends faults : E → ℕ) (unheard : E → Option (List GuestEvent)) where
-  pub seen_then : (before after : DomainPass) (q : Hushed) (last : Option Front) (at : At) → HasHushed ends faults unheard before after q → at.place ≡ place_or last at.seen
-      → ((s : Seen) → seen_by q ≡ Some s → (at.seen ≡ s.front) × (at.occupied ≡ s.occupied)) → IsAt last after at
-  seen_then before after (hushed.Quiet seen) last at h place is = record { place = place; seen = λ e. seen_at after seen at h.leaves.at (is seen refl) }
-  seen_then before after (hushed.NoMemory seen) last at h place is = record { place = place; seen = λ e. seen_at after seen at h.leaves.at (is seen refl) }
-  seen_then before after (hushed.Unheard seen) last at h place is = record { place = place; seen = λ e. seen_at after seen at h.leaves.at (is seen refl) }
-  seen_then before after (hushed.Often seen) last at h place is = record { place = place; seen = λ e. seen_at after seen at h.3.at (is seen refl) }
-  seen_then before after hushed.Spent last at h place is = record { place = place; seen = λ e. true_false (sym (ap (λ (p : DomainPass). p.spent) h.5.spent) ∙ e) }
+  sees_then : (before after : DomainPass) (q : Hushed) → HasHushed ends faults unheard before after q → SeesLast after.spent after (seen_by q)
+  sees_then before after (hushed.Quiet seen) h = sees_one after seen h.leaves.at
+  sees_then before after (hushed.NoMemory seen) h = sees_one after seen h.leaves.at
+  sees_then before after (hushed.Unheard seen) h = sees_one after seen h.leaves.at
+  sees_then before after (hushed.Often seen) h = sees_one after seen h.3.at
+  sees_then before after hushed.Spent h = sees_none after (ap (λ (p : DomainPass). p.spent) h.5.spent)
 
-  pub at_then : (before after : DomainPass) (q : Hushed) (last told : Option Front) (o : Option Seen) (at : At) → HasHushed ends faults unheard before after q → told ≡ last → o ≡ seen_by q → at.place ≡ place_or told at.seen
-      → IfSome o (λ x. (at.seen ≡ x.front) × (at.occupied ≡ x.occupied)) → IsAt last after at
-  at_then before after q last told o at h same is place seen =
-      seen_then before after q last at h (place ∙ ap (λ (x : Option Front). place_or x at.seen) same) (λ s e. seen_is o s at seen (is ∙ e))
+  pub at_then : (before after : DomainPass) (q : Hushed) (last told : Option Front) (o : Option LastSeen) (at : At) → HasHushed ends faults unheard before after q → told ≡ last → o ≡ seen_by q → at.place ≡ place_or told (front_seen o) → at.seen ≡ o → IsAt last after at
+  at_then before after q last told o at h same is place seen = record {
+    place = place ∙ λ i. place_or (same i) (front_seen (sym seen i));
+    sees = subst (λ (x : Option LastSeen). SeesLast after.spent after x) (sym (seen ∙ is)) (sees_then before after q h);
+  }

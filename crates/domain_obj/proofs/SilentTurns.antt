@@ -1,12 +1,14 @@
 -- A turn of a pass that leaves no mark of its own.
-use Rattle.std.proofs.Common.{◌≡◌, ℕ, [], length, Option, sym, ap, ◌∙◌, subst}
+use Rattle.std.proofs.Common.{◌≡◌, ℕ, [], length, Option, IfOk, sym, ap, ◌∙◌, subst}
 use Rattle.domain_spec.specs.Cell.{LentEars, OpenCall, Share, ears_of, share_of}
 use Rattle.domain_core.specs.Celled.{CellShare, Celled, cell_in, cell_share, chapter_of, monitor_of, standing_in}
 use Rattle.domain_core.specs.Meaning.{history_of, meaning}
 use Rattle.domain_core.specs.Core.{is_occupied, with_ears}
 use Rattle.domain_core.specs.OfTurns.{Turning}
 use Rattle.domain_obj.specs.InTurn.{DomainPass, DomainTurn}
-use Rattle.domain_obj.specs.Running.{DomainHistory, IsLegalHistory, IsSeen, standing_after}
+use Rattle.domain_obj.specs.Running.{DomainHistory, IsLastSeen, IsLegalHistory, IsSeen, standing_after}
+use Rattle.domain_obj.specs.Status.{boot_status}
+use Rattle.domain_obj.specs.declared.place.LastSeen.{LastSeen}
 use Rattle.domain_obj.specs.declared.place.Seen.{Seen}
 use Rattle.domain_obj.proofs.Entering.{kept_turn, may_leave}
 use Rattle.domain_obj.proofs.Taking.{one_turn}
@@ -42,6 +44,16 @@ seen_at seen after v chapter marks occupied saw = record {
   chapter = chapter ∙ sym (ap (λ (h : DomainHistory). h.chapter) saw);
   marks = marks ∙ sym (ap (λ (h : DomainHistory). length h.marks) saw);
   occupied = occupied ∙ sym (ap (λ (h : DomainHistory). is_occupied (standing_after h)) saw);
+}
+
+pub last_seen_at : (seen : LastSeen) (before after : DomainPass) (found v : Celled) → IsSilentTurn found v before after → seen.front.chapter ≡ v.core.turning.chapter → seen.front.marks ≡ length (cell_in v).marks → seen.occupied ≡ is_occupied (standing_in v)
+    → IfOk seen.status (λ s. s ≡ boot_status (standing_in v).state) → IsLastSeen seen after
+last_seen_at seen before after found v turn chapter marks occupied status = record {
+  fresh = turn.goes.went.spent ∙ turn.fresh;
+  chapter = chapter ∙ sym (ap (λ (h : DomainHistory). h.chapter) turn.saw);
+  marks = marks ∙ sym (ap (λ (h : DomainHistory). length h.marks) turn.saw);
+  occupied = occupied ∙ sym (ap (λ (h : DomainHistory). is_occupied (standing_after h)) turn.saw);
+  status = subst (λ (h : DomainHistory). IfOk seen.status (λ s. s ≡ boot_status (standing_after h).state)) (sym turn.saw) status;
 }
 
 -- what is kept for a number

@@ -16,7 +16,7 @@ use Rattle.domain_obj.specs.Refusing.{IsRefusedSo}
 use Rattle.domain_obj.specs.Running.{Goes, IsSpent}
 use Rattle.domain_obj.proofs.Placing.{placed_later}
 use Rattle.domain_obj.specs.OfCells.{IsToldAtEnd}
-use Rattle.domain_obj.specs.Places.{place_or}
+use Rattle.domain_obj.specs.Places.{front_seen, place_or}
 use Rattle.domain_obj.specs.declared.places.At.{At}
 use Rattle.domain_obj.specs.Replies.{TellsCalled, TellsOperated, called_at, operated_at}
 use Rattle.domain_obj.specs.Called.{HasCalled}
@@ -97,7 +97,7 @@ stays_spent : (before last after : DomainPass) → IsSpent before last → Follo
 stays_spent before last after e on = on.spent (is_spent before last e)
 
 pub answers_called : (who : Who) (d : Call) (before last after : DomainPass) (report now : List (Ask × Answer)) (c : Called) (said r : Reply) (at : At) → HasCalled who d before last report now c → Follows [] last after → TellsCalled c said
-    → at.place ≡ place_or (called_at c) at.seen → IsPrinted said r → IsAnswered before after d at.place r
+    → at.place ≡ place_or (called_at c) (front_seen at.seen) → IsPrinted said r → IsAnswered before after d at.place r
 answers_called who d before last after report now (called.Done own place) said r at h on tells is prints =
     let m : Mark ℕ = mark.Done before.number who d h.boot h.asks h.answers own h.events in
     let admit : Mark ℕ = mark.Admit before.number who (job_of d) d h.boot in
@@ -152,7 +152,7 @@ told_as own said now same (inr none) = inr (same ∙ none)
 
 -- ---- operations
 pub answers_operated : (who : Who) (d : Call) (before last after : DomainPass) (report now : List (Ask × Answer)) (c : Operated) (said r : Reply) (at : At) → HasOperated who d before last report now c → Follows [] last after → TellsOperated c said
-    → at.place ≡ place_or (operated_at c) at.seen → IsPrinted said r → IsAnswered before after d at.place r
+    → at.place ≡ place_or (operated_at c) (front_seen at.seen) → IsPrinted said r → IsAnswered before after d at.place r
 answers_operated who d before last after report now (operated.Ended given place) said r at h on tells is prints =
     let m : Mark ℕ = mark.End before.number who h.last in
     let begun : List (ℕ × Mark ℕ) = begun_by h.chapter before.number who d h.boot h.first in
