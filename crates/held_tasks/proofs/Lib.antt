@@ -1,5 +1,4 @@
 pub mod Lists
-pub mod Reading
 pub mod Statuses
 pub mod Rows
 pub mod Results

@@ -29,7 +29,6 @@ use Rattle.driver_cells.proofs.Stopping.{no_room, ran_out, stopped}
 use Rattle.held_tasks.specs.Outcomes.{HasTaskOutcome, IsGivenIn, IsRefused, TaskRestsOn, is_query}
 use Rattle.held_tasks.proofs.Lists.{stands_in}
 use Rattle.held_tasks.proofs.Rows.{let_go_later}
-use Rattle.held_tasks.proofs.Statuses.{answers_over, now_over}
 
 -- ---- marks of the list
 
@@ -132,7 +131,7 @@ module _ {G : Type 0} where
         answered before after held t s.slot h.old h.new h.place o
         (slot_stays held s.slot before.list s.had.list after.list (slot_left held s.slot s.at before.list s.had.list s.holds) on)
         (pass_in before h.domains.first h.old h.domains.rest s.slot h.domains.in_slot was) (pass_in after h.domains.first h.new h.domains.rest s.slot h.domains.in_slot h.domains.is) h.rests
-        (answers_over t h.old h.first h.last h.new h.reports.was h.reports.is h.place o.reply h.reports.looks h.reports.looks_again h.serves.tasked.answers)
+        h.serves.tasked.answers
 
     -- the outcome rests on what it names
     pub outcome : (who : Who) (held : ListCall) (t : Task) (before after : DriverRow G) (o : Outcome) → HasServedHeld told stores maker ends faults unheard who held t before after o → HasTaskOutcome (known_row before) (known_row after) held t o
@@ -144,6 +143,6 @@ module _ {G : Type 0} where
     pub now : (who : Who) (held : ListCall) (t : Task) (before after : DriverRow G) (o : Outcome) → HasServedHeld told stores maker ends faults unheard who held t before after o → IsNow (known_row after) (is_query t) o.cell o.front
     now who held t before after o (inl s) =
         let h : IsServedIn told stores maker ends faults unheard who t s.slot s.had after o = s.serves in
-        task_now (known_row after) s.slot t (known h.new) h.place o (pass_in after h.domains.first h.new h.domains.rest s.slot h.domains.in_slot h.domains.is) h.rests (now_over t h.last h.new h.reports.is h.place h.reports.looks_again h.serves.tasked.reads_now)
+        task_now (known_row after) s.slot t (known h.new) h.place o (pass_in after h.domains.first h.new h.domains.rest s.slot h.domains.in_slot h.domains.is) h.rests h.serves.tasked.reads_now
     now who held t before after o (inr (inl u)) = subst (λ (c : CellName). IsNow (known_row after) (is_query t) c o.front) (sym u.name) (at_no_domain (known_row after) (is_query t) o.front).0
     now who held t before after o (inr (inr out)) = subst (λ (c : CellName). IsNow (known_row after) (is_query t) c o.front) (sym out.name) (at_no_domain (known_row after) (is_query t) o.front).1

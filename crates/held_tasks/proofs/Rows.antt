@@ -27,7 +27,7 @@ use Rattle.driver_cells.specs.Parts.{KeepsParts, parts_of}
 use Rattle.driver_cells.specs.Ready.{HoldsNoSlot, IsReadyRow, KeepsNothing}
 use Rattle.list_holds.specs.Released.{LetsGo}
 use Rattle.held_tasks.proofs.Lists.{all_at, one_of, same_length, same_map}
-use Rattle.held_tasks.proofs.Statuses.{over_keeps, over_later, saw_first, saw_last, store_went}
+use Rattle.held_tasks.proofs.Statuses.{store_went}
 use Rattle.driver_cells.proofs.OfOutcomes.{level_stays}
 use Rattle.driver_cells.proofs.Going.{are_later, are_same}
 use Rattle.driver_cells.proofs.Parts.{parts_through}
@@ -156,36 +156,31 @@ module _ {G : Type 0} where
     served_gone : (who : Who) (t : Task) (slot : ℕ) (had after : DriverRow G) (o : Outcome) → IsServedIn told stores maker ends faults unheard who t slot had after o → HasGone (known_row had) (known_row after)
     served_gone who t slot had after o h = record {
       list = let_go_later slot h.seen.front h.seen.occupied had.list after.list h.lets_go;
-      store = later_through level level_stays (known had.store) (known h.mid) (known after.store) (store_later told h.serves.report had.store h.mid h.serves.served) (store_went h.reports).later;
-      domains = are_later had.domains after.domains h.domains.first h.domains.rest h.old h.new h.domains.was h.domains.is
-          (over_later h.old h.first h.last h.new (saw_first h.reports) h.serves.tasked.later (saw_last h.reports));
+      store = later_through level level_stays (known had.store) (known h.mid) (known after.store) (store_later told h.serves.report had.store h.mid h.serves.served) (store_went told stores slot h.seen.front h.reports).later;
+      domains = are_later had.domains after.domains h.domains.first h.domains.rest h.old h.new h.domains.was h.domains.is h.serves.tasked.later;
     }
 
     served_of : (list store : TableId) (domains : List TableId) (who : Who) (t : Task) (slot : ℕ) (had after : DriverRow G) (o : Outcome) → IsServedIn told stores maker ends faults unheard who t slot had after o → IsOf list store domains had → IsOf list store domains after
     served_of list store domains who t slot had after o h own = record {
       list_is = let_go_cell slot h.seen.front h.seen.occupied had.list after.list h.lets_go ∙ own.list_is;
-      store_is = (store_went h.reports).cell ∙ (store_cell told h.serves.report had.store h.mid h.serves.served ∙ own.store_is);
+      store_is = (store_went told stores slot h.seen.front h.reports).cell ∙ (store_cell told h.serves.report had.store h.mid h.serves.served ∙ own.store_is);
       domains_are = ap (λ (l : List DomainPass). map cell_of l) h.domains.is
-          ∙ (same_map cell_of h.domains.first h.old h.new h.domains.rest
-          ((saw_last h.reports).same.cell ∙ (h.serves.tasked.same.cell ∙ (saw_first h.reports).same.cell))
+          ∙ (same_map cell_of h.domains.first h.old h.new h.domains.rest h.serves.tasked.same.cell
           ∙ (ap (λ (l : List DomainPass). map cell_of l) (sym h.domains.was) ∙ own.domains_are));
     }
 
     served_parts : (who : Who) (t : Task) (slot : ℕ) (had after : DriverRow G) (o : Outcome) → IsServedIn told stores maker ends faults unheard who t slot had after o → KeepsParts had after
     served_parts who t slot had after o h = record {
       list = let_go_parts slot h.seen.front h.seen.occupied had.list after.list h.lets_go;
-      store = (store_went h.reports).parts ∙ store_parts told h.serves.report had.store h.mid h.serves.served;
+      store = (store_went told stores slot h.seen.front h.reports).parts ∙ store_parts told h.serves.report had.store h.mid h.serves.served;
       domains = ap (λ (l : List DomainPass). map parts_of l) h.domains.is
-          ∙ (same_map parts_of h.domains.first h.old h.new h.domains.rest
-          ((saw_last h.reports).same.parts ∙ (h.serves.tasked.same.parts ∙ (saw_first h.reports).same.parts)) ∙ ap (λ (l : List DomainPass). map parts_of l) (sym h.domains.was));
+          ∙ (same_map parts_of h.domains.first h.old h.new h.domains.rest h.serves.tasked.same.parts ∙ ap (λ (l : List DomainPass). map parts_of l) (sym h.domains.was));
     }
 
     served_domains : (who : Who) (t : Task) (slot : ℕ) (had after : DriverRow G) (o : Outcome) → IsServedIn told stores maker ends faults unheard who t slot had after o → All KeepsNothing had.domains → All KeepsNothing after.domains
     served_domains who t slot had after o h all =
         let before : All KeepsNothing (h.domains.first ++ h.old ∷ h.domains.rest) = subst (λ (l : List DomainPass). All KeepsNothing l) h.domains.was all in
-        let new : KeepsNothing h.new = keeps_none h.old h.new
-        (over_later h.old h.first h.last h.new (saw_first h.reports) h.serves.tasked.later (saw_last h.reports)).spent
-        (over_keeps h.old h.first h.last h.new (saw_first h.reports) h.serves.tasked.later (saw_last h.reports) h.serves.tasked.keeps) (one_of KeepsNothing h.domains.first h.old h.domains.rest before) in
+        let new : KeepsNothing h.new = keeps_none h.old h.new h.serves.tasked.later.spent h.serves.tasked.keeps (one_of KeepsNothing h.domains.first h.old h.domains.rest before) in
         subst (λ (l : List DomainPass). All KeepsNothing l) (sym h.domains.is) (all_at KeepsNothing h.domains.first h.old h.new h.domains.rest before new)
 
     gone_on : (before had after : DriverRow G) → IsLater level (known before.list) (known had.list) → ListGoes before had → HasGone (known_row had) (known_row after) → HasGone (known_row before) (known_row after)

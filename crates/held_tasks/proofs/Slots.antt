@@ -9,6 +9,7 @@ use Rattle.domain_spec.specs.Types.{Reply, Who}
 use Rattle.files_disk.specs.Telling.{Told}
 use Rattle.object_list.specs.Turns.{ListPassed}
 use Rattle.driver_cells.specs.OfOutcomes.{Outcome}
+use Rattle.driver_cells.specs.OfTasks.{StatusRead}
 use Rattle.pass_rows.specs.Cutting.{cell_of}
 use Rattle.pass_rows.specs.Resting.{IsIdle}
 use Rattle.row_desk.specs.Views.{StorePass}
@@ -43,21 +44,20 @@ keeps_empty old new keeps free fresh = keeps fresh ∙ free
 
 -- all of it
 module _ {F E G : Type 0} (told : F → Told) (stores : F → ℕ) (maker : G → ℕ) (ends faults : E → ℕ) (unheard : E → Option (List GuestEvent)) where
-  pub served_in : (who : Who) (t : Task) (slot : ℕ) (row after : DriverRow G) (o : Outcome) (l l' : ListPassed) (s mid s' : StorePass) (domains domains' before rest : List DomainPass) (old first last new : DomainPass)
-      (guests guests' : G) (unkept unkept' : ℕ) (r : Reply) (place : Option Front) (seen : Seen) → row ≡ row_with l s domains guests unkept → domains ≡ before ++ old ∷ rest → length before ≡ slot
-      → HasServedTask told ends faults unheard who t s mid (maker guests) (maker guests') first last r place seen → HasReported told stores t old first last new mid s' unkept unkept'
+  pub served_in : (who : Who) (t : Task) (slot : ℕ) (row after : DriverRow G) (o : Outcome) (l l' : ListPassed) (s mid s' : StorePass) (domains domains' before rest : List DomainPass) (old new : DomainPass)
+      (guests guests' : G) (unkept unkept' : ℕ) (r : Reply) (place : Option Front) (seen : Seen) (status : StatusRead) → row ≡ row_with l s domains guests unkept → domains ≡ before ++ old ∷ rest → length before ≡ slot
+      → HasServedTask told ends faults unheard who t s mid (maker guests) (maker guests') old new r place seen status → HasReported told stores slot seen.front status mid s' unkept unkept'
       → LetsGo slot seen.front seen.occupied l l' → domains' ≡ before ++ new ∷ rest → after ≡ row_with l' s' domains' guests' unkept' → o.reply ≡ r → RestsAt slot place o → IsServedIn told stores maker ends faults unheard who t slot row after o
-  served_in who t slot row after o l l' s mid s' domains domains' before rest old first last new guests guests' unkept unkept' r place seen from there at serves reports goes put made says rests =
+  served_in who t slot row after o l l' s mid s' domains domains' before rest old new guests guests' unkept unkept' r place seen status from there at serves reports goes put made says rests =
       let base : IsServedIn told stores maker ends faults unheard who t slot (row_with l s domains guests unkept) (row_with l' s' domains' guests' unkept') o = record {
         old = old;
-        first = first;
-        last = last;
         new = new;
         mid = mid;
         place = place;
         seen = seen;
+        status = status;
         domains = record { first = before; rest = rest; was = there; is = put; in_slot = at };
-        serves = subst (λ (x : Reply). HasServedTask told ends faults unheard who t s mid (maker guests) (maker guests') first last x place seen) (sym says) serves;
+        serves = subst (λ (x : Reply). HasServedTask told ends faults unheard who t s mid (maker guests) (maker guests') old new x place seen status) (sym says) serves;
         reports = reports;
         lets_go = goes;
         rests = rests;

@@ -1,7 +1,6 @@
 use Rattle.std.proofs.Common.{sym, ◌∙◌}
 use Rattle.held_tasks.specs.Statuses.{HasReported}
 use Rattle.held_tasks.proofs.Slots.{domain_idle, domain_own, keeps_empty, row_with, served_in}
-use Rattle.held_tasks.proofs.Statuses.{looked_saw, over_keeps}
 use Rattle.held_tasks.proofs.slot.serve_in_slot.Goals as goal
 
 pub serve_with-means-requires-clause-free : goal.serve_with-means-requires-clause-free
@@ -9,41 +8,21 @@ serve_with-means-requires-clause-free g c =
     let a = c.args in
     let p = c.into_parts-list.result in
     let t = c.take-pass.result in
-    (looked_saw a.task.now t.0 c.look-pass.result.0 c.look-pass.result.1 c.look-pass.ensures.looked).share
-    ∙ (domain_idle a.slot a.cells.now.list a.cells.now.store a.cells.now.domains.items a.row c.requires p.0 p.1 p.2 p.3 p.4 c.into_parts-list.ensures t.1.before t.0 t.1.after c.take-pass.ensures.all c.take-pass.ensures.slot).empty
+    (domain_idle a.slot a.cells.now.list a.cells.now.store a.cells.now.domains.items a.row c.requires p.0 p.1 p.2 p.3 p.4 c.into_parts-list.ensures t.1.before t.0 t.1.after c.take-pass.ensures.all c.take-pass.ensures.slot).empty
 
 pub serve_with-means-requires-clause-own : goal.serve_with-means-requires-clause-own
 serve_with-means-requires-clause-own g c =
     let a = c.args in
     let p = c.into_parts-list.result in
     let t = c.take-pass.result in
-    let own = domain_own a.slot a.cells.now.list a.cells.now.store a.cells.now.domains.items a.row c.requires p.0 p.1 p.2 p.3 p.4 c.into_parts-list.ensures t.1.before t.0 t.1.after c.take-pass.ensures.all c.take-pass.ensures.slot c.index-domain.result.now c.index-domain.ensures in
-    c.look-pass.ensures.same.cell ∙ own
-
-pub look-pass-requires : goal.look-pass-requires
-look-pass-requires g c =
-    let a = c.args in
-    let p = c.into_parts-list.result in
-    let t = c.take-pass.result in
     domain_own a.slot a.cells.now.list a.cells.now.store a.cells.now.domains.items a.row c.requires p.0 p.1 p.2 p.3 p.4 c.into_parts-list.ensures t.1.before t.0 t.1.after c.take-pass.ensures.all c.take-pass.ensures.slot c.index-domain.result.now c.index-domain.ensures
-
-pub look-pass-requires-2 : goal.look-pass-requires-2
-look-pass-requires-2 g c =
-    let a = c.args in
-    let p = c.into_parts-list.result in
-    let t = c.take-pass.result in
-    let own = domain_own a.slot a.cells.now.list a.cells.now.store a.cells.now.domains.items a.row c.requires p.0 p.1 p.2 p.3 p.4 c.into_parts-list.ensures t.1.before t.0 t.1.after c.take-pass.ensures.all c.take-pass.ensures.slot c.index-domain.result.now c.index-domain.ensures in
-    c.serve_with-means.ensures.tasked.same.cell ∙ (c.look-pass.ensures.same.cell ∙ own)
 
 pub state_of-rests-requires-2 : goal.state_of-rests-requires-2
 state_of-rests-requires-2 g c =
     let a = c.args in
     let p = c.into_parts-list.result in
     let t = c.take-pass.result in
-    let first = c.look-pass.result.0 in
-    let last = c.serve_with-means.result.1 in
-    let new = c.look-pass-2.result.0 in
-    keeps_empty t.0 new (over_keeps t.0 first last new (looked_saw a.task.now t.0 first c.look-pass.result.1 c.look-pass.ensures.looked) c.serve_with-means.ensures.tasked.later (looked_saw a.task.now last new c.look-pass-2.result.1 c.look-pass-2.ensures.looked) c.serve_with-means.ensures.tasked.keeps)
+    keeps_empty t.0 c.serve_with-means.result.1 c.serve_with-means.ensures.tasked.keeps
     (domain_idle a.slot a.cells.now.list a.cells.now.store a.cells.now.domains.items a.row c.requires p.0 p.1 p.2 p.3 p.4 c.into_parts-list.ensures t.1.before t.0 t.1.after c.take-pass.ensures.all c.take-pass.ensures.slot).empty
 
 pub returns : goal.returns
@@ -51,21 +30,12 @@ returns g c =
     let a = c.args in
     let p = c.into_parts-list.result in
     let t = c.take-pass.result in
-    let first = c.look-pass in
     let served = c.serve_with-means in
-    let last = c.look-pass-2 in
+    let tasked = served.result.2 in
     let told = c.tell-store in
-    let reports : HasReported g.F.Files.told g.F.Files.faults a.task.now t.0 first.result.0 served.result.1 last.result.0 served.result.0.store told.result.0 p.4 c.counted.result = record {
-      was = first.result.1;
-      is = last.result.1;
-      kept = told.result.1;
-      looks = first.ensures.looked;
-      looks_again = last.ensures.looked;
-      tells = told.ensures.told;
-      counts = c.counted.ensures;
-    } in
+    let reports : HasReported g.F.Files.told g.F.Files.faults a.slot tasked.seen.front tasked.status served.result.0.store told.result.0 p.4 c.counted.result = record { kept = told.result.1; tells = told.ensures.told; counts = c.counted.ensures } in
     served_in g.F.Files.told g.F.Files.faults g.G.Guests.faults g.G.E.Ears.ends g.G.E.Ears.faults g.G.E.Ears.unheard a.who a.task.now a.slot a.row c.of-row.result c.outcome_at.result
-    c.into_pass-held.result c.give_back-list.result c.into_pass.result served.result.0.store told.result.0 p.2 c.put-domains.result t.1.before t.1.after t.0 first.result.0 served.result.1 last.result.0
-    p.3 served.result.0.guests p.4 c.counted.result served.result.2.reply served.result.2.place served.result.2.seen
+    c.into_pass-held.result c.give_back-list.result c.into_pass.result served.result.0.store told.result.0 p.2 c.put-domains.result t.1.before t.1.after t.0 served.result.1
+    p.3 served.result.0.guests p.4 c.counted.result tasked.reply tasked.place tasked.seen tasked.status
     (c.into_parts-list.ensures ∙ λ i. row_with (sym c.into_pass-held.ensures i) (sym c.into_pass.ensures i) p.2 p.3 p.4) c.take-pass.ensures.all c.take-pass.ensures.slot served.ensures reports c.give_back-list.ensures c.put-domains.ensures
     (c.of-row.ensures ∙ λ i. row_with c.give_back-list.result (c.new-store.ensures i) c.put-domains.result served.result.0.guests c.counted.result) c.outcome_at.ensures.reply c.outcome_at.ensures.at

@@ -11,5 +11,5 @@ returns g c =
     let a = c.args in
     let ran = c.run_task-pass.result in
     let left = c.into_parts-guests.result in
-    has_served g.F.Files.told g.G.E.Ears.ends g.G.E.Ears.faults g.G.E.Ears.unheard a.who a.task.now g.P.Handed.store a.means.store left.1 g.P.Handed.faults (g.G.Guests.faults a.means.guests) (g.G.Guests.faults left.0) a.pass ran.0 c.new-desk.result.report c.run_task-pass.new.desk.report ran.1.reply ran.1.place ran.1.seen
+    has_served g.F.Files.told g.G.E.Ears.ends g.G.E.Ears.faults g.G.E.Ears.unheard a.who a.task.now g.P.Handed.store a.means.store left.1 g.P.Handed.faults (g.G.Guests.faults a.means.guests) (g.G.Guests.faults left.0) a.pass ran.0 c.new-desk.result.report c.run_task-pass.new.desk.report ran.1.reply ran.1.place ran.1.seen ran.1.status
     (ap (λ (d : DeskView g.row.G.Denot). d.report) c.new-desk.ensures) c.requires.handed c.requires.maker c.run_task-pass.ensures c.into_parts-guests.ensures.served c.into_parts-guests.ensures.made
