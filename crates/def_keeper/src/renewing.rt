@@ -1,5 +1,5 @@
 // The status file of a slot's domain is renewed.
-ghost use Rattle.std.specs.Prelude.{◌≡◌, ◌≤◌, ◌<◌, ◌+◌, ◌≢◌, ℕ, length, max, IsErrOf, OnOk, true, false};
+ghost use Rattle.std.specs.Prelude.{◌≡◌, ◌≤◌, ◌<◌, ◌+◌, ◌^◌, ℕ, length, max, IsErrOf, OnOk};
 ghost use Rattle.outside_spec.specs.Faults.{Rose};
 ghost use Rattle.virt_types.specs.Below.types_base.declared.memory.Fault.TheVariants as fault;
 ghost use Rattle.def_keeper.specs.Filing.{Clears, Exchanges, Renews, Replaces, Rises, Writes, rows_in};
