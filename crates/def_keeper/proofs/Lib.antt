@@ -11,6 +11,7 @@ pub mod OpenedSo
 pub mod Asides
 pub mod Booting
 pub mod Drafting
+pub mod Filing
 pub mod Imagings
 pub mod Examines
 pub mod OpeningCrashes

@@ -1,6 +1,6 @@
 -- The status file of a slot's domain, and what is known of what was put there last.
 use Rattle.std.specs.Prelude.{◌≡◌, ◌≢◌, ◌⊎◌, ◌==◌, Bool, true, false, if◌then◌else◌, ℕ, List, Option, None, Some, slice_index_or, Result, Ok, Err}
-use Rattle.virt_types.specs.Below.types_base.Front.{is_longer}
+use Rattle.virt_types.specs.Front.{is_longer}
 use Rattle.virt_types.specs.Below.types_base.declared.caller.Front.{Front}
 use Rattle.virt_types.specs.Below.types_base.declared.memory.Fault.{Fault}
 use Rattle.virt_types.specs.Below.types_base.declared.memory.Fault.TheVariants as fault

@@ -92,7 +92,7 @@ fn make_room(rows: &mut Vec<Option<Filed>>, slot: usize) -> Result<(), NoMemory>
     ensures few { length rows.new.items ≤ max (length rows.old.items) (slot + 1) }
     ensures same { rows_in rows.new.items ≡ rows_in rows.old.items }
 {
-    for _ in rows.len()..slot + 1 {
+    while rows.len() <= slot {
         rows.push(None)?;
     }
     Ok(())
