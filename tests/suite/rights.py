@@ -71,6 +71,21 @@ def no_statuses(place: Place) -> None:
     check(0, ended.status, "the exit status")
 
 
+@case("rights", "A status that could not be kept is put again at the next call")
+def a_status_put_again(place: Place) -> None:
+    domain = named("a", 1)
+    store(place, domain)
+    with Allowing(place, 0o555):
+        session = Session(place, under=UNDER)
+        check(None, session.call("DOMAIN_CREATE", domain), "a start")
+    check(None, session.call("DOMAIN_SET_AUTOSTART", domain, 1), "a call that leaves the status")
+    status = place.directory / f"run-{domain.identifier}.sta"
+    check("run 1 boot=1 state=1 op=0 phase=0 name=a\n", status.read_text(), "the status file")
+    ended = session.finish()
+    check("virtd: statuses not kept: 1\n", ended.stderr, "standard error")
+    check(0, ended.status, "the exit status")
+
+
 @case("rights", "A status file that can not be removed is a fault of the store")
 def a_status_file_that_stays(place: Place) -> None:
     (place.directory / f"run-{named('a', 1).identifier}.sta").write_text(

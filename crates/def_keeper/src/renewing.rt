@@ -1,5 +1,5 @@
 // The status file of a slot's domain is renewed.
-ghost use Rattle.std.specs.Prelude.{◌≡◌, ◌≤◌, ◌<◌, ◌+◌, ◌^◌, ℕ, length, max, IsErrOf, OnOk};
+ghost use Rattle.std.specs.Prelude.{◌≡◌, ◌≤◌, ◌<◌, ◌+◌, ℕ, length, max, IsErrOf, OnOk};
 ghost use Rattle.outside_spec.specs.Faults.{Rose};
 ghost use Rattle.virt_types.specs.Below.types_base.declared.memory.Fault.TheVariants as fault;
 ghost use Rattle.def_keeper.specs.Filing.{Clears, Exchanges, Renews, Replaces, Rises, Writes, rows_in};
@@ -138,7 +138,6 @@ fn renew<F: Files>(
     place: Front,
     status: Option<Status>,
 ) -> Result<Renewed, Fault>
-    requires { slot < 2 ^ 32 }
     ensures renews { Renews F.told slot place status files.old files.new (rows_in rows.old.items) (rows_in rows.new.items) result }
     ensures cause { IsErrOf result fault.Failed → Rose (F.faults files.old) (F.faults files.new) }
     ensures faults { F.faults files.old ≤ F.faults files.new }
