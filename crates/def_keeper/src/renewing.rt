@@ -13,11 +13,7 @@ use std::alloc::Global;
 use virt_types::{Fault, Front, NoMemory, Status, Uuid};
 
 // Writes the file of a live boot.
-fn write<F: Files>(
-    alloc: Global,
-    files: &mut F,
-    status: Status,
-) -> (StatusFile, Result<(), Fault>)
+fn write<F: Files>(alloc: Global, files: &mut F, status: Status) -> (StatusFile, Result<(), Fault>)
     ensures writes { Writes status (F.told files.old) (F.told files.new) result.0 result.1 }
     ensures cause { IsErrOf result.1 fault.Failed → Rose (F.faults files.old) (F.faults files.new) }
     ensures faults { F.faults files.old ≤ F.faults files.new }
