@@ -1,5 +1,5 @@
 -- What is known of the status files, row by row; and that none of them changes a definition.
-use Rattle.std.proofs.Common.{◌≡◌, ◌≢◌, ◌⊎◌, inl, inr, ◌==◌, ◌<◌, ◌++◌, ℕ, zero, suc, List, [], ◌∷◌, Bool, true, false, if◌then◌else◌, length, set, get_or, Option, None, Some, Result, Ok, Err, refl, sym, ap, ◌∙◌, subst, arith}
+use Rattle.std.proofs.Common.{◌≡◌, ◌≢◌, ◌⊎◌, inl, inr, ◌==◌, ◌<◌, ◌↔◌, ◌++◌, ℕ, zero, suc, List, [], ◌∷◌, Bool, IsTrue, true, false, if◌then◌else◌, length, set, get_or, Option, None, Some, Result, Ok, Err, refl, sym, ap, ◌∙◌, subst, arith}
 use Rattle.std.proofs.lemmas.Bool.Decides.{nat_tests}
 use Rattle.std.proofs.lemmas.List.{get_or_default, get_or-set_other, get_or-set_same}
 use Rattle.virt_types.specs.Front.{is_longer}
@@ -11,7 +11,7 @@ use Rattle.virt_types.proofs.Fronts.{not_longer_itself}
 use Rattle.files_disk.specs.Telling.{Told}
 use Rattle.store_spec.specs.Changes.{Definitions}
 use Rattle.def_keeper.specs.Boots.{DropsStatus}
-use Rattle.def_keeper.specs.Filing.{Clears, Exchanges, IsPut, Renews, Replaces, Rises, Rows, Writes, file_in, is_overtaken, rows_in, uuid_in, with_row}
+use Rattle.def_keeper.specs.Filing.{Clears, Exchanges, IsPut, IsSaid, Renews, Replaces, Rises, Rows, Writes, file_in, file_of, is_overtaken, rows_in, uuid_in, with_row}
 use Rattle.def_keeper.specs.Marks.{StoreHistory}
 use Rattle.def_keeper.specs.Safe.{IsKeptAt}
 use Rattle.def_keeper.specs.declared.filed.Filed.{Filed}
@@ -83,6 +83,36 @@ module _ {F : Type 0} (told : F → Told) (slot : ℕ) (place : Front) (status :
   renews_rises old new rows now (Err fault.Failed) h = put_rises old new rows now (Err fault.Failed) h
   renews_rises old new rows now (Err fault.NoMemory) (inl (files, row)) = same_rises rows now row
   renews_rises old new rows now (Err fault.NoMemory) (inr h) = put_rises old new rows now (Err fault.NoMemory) h
+
+-- ---- what is done
+
+module _ {F : Type 0} (told : F → Told) (slot : ℕ) (place : Front) (status : Option Status) (rows : Rows) (last : Option Filed) (is : last ≡ rows slot) (over said : Bool) (overtaken : over ≡ is_overtaken last place) (says : IsTrue said ↔ (file_in last ≡ file_of status)) where
+  due_by : over ≡ false → is_overtaken (rows slot) place ≡ false
+  due_by late = ap (λ (o : Option Filed). is_overtaken o place) (sym is) ∙ (sym overtaken ∙ late)
+
+  pub put_by : (old new : F) (now : Rows) (was : Option (List ℕ)) (left : StatusFile) (r : Result (Unit {0}) Fault) → over ≡ false → said ≡ false → was ≡ uuid_in (file_in last) → Replaces was status (told old) (told new) left r
+      → now ≡ with_row rows slot (record { place = place; file = left }) → IsPut told slot place status old new rows now r
+  put_by old new now was left r late other uuid replaces row = record {
+    due = due_by late;
+    news = λ same. true_false (sym (said_true same) ∙ other);
+    left = left;
+    files = subst (λ (u : Option (List ℕ)). Replaces u status (told old) (told new) left r) (uuid ∙ ap (λ (o : Option Filed). uuid_in (file_in o)) is) replaces;
+    row = row;
+  }
+    where
+      true_false : {A : Type 0} → true ≡ false → A
+      true_false e = cc
+
+      said_true : file_in (rows slot) ≡ file_of status → said ≡ true
+      said_true same = let so : IsTrue said = says.1 (ap file_in is ∙ same) in so
+
+  pub said_by : (old : F) (now : Rows) → over ≡ false → said ≡ true → now ≡ with_row rows slot (record { place = place; file = file_of status }) → IsSaid told slot place status old old rows now
+  said_by old now late yes row = record { due = due_by late; said = ap file_in (sym is) ∙ says.0 yes; files = refl; row = row }
+
+-- a fault, whichever it is
+pub renews_err : {F : Type 0} (told : F → Told) (slot : ℕ) (place : Front) (status : Option Status) (old new : F) (rows now : Rows) (why : Fault) → IsPut told slot place status old new rows now (Err why) → Renews told slot place status old new rows now (Err why)
+renews_err told slot place status old new rows now fault.Failed h = h
+renews_err told slot place status old new rows now fault.NoMemory h = inr h
 
 -- ---- definitions
 

@@ -13,7 +13,7 @@ use Rattle.def_keeper.specs.declared.filed.Renewed.TheVariants as renewed
 use Rattle.def_keeper.specs.declared.filed.StatusFile.{StatusFile}
 use Rattle.def_keeper.specs.declared.filed.StatusFile.TheVariants as file
 
--- what was put last, by slots; none where nothing was put since the store was opened
+-- what was put last for each slot; none where nothing was put since the store was opened
 abbrev pub Rows : Type 0
 Rows = ℕ → Option Filed
 

@@ -34,12 +34,11 @@ pub struct Keeper<F: Files, K: Opening> {
 }
 
 impl<F: Files, K: Opening> Model for Keeper<F, K> {
-    ghost use Rattle.def_keeper.specs.Filing.{rows_in};
     ghost use Rattle.def_keeper.specs.Keeper.{IsSafe, Keeping};
 
     ghost Value = { Keeping F };
 
-    ghost view = { λ k. record { files = k.files; map = k.map; history = k.chronicle; doubt = k.doubt; filed = rows_in k.filed.items } };
+    ghost view = { λ k. record { files = k.files; map = k.map; history = k.chronicle; doubt = k.doubt; filed = k.filed.items } };
 
     ghost invariant = { λ k. IsSafe K.sound (F.told k.files) k.map k.chronicle k.doubt };
 }
@@ -82,7 +81,7 @@ impl<F: Files, K: Opening> Keeper<F, K> {
     pub fn adopt(alloc: Global, files: F, map: DefMap) -> Keeper<F, K>
         requires sound { K.sound → IsSettledAt (F.told files) (found map) }
         requires good { AllGood (found map) }
-        ensures { result ≡ record { files = files; map = map; history = first_chapter (F.told files) map; doubt = None; filed = λ slot. None } }
+        ensures { result ≡ record { files = files; map = map; history = first_chapter (F.told files) map; doubt = None; filed = [] } }
     {
         let chronicle = begin(&files, &map);
         Keeper {

@@ -97,7 +97,7 @@ impl<F: Files, K: Opening> Keeper<F, K> {
         requires sound { K.sound → IsSureAt (F.told files) }
         ensures ok { IfOk result (λ opened. IsOpened (F.told files) (F.told opened.0.files) (found opened.0.map) opened.1) }
         ensures begun { IfOk result (λ opened. (opened.0.history ≡ first_chapter (F.told opened.0.files) opened.0.map) × (opened.0.doubt ≡ None)) }
-        ensures filed { IfOk result (λ opened. opened.0.filed ≡ λ slot. None) }
+        ensures filed { IfOk result (λ opened. opened.0.filed ≡ []) }
         ensures err { IfErr result (λ refused. IsRefused (F.told files) refused.1) }
         ensures tidied { IfOk result (λ opened. Tidies (F.told files) (F.told opened.0.files)) }
         ensures kept { IfErr result (λ refused. Tidies (F.told files) (F.told refused.0)) }

@@ -2,7 +2,7 @@
 ghost use Rattle.std.specs.Prelude.{◌≡◌, ◌≤◌, ◌<◌, ◌+◌, ℕ, length, max, IsErrOf, OnOk};
 ghost use Rattle.outside_spec.specs.Faults.{Rose};
 ghost use Rattle.virt_types.specs.Below.types_base.declared.memory.Fault.TheVariants as fault;
-ghost use Rattle.def_keeper.specs.Filing.{Clears, Exchanges, Renews, Replaces, Rises, Writes, rows_in};
+ghost use Rattle.def_keeper.specs.Filing.{Clears, Exchanges, Renews, Replaces, Rises, Writes, rows_in, with_row};
 
 use crate::boots::{drop_in, put_in};
 use crate::filed::{Filed, Renewed, StatusFile, is_overtaken, says, uuid_in};
@@ -94,6 +94,22 @@ fn make_room(rows: &mut Vec<Option<Filed>>, slot: usize) -> Result<(), NoMemory>
     Ok(())
 }
 
+// What was put last for this slot, for which there is room.
+fn row_in(rows: &Vec<Option<Filed>>, slot: usize) -> &Option<Filed>
+    requires { slot < length rows.now.items }
+    ensures { result.now ≡ rows_in rows.now.items slot }
+{
+    &rows[slot]
+}
+
+fn put_row(rows: &mut Vec<Option<Filed>>, slot: usize, row: Filed)
+    requires { slot < length rows.old.items }
+    ensures row { rows_in rows.new.items ≡ with_row (rows_in rows.old.items) slot row }
+    ensures len { length rows.new.items ≡ length rows.old.items }
+{
+    rows[slot] = Some(row);
+}
+
 // Renews the file of the slot's domain, and its row, for which there is room.
 fn renew_in<F: Files>(
     alloc: Global,
@@ -105,20 +121,22 @@ fn renew_in<F: Files>(
 ) -> Result<Renewed, Fault>
     requires { slot < length rows.old.items }
     ensures renews { Renews F.told slot place status files.old files.new (rows_in rows.old.items) (rows_in rows.new.items) result }
+    ensures len { length rows.new.items ≡ length rows.old.items }
     ensures cause { IsErrOf result fault.Failed → Rose (F.faults files.old) (F.faults files.new) }
     ensures faults { F.faults files.old ≤ F.faults files.new }
 {
-    if is_overtaken(&rows[slot], place) {
+    let last = row_in(rows, slot);
+    if is_overtaken(last, place) {
         return Ok(Renewed::Overtaken);
     }
-    if says(&rows[slot], &status) {
+    if says(last, &status) {
         let file = StatusFile::of(status);
-        rows[slot] = Some(Filed { place, file });
+        put_row(rows, slot, Filed { place, file });
         return Ok(Renewed::Unchanged);
     }
-    let was = uuid_in(&rows[slot]);
+    let was = uuid_in(last);
     let (file, replaced) = replace(alloc, files, was, status);
-    rows[slot] = Some(Filed { place, file });
+    put_row(rows, slot, Filed { place, file });
     match replaced {
         Ok(()) => Ok(Renewed::Done),
         Err(fault) => Err(fault),
@@ -135,6 +153,7 @@ fn renew<F: Files>(
     status: Option<Status>,
 ) -> Result<Renewed, Fault>
     ensures renews { Renews F.told slot place status files.old files.new (rows_in rows.old.items) (rows_in rows.new.items) result }
+    ensures few { length rows.new.items ≤ max (length rows.old.items) (slot + 1) }
     ensures cause { IsErrOf result fault.Failed → Rose (F.faults files.old) (F.faults files.new) }
     ensures faults { F.faults files.old ≤ F.faults files.new }
 {
@@ -160,8 +179,9 @@ impl<F: Files, K: Opening> Keeper<F, K> {
         place: Front,
         status: Option<Status>,
     ) -> Result<Renewed, Fault>
-        ensures renews { Renews F.told slot place status self.old.files self.new.files self.old.filed self.new.filed result }
-        ensures rises { (k : ℕ) → Rises (self.old.filed k) (self.new.filed k) }
+        ensures renews { Renews F.told slot place status self.old.files self.new.files (rows_in self.old.filed) (rows_in self.new.filed) result }
+        ensures rises { (k : ℕ) → Rises (rows_in self.old.filed k) (rows_in self.new.filed k) }
+        ensures few { length self.new.filed ≤ max (length self.old.filed) (slot + 1) }
         ensures same { self.new ≡ record self.old { files = self.new.files; filed = self.new.filed } }
         ensures cause { IsErrOf result fault.Failed → Rose (F.faults self.old.files) (F.faults self.new.files) }
         ensures faults { F.faults self.old.files ≤ F.faults self.new.files }
