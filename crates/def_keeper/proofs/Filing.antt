@@ -11,7 +11,7 @@ use Rattle.virt_types.proofs.Fronts.{not_longer_itself}
 use Rattle.files_disk.specs.Telling.{Told}
 use Rattle.store_spec.specs.Changes.{Definitions}
 use Rattle.def_keeper.specs.Boots.{DropsStatus}
-use Rattle.def_keeper.specs.Filing.{Clears, Exchanges, IsPut, IsSaid, Renews, Replaces, Rises, Rows, Writes, file_in, file_of, is_overtaken, rows_in, uuid_in, with_row}
+use Rattle.def_keeper.specs.Filing.{Clears, Exchanges, IsPut, Renews, Replaces, Rises, Rows, Writes, file_in, file_of, is_overtaken, rows_in, uuid_in, with_row}
 use Rattle.def_keeper.specs.Marks.{StoreHistory}
 use Rattle.def_keeper.specs.Safe.{IsKeptAt}
 use Rattle.def_keeper.specs.declared.filed.Filed.{Filed}
@@ -105,9 +105,6 @@ module _ {F : Type 0} (told : F → Told) (slot : ℕ) (place : Front) (status :
 
       said_true : file_in (rows slot) ≡ file_of status → said ≡ true
       said_true same = let so : IsTrue said = says.1 (ap file_in is ∙ same) in so
-
-  pub said_by : (old : F) (now : Rows) → over ≡ false → said ≡ true → now ≡ with_row rows slot (record { place = place; file = file_of status }) → IsSaid told slot place status old old rows now
-  said_by old now late yes row = record { due = due_by late; said = ap file_in (sym is) ∙ says.0 yes; files = refl; row = row }
 
 -- a fault, whichever it is
 pub renews_err : {F : Type 0} (told : F → Told) (slot : ℕ) (place : Front) (status : Option Status) (old new : F) (rows now : Rows) (why : Fault) → IsPut told slot place status old new rows now (Err why) → Renews told slot place status old new rows now (Err why)

@@ -1,5 +1,8 @@
+use Rattle.std.proofs.Common.{List, Option, ap, subst}
 use Rattle.def_map.specs.Map.{found}
-use Rattle.def_keeper.specs.Filing.{rows_in}
+use Rattle.def_keeper.specs.Filing.{Rises, rows_in}
+use Rattle.def_keeper.specs.Keeper.{Keeping}
+use Rattle.def_keeper.specs.declared.filed.Filed.{Filed}
 use Rattle.def_keeper.proofs.Filing.{renews_kept, renews_rises}
 use Rattle.def_keeper.proofs.keeper.Keeper.renew_status.Goals as goal
 
@@ -13,4 +16,6 @@ invariant_of-self g c = record {
 
 pub returns-clause-rises : goal.returns-clause-rises
 returns-clause-rises g c =
-    renews_rises g.F.Files.told c.args.slot c.args.place c.args.status c.self.inside.files c.renew.new.files (rows_in c.self.inside.filed.items) (rows_in c.renew.new.rows.items) c.renew.result c.renew.ensures.renews
+    let now = c.renew.new.rows.items in
+    λ k. subst (λ (rows : List (Option Filed)). Rises (rows_in rows k) (rows_in now k)) (ap (λ (x : Keeping g.row.F.Denot). x.filed) c.self.view_is)
+    (renews_rises g.F.Files.told c.args.slot c.args.place c.args.status c.self.inside.files c.renew.new.files (rows_in c.self.inside.filed.items) (rows_in now) c.renew.result c.renew.ensures.renews k)
