@@ -1,5 +1,5 @@
 -- What is known of the status files, row by row; and that none of them changes a definition.
-use Rattle.std.proofs.Common.{◌≡◌, ◌≢◌, ◌⊎◌, inl, inr, ◌==◌, ◌<◌, ◌↔◌, ◌++◌, ℕ, zero, suc, List, [], ◌∷◌, Bool, IsTrue, true, false, if◌then◌else◌, length, set, get_or, Option, None, Some, Result, Ok, Err, refl, sym, ap, ◌∙◌, subst, arith}
+use Rattle.std.proofs.Common.{◌≡◌, ◌≢◌, inl, inr, ◌==◌, ◌<◌, ◌↔◌, ◌++◌, ℕ, zero, suc, List, [], ◌∷◌, Bool, IsTrue, true, false, if◌then◌else◌, length, set, get_or, Option, None, Some, Result, Ok, Err, refl, sym, ap, ◌∙◌, subst, arith}
 use Rattle.std.proofs.lemmas.Bool.Decides.{nat_tests}
 use Rattle.std.proofs.lemmas.List.{get_or_default, get_or-set_other, get_or-set_same}
 use Rattle.virt_types.specs.Front.{is_longer}
@@ -10,7 +10,6 @@ use Rattle.virt_types.specs.declared.status.Status.{Status}
 use Rattle.virt_types.proofs.Fronts.{not_longer_itself}
 use Rattle.files_disk.specs.Telling.{Told}
 use Rattle.store_spec.specs.Changes.{Definitions}
-use Rattle.def_keeper.specs.Boots.{DropsStatus}
 use Rattle.def_keeper.specs.Filing.{Clears, Exchanges, IsPut, Renews, Replaces, Rises, Rows, Writes, file_in, file_of, is_overtaken, rows_in, uuid_in, with_row}
 use Rattle.def_keeper.specs.Marks.{StoreHistory}
 use Rattle.def_keeper.specs.Safe.{IsKeptAt}
