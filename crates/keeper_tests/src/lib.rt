@@ -21,4 +21,6 @@ mod openings;
 #[cfg(test)]
 mod rewriting;
 #[cfg(test)]
+mod statuses;
+#[cfg(test)]
 mod stops;
