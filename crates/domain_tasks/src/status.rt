@@ -1,6 +1,6 @@
 // What was read of the status of a domain's boot.
 ghost use Rattle.std.specs.Prelude.{◌≡◌};
-ghost use Rattle.domain_tasks.specs.Statuses.{seen_of, status_of};
+ghost use Rattle.domain_tasks.specs.Statuses.{read_as, seen_of, status_of};
 
 use crate::reading::UNSEEN;
 use domain_obj::{LastSeen, Seen};
