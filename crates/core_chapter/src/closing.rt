@@ -242,7 +242,7 @@ pub fn close_starved(
     let mut into = told;
     let phase = due_of(operation.outcome());
     let PhaseEnd {
-        outcome,
+        outcome: next,
         in_mark,
         told,
     } = phase_starved(state, operation.shown(), led, texts, &mut into);
@@ -255,6 +255,6 @@ pub fn close_starved(
         outcome: in_mark,
         transitions: into.into_list(),
     });
-    operation.go_on(outcome);
+    operation.go_on(next);
     told
 }
