@@ -117,13 +117,7 @@ pub fn marks_kept(aside: &Aside) -> usize
     ensures { result ≡ marks_kept aside.now }
 {
     match aside {
-        Aside::Going(going) => {
-            if going.second.is_some() {
-                4
-            } else {
-                2
-            }
-        }
+        Aside::Going(going) => { if going.second.is_some() { 4 } else { 2 } }
         _ => 0,
     }
 }

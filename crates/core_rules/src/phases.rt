@@ -112,7 +112,12 @@ pub fn start_failed(
 }
 
 #[tactic(auto, unfolding(crate::specs::Ends::gives_up_in))]
-fn gives_up(state: &mut State, reason: Reason, texts: ThreeTexts, for_operation: KeptText) -> PhaseEnd
+fn gives_up(
+    state: &mut State,
+    reason: Reason,
+    texts: ThreeTexts,
+    for_operation: KeptText,
+) -> PhaseEnd
     ensures state { state.new ≡ (gives_up_in state.old (refusal_for reason)).state }
     ensures outcome { result.outcome ≡ (gives_up_in state.old (refusal_for reason)).outcome }
     ensures in_mark { result.in_mark ≡ (gives_up_in state.old (refusal_for reason)).outcome }
