@@ -9,7 +9,6 @@ ghost use Rattle.monitor_link.specs.Views.{link_view};
 use crate::turns::{DomainPass, back_in, last_in, told_legal};
 use domain_core::{Back, DomainCell, Ticket};
 use monitor_link::{Guests, Link};
-use std::alloc::Global;
 use std::sync::Wait;
 use turn_cell::TurnCell;
 use virt_types::{Answer, Ask, Front};
