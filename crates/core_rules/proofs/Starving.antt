@@ -1,5 +1,5 @@
 -- What a phase leaves that finds no memory.
-use Rattle.std.proofs.Common.{◌≡◌, ◌∙◌, ◌∷◌, [], List, Bool, true, false, Option, None, Some, if◌then◌else◌, refl, sym, ap}
+use Rattle.std.proofs.Common.{◌≡◌, ◌∙◌, ◌∷◌, [], List, true, false, Option, None, Some, if◌then◌else◌, refl, ap}
 use Rattle.domain_spec.specs.Types.{Answer, Call, Domain, Op, State}
 use Rattle.domain_spec.specs.Types.answer
 use Rattle.domain_spec.specs.Types.reply
