@@ -1,10 +1,10 @@
 -- What a call answers and leaves, once the table and the history went on together.
-use Rattle.std.proofs.Common.{◌≡◌, inl, inr, ℕ, ◌+◌, ◌<◌, ◌≤◌, [], length, Result, Ok, Err, refl, sym, ap, ◌∙◌, subst, arith}
+use Rattle.std.proofs.Common.{◌≡◌, inl, inr, ℕ, ◌<◌, [], length, Result, Ok, Err, refl, sym, ap, ◌∙◌, subst, arith}
 use Rattle.history_spec.specs.declared.history.History.{History}
 use Rattle.types_base.specs.declared.refusal.Refusal.{Refusal}
 use Rattle.book_spec.specs.declared.mark.Mark.{Mark}
-use Rattle.book_spec.specs.Books.{Rules, no_memory, marked, state_of, open_chapter, with_call, HasCalled, CanCall, MayCall}
-use Rattle.book_spec.specs.Chapters.{open_with, with_mark}
+use Rattle.book_spec.specs.Books.{Rules, marked, state_of, open_chapter, with_call, HasCalled, CanCall, MayCall}
+use Rattle.book_spec.specs.Chapters.{with_mark}
 use Rattle.turn_book.specs.declared.giving.Given.{Given}
 use Rattle.turn_book.specs.declared.giving.Given.TheVariants.{Answered, OutOfMemory}
 use Rattle.turn_book.specs.Answers.{value_of, IsGiven, IsTested, RefusedChangesNothing, Leaves, LeavesTest}

@@ -10,7 +10,7 @@ use Rattle.turn_cell.specs.Passes.{Passed, Turned, Enters, left_by}
 use Rattle.turn_cell.specs.Turning.{Changes, Went}
 use Rattle.turn_cell.proofs.Turning.{changes_by, nothing_changes, turn_tells}
 use Rattle.book_spec.specs.declared.mark.Mark.{Mark}
-use Rattle.book_spec.specs.Books.{Rules, no_memory, state_of, open_chapter, HasCalled, IsCalled, LacksMemory}
+use Rattle.book_spec.specs.Books.{Rules, state_of, open_chapter, HasCalled, IsCalled, LacksMemory}
 use Rattle.book_spec.specs.Chapters.{open_with, with_mark}
 use Rattle.turn_book.specs.Keeping.{meaning, meaning_of, no_mark_lowers, new_base_keeps}
 use Rattle.turn_book.specs.Turns.{HasAsked}
