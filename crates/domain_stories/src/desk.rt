@@ -6,7 +6,7 @@ ghost use Rattle.domain_threads.specs.Below.domain_obj.OfCells.{IsAnsweredAs, Is
 ghost use Rattle.domain_threads.specs.Below.domain_obj.Sending.{SendsToGuest};
 ghost use Rattle.monitor_link.specs.Views.{link_view};
 
-use crate::report::Report;
+use crate::report::{Report, more_asked, nothing_asked};
 use crate::scene::Scene;
 use domain_threads::{Desk, DomainPass, Ticket};
 use monitor_link::{Guests, Link, Monitor};
@@ -41,7 +41,7 @@ impl<H: Copy, G: Guests + Drop> StoryDesk<H, G> {
             held_before,
             phases: 0,
             guests,
-            report: Report::new(),
+            report: nothing_asked(),
         })
     }
 }
@@ -73,7 +73,7 @@ fn ask_whom<G: Guests>(
 }
 
 impl<H: Wait, G: Guests + Drop> Desk<G> for StoryDesk<H, G> {
-    ghost report = { λ d. d.report.asked };
+    ghost report = { λ d. d.report.value };
 
     fn ask(
         &mut self,
@@ -82,7 +82,7 @@ impl<H: Wait, G: Guests + Drop> Desk<G> for StoryDesk<H, G> {
         asked: &Ask,
     ) -> (Answer, Option<Link<G>>) {
         let (answer, made) = ask_whom(&mut self.guests, &mut ticket.monitor, asked);
-        self.report = self.report.and(asked, &answer);
+        self.report = more_asked(&self.report, asked, &answer);
         (answer, made)
     }
 

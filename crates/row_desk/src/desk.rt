@@ -11,7 +11,7 @@ ghost use Rattle.domain_obj.specs.OfCells.{told};
 use crate::door::StoreDoor;
 use crate::guests::{make, send};
 use crate::handed::Handed;
-use crate::report::Report;
+use crate::report::{Report, more_asked, nothing_asked};
 use def_keeper::{Keeper, KeeperPass, Opening};
 use files_disk::Files;
 use monitor_link::{Guests, Link};
@@ -37,9 +37,9 @@ impl<'a, R: Wait, G: Guests, F: Files + Drop, K: Opening, P: Handed> Model
 
     ghost Value = { DeskView G };
 
-    ghost view = { λ d. record { guests = d.guests; store = d.store; report = d.report.asked } };
+    ghost view = { λ d. record { guests = d.guests; store = d.store; report = d.report.value } };
 
-    ghost invariant = { λ d. HasServed F.told d.report.asked P.store d.store × HasMade d.report.asked P.faults (G.faults d.guests) };
+    ghost invariant = { λ d. HasServed F.told d.report.value P.store d.store × HasMade d.report.value P.faults (G.faults d.guests) };
 }
 
 // Asks whom the ask is for.
@@ -84,7 +84,7 @@ impl<'a, R: Wait, G: Guests, F: Files + Drop, K: Opening, P: Handed> RowDesk<'a,
         RowDesk {
             guests,
             store: StoreDoor::new(rt, alloc, cell, pass),
-            report: Report::new(),
+            report: nothing_asked(),
             of: PhantomData,
         }
     }
@@ -103,7 +103,7 @@ impl<'a, R: Wait, G: Guests, F: Files + Drop, K: Opening, P: Handed> RowDesk<'a,
         ensures report { self.new.report ≡ self.old.report ++ told (asked.now ∷ []) (result.0 ∷ []) }
     {
         let (answer, made) = ask_whom(&mut self.guests, &mut self.store, monitor, asked);
-        self.report = self.report.and(asked, &answer);
+        self.report = more_asked(&self.report, asked, &answer);
         (answer, made)
     }
 

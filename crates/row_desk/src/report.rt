@@ -1,57 +1,34 @@
-// What a desk was asked, of no bytes.
-ghost use Rattle.std.specs.Borrow.{ftrue};
+// What a desk was asked.
 ghost use Rattle.std.specs.Prelude.{◌≡◌, ◌∷◌, ◌++◌, [], List};
 ghost use Rattle.domain_spec.specs.Types.{Answer as TheAnswer, Ask as TheAsk};
 ghost use Rattle.domain_obj.specs.OfCells.{told};
 
-use std::marker::{Model, PhantomData};
+use std::collections::LinkedList;
+use types_ghost::Said;
 use virt_types::{Answer, Ask};
 
 /// What a desk was asked, each ask with its answer, but for those for which there was no memory. Contracts alone see it, and
 /// it takes no bytes.
-#[derive(Drop)]
-pub struct Report {
-    of: PhantomData<u64>,
-    pub ghost asked: { List (TheAsk × TheAnswer) },
+pub type Report = Said<LinkedList<(Ask, Answer)>>;
+
+/// Nothing was asked yet.
+pub(crate) fn nothing_asked() -> Report
+    ensures { result.value ≡ [] }
+{
+    Said::named()
 }
 
-impl Model for Report {
-    ghost also_owns = { λ _. ftrue };
-}
-
-// It owns nothing.
-unsafe impl Send for Report {}
-
-unsafe impl Sync for Report {}
-
-impl Report {
-    /// The report that the caller names.
-    fn named() -> Report
-        ghost asked: { List (TheAsk × TheAnswer) }
-        ensures { result.asked ≡ asked }
-    {
-        Report { of: PhantomData }
-    }
-
-    /// Nothing was asked yet.
-    pub(crate) fn new() -> Report
-        ensures { result.asked ≡ [] }
-    {
-        Report::named()
-    }
-
-    /// The same, and this ask with its answer.
-    pub(crate) fn and(&self, asked: &Ask, answer: &Answer) -> Report
-        ensures { result.asked ≡ self.now.asked ++ told (asked.now ∷ []) (answer.now ∷ []) }
-    {
-        after(self, asked, answer)
-    }
+/// The same, and this ask with its answer.
+pub(crate) fn more_asked(report: &Report, asked: &Ask, answer: &Answer) -> Report
+    ensures { result.value ≡ report.now.value ++ told (asked.now ∷ []) (answer.now ∷ []) }
+{
+    after(report, asked, answer)
 }
 
 // The asks are named in two steps, since a pick sees the callee's arguments alone.
 fn after(_old: &Report, _asked: &Ask, _answer: &Answer) -> Report
     ghost asked: { List (TheAsk × TheAnswer) }
-    ensures { result.asked ≡ asked }
+    ensures { result.value ≡ asked }
 {
-    Report::named()
+    Said::named()
 }

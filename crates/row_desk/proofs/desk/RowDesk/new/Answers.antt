@@ -4,6 +4,6 @@ use Rattle.row_desk.proofs.desk.RowDesk.new.Goals as goal
 
 pub invariant_of-result : goal.invariant_of-result
 invariant_of-result g c = (
-  serves_at_first g.F.Files.told c.new-2.result.asked g.P.Handed.store c.new.result c.new-2.ensures (c.new.ensures ∙ c.requires.store),
-  makes_at_first c.new-2.result.asked g.P.Handed.faults (g.G.Guests.faults c.args.guests) c.new-2.ensures c.requires.guests,
+  serves_at_first g.F.Files.told c.nothing_asked.result.value g.P.Handed.store c.new.result c.nothing_asked.ensures (c.new.ensures ∙ c.requires.store),
+  makes_at_first c.nothing_asked.result.value g.P.Handed.faults (g.G.Guests.faults c.args.guests) c.nothing_asked.ensures c.requires.guests,
 )
