@@ -1,10 +1,6 @@
 -- What is refused changes nothing in the book of networks.
-use Rattle.std.proofs.Common.{◌≡◌, refl}
-use Rattle.virt_types.specs.Below.types_base.declared.refusal.Refusal.{Refusal}
-use Rattle.book_spec.specs.declared.book.NetAnswer.TheVariants.{Refused}
-use Rattle.book_spec.specs.declared.book.NetCall.{NetCall}
+use Rattle.std.proofs.Common.{refl}
 use Rattle.book_spec.specs.declared.book.NetCall.TheVariants as call
-use Rattle.book_spec.specs.Networks.{Networks}
 use Rattle.book_spec.specs.NetCalls.{networks_after}
 use Rattle.book_spec.specs.NetHistory.{rules}
 use Rattle.turn_book.specs.Answers.{RefusedChangesNothing}
