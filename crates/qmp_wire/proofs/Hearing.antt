@@ -1,5 +1,5 @@
 -- Lines that are looked at one after the other.
-use Rattle.std.proofs.Common.{◌≡◌, ◌+◌, ◌-◌, ◌^◌, ◌<◌, ◌≤◌, ℕ, List, [], ◌∷◌, ◌++◌, length, Option, None, Some, refl, sym, ap, ◌∙◌, append_assoc, subst, arith, inl, inr}
+use Rattle.std.proofs.Common.{◌≡◌, ◌+◌, ◌-◌, ◌^◌, ◌<◌, ◌≤◌, ℕ, List, [], ◌∷◌, ◌++◌, length, Option, None, Some, refl, sym, ap, ◌∙◌, append_assoc, subst, arith, inl, Bool, true, cond}
 use Rattle.std.proofs.lemmas.List.{append-nil, length-append}
 use Rattle.std.proofs.lemmas.Grind.{flat_map-append}
 use Rattle.std.specs.Io.KnownBytes.{Consumes}
@@ -8,13 +8,15 @@ use Rattle.virt_types.specs.Below.types_base.declared.memory.OrNoMemory.{OrNoMem
 use Rattle.virt_types.specs.Below.types_base.declared.memory.OrNoMemory.TheVariants.{Fault, NoMemory}
 use Rattle.virt_types.specs.declared.answer.Answer.{Answer}
 use Rattle.virt_types.specs.declared.ask.GuestEvent.{GuestEvent}
+use Rattle.qmp_lines.specs.Meaning.{is_greeting}
 use Rattle.qmp_lines.specs.declared.meaning.Meaning.{Meaning}
 use Rattle.qmp_lines.specs.declared.meaning.Meaning.TheVariants as means
-use Rattle.qmp_wire.specs.Inflow.{Gets, Hears, Inflow, IsBadLine, IsOver, IsSilent, Passes, Reading, Stops, answer_in, ended_by, events_in, events_of}
-use Rattle.qmp_wire.specs.Inlets.{Ceases, IsShort, Learns, Meets, Minds, Takes, end_after}
+use Rattle.qmp_wire.specs.Inflow.{Gets, Hears, Inflow, IsBadLine, IsOver, IsSilent, Passes, Reading, Stops, answer_in, ended_by, events_in, events_of, greeting}
+use Rattle.qmp_wire.specs.Inlets.{Ceases, Greets, IsShort, Learns, Meets, Minds, PassesLine, Takes, end_after, seen}
 use Rattle.qmp_wire.specs.Lines.{IsLine, line_end, text}
 use Rattle.qmp_wire.specs.declared.fault.QmpFault.{QmpFault}
 use Rattle.qmp_wire.specs.declared.fault.QmpFault.TheVariants as fault
+use Rattle.qmp_wire.specs.declared.inlet.Inlet.{Inlet}
 use Rattle.packet.proofs.Known.{Consumes-none, Consumes-then}
 use Rattle.qmp_wire.proofs.Known.{rose_before}
 use Rattle.qmp_wire.proofs.Lines.{length-text_one, text_append, text_one}
@@ -190,3 +192,19 @@ module _ {S : Type 0} (left : S → Option (List ℕ)) (faults : S → ℕ) wher
     events = b.events ∙ a.events;
     ended = b.ended ∙ ap (ended_by given) a.ended;
   }
+
+  -- the line that greets was passed over
+  pub greets : (old : Inflow S) (i j : Inlet S) → Takes left faults old (seen i) → PassesLine i j → IsLine i.line.items → is_greeting i.line.items ≡ true → Greets left faults old (seen j)
+  greets old i j takes passes is_line is =
+      let line = i.line.items in
+      let minds : Minds (seen i) (seen j) line means.Passed = record {
+        source = passes.source;
+        taken = passes.taken;
+        lines = passes.lines;
+        parts = ap (λ (t : List ℕ). line ++ t) passes.parts ∙ ap (λ (t : List ℕ). line ++ line_end ∷ (t ++ j.piece)) (sym passes.line);
+        is_line = is_line;
+        events = passes.events ∙ sym (append-nil i.events.items);
+        ended = passes.ended;
+      } in
+      let read : greeting line ≡ Some means.Passed = ap (λ (b : Bool). cond b (Some means.Passed) None) is in
+      (line, hears_then left greeting old (seen i) (seen j) [] (line ∷ []) (hears_takes greeting old (seen i) takes) (hears_one left greeting (seen i) (seen j) line means.Passed minds read tt refl))

@@ -1,10 +1,11 @@
 -- Bytes of lines, cut at their ends.
 use Rattle.std.proofs.Common.{◌≡◌, ◌+◌, ◌<◌, ◌≤◌, ◌==◌, ℕ, Bool, true, false, List, [], ◌∷◌, ◌++◌, length, get_or, take, drop, refl, sym, ap, ◌∙◌, append_assoc, arith}
-use Rattle.std.proofs.lemmas.List.{append-nil, get_or-take, length-append, length-take}
+use Rattle.std.proofs.lemmas.List.{append-nil, get_or-take, length-append, length-take, take-append-drop}
 use Rattle.std.proofs.lemmas.List.Elements.{All-append, All-from_get_or}
 use Rattle.std.proofs.lemmas.Grind.{flat_map-append}
 use Rattle.std.specs.List.{flat_map}
-use Rattle.qmp_wire.specs.Lines.{HasNoEnd, line_end, text}
+use Rattle.qmp_wire.specs.Lines.{HasNoEnd, IsTooLong, line_end, text}
+use Rattle.qmp_lines.specs.declared.command.TheConstants.{MOST_LINE_BYTES}
 
 pub text_append : (ps qs : List (List ℕ)) (rest : List ℕ) → text (ps ++ qs) ++ rest ≡ text ps ++ (text qs ++ rest)
 text_append ps qs rest = ap (λ (t : List ℕ). t ++ rest) (flat_map-append (λ line. line ++ line_end ∷ []) ps qs) ∙ append_assoc (text ps) (text qs) rest
@@ -29,3 +30,13 @@ none_before bytes count within none = All-from_get_or (λ byte. (byte == line_en
 -- a longer part of a line
 pub longer : (line more : List ℕ) → HasNoEnd line → HasNoEnd more → HasNoEnd (line ++ more)
 longer line more a b = All-append (λ byte. (byte == line_end) ≡ false) line more a b
+
+-- a part of a line, and more bytes without an end, that are longer than a line
+pub too_long : (line piece bytes : List ℕ) (count : ℕ) → bytes ≡ piece → HasNoEnd line → HasNoEnd (take count bytes) → count ≤ length bytes → MOST_LINE_BYTES < length line + count → IsTooLong (line ++ piece)
+too_long line piece bytes count is a b within long = record {
+  front = line ++ take count bytes;
+  rest = drop count bytes;
+  parts = ap (λ (t : List ℕ). line ++ t) (sym is ∙ sym (take-append-drop count bytes)) ∙ sym (append_assoc line (take count bytes) (drop count bytes));
+  no_end = longer line (take count bytes) a b;
+  long = omega (arith, long, within, length-append line (take count bytes), length-take count bytes);
+}

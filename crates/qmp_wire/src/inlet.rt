@@ -340,10 +340,7 @@ impl<S: Waiting> Inlet<S> {
         ensures none { OnErr result (self.new.events.items ≡ []) }
         ensures stands { Stands self.new }
     {
-        'lines: loop {
-            if let Some(event) = self.events.pop_front() {
-                return Ok(Heard::Event(event));
-            }
+        'lines: while self.events.is_empty() {
             match self.waiting_line() {
                 Ok(true) => match self.look(alloc, sent, None) {
                     Ok(Some(_)) => return Ok(self.rest()),
@@ -358,6 +355,10 @@ impl<S: Waiting> Inlet<S> {
                     };
                 }
             }
+        }
+        match self.events.pop_front() {
+            Some(event) => Ok(Heard::Event(event)),
+            None => unreachable!(),
         }
     }
 }
