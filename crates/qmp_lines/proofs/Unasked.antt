@@ -1,8 +1,7 @@
 -- One who waits for no answer is given none.
-use Rattle.std.proofs.Common.{◌≡◌, ℕ, Bool, true, false, List, Option, None, Some, cond, option_and_then, refl, sym}
-use Rattle.virt_types.specs.declared.ask.Command.{Command}
+use Rattle.std.proofs.Common.{ℕ, Bool, true, false, List, Option, None, Some, cond, option_and_then}
 use Rattle.serde_json.specs.Data.{Data}
-use Rattle.qmp_lines.specs.Meaning.{is_sent, meaning, meaning_by, passed, tree_meaning, tree_of}
+use Rattle.qmp_lines.specs.Meaning.{is_sent, meaning, meaning_by, tree_meaning, tree_of}
 use Rattle.qmp_lines.specs.Said.{said_of}
 use Rattle.qmp_lines.specs.declared.meaning.Meaning.{Meaning}
 use Rattle.qmp_lines.specs.declared.meaning.Meaning.TheVariants as means

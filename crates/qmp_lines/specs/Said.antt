@@ -1,9 +1,8 @@
 -- What a line from the far end says: an answer, or an event (QEMU's "QEMU Machine Protocol Specification",
 -- "Server Responses" and "Asynchronous events").
-use Rattle.std.specs.Prelude.{ℕ, ◌^◌, ◌-◌, ◌==◌, nat_lt, nat_le, ◌&&◌, Bool, List, [], ◌∷◌, codes, Option, Some, None, if◌then◌else◌, is_some, option_map, option_and_then, unwrap_or}
+use Rattle.std.specs.Prelude.{ℕ, ◌^◌, ◌-◌, nat_lt, nat_le, ◌&&◌, List, [], ◌∷◌, codes, Option, Some, None, if◌then◌else◌, option_map, option_and_then}
 use Rattle.serde_json.specs.Data.{Data}
 use Rattle.serde_json.specs.Find.{as_number, as_object, as_str, as_u64, get}
-use Rattle.virt_types.specs.declared.ask.GuestEvent.{GuestEvent}
 use Rattle.virt_types.specs.declared.ask.GuestEvent.TheVariants as guest
 use Rattle.virt_types.specs.declared.run_state.EndReason.{EndReason}
 use Rattle.qmp_lines.specs.Words.{event_named, reason_of}

@@ -41,11 +41,7 @@ fn command_tree(alloc: Global, id: u64, command: &Command) -> Result<Value, NoMe
 /// The line of the command with this number, without its end; none where a number of it is 2^64 or
 /// more, or it is longer than a line may be.
 #[tactic(auto, unfolding(crate::specs::Commands::command_line))]
-pub fn command_line(
-    alloc: Global,
-    id: u64,
-    command: &Command,
-) -> Result<Option<String>, NoMemory>
+pub fn command_line(alloc: Global, id: u64, command: &Command) -> Result<Option<String>, NoMemory>
     ensures { IfOk result (λ line. option_map string_bytes line ≡ spec.command_line id command.now) }
 {
     if !has_numbers(command) {

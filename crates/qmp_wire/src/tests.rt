@@ -82,12 +82,16 @@ fn a_command_without_a_line(rt: HostRuntime) -> Result<(), Fail> {
 #[test]
 fn no_greeting(rt: HostRuntime) -> Result<(), Fail> {
     let bytes = b"{\"qmp\":{}}\n".to_vec(rt.alloc())?;
-    match Near::open(rt.alloc(), MemorySource::new(bytes), MemorySink::new(rt.alloc())) {
-        Err((_, sink, why)) => {
+    let opened = Near::open(rt.alloc(), MemorySource::new(bytes), MemorySink::new(rt.alloc()));
+    match opened {
+        Err(failed) => {
+            let (_source, sink, why) = failed;
             assert!(rt; why == OrNoMemory::Fault(QmpFault::NotQmp { line: 1 }));
             assert!(rt; sink.bytes().is_empty());
         }
-        Ok(_) => assert!(rt; false),
+        Ok(_near) => {
+            assert!(rt; false);
+        }
     }
     Ok(())
 }
