@@ -3,7 +3,7 @@ use Rattle.std.proofs.Common.{◌≡◌, ◌+◌, ◌-◌, ◌^◌, ◌<◌, ◌
 use Rattle.std.proofs.lemmas.List.{append-nil, length-append}
 use Rattle.std.proofs.lemmas.Grind.{flat_map-append}
 use Rattle.std.specs.Io.KnownBytes.{Consumes}
-use Rattle.std.specs.List.{flat_map, AllByRecursion}
+use Rattle.std.specs.List.{AllByRecursion}
 use Rattle.virt_types.specs.Below.types_base.declared.memory.OrNoMemory.{OrNoMemory}
 use Rattle.virt_types.specs.Below.types_base.declared.memory.OrNoMemory.TheVariants.{Fault, NoMemory}
 use Rattle.virt_types.specs.declared.answer.Answer.{Answer}
@@ -11,7 +11,7 @@ use Rattle.virt_types.specs.declared.ask.GuestEvent.{GuestEvent}
 use Rattle.qmp_lines.specs.Meaning.{is_greeting}
 use Rattle.qmp_lines.specs.declared.meaning.Meaning.{Meaning}
 use Rattle.qmp_lines.specs.declared.meaning.Meaning.TheVariants as means
-use Rattle.qmp_wire.specs.Inflow.{Gets, Hears, Inflow, IsBadLine, IsOver, IsSilent, Passes, Reading, Stops, answer_in, ended_by, events_in, events_of, greeting}
+use Rattle.qmp_wire.specs.Inflow.{Gets, Hears, Inflow, IsOver, IsSilent, Passes, Reading, Stops, answer_in, ended_by, events_in, events_of, greeting}
 use Rattle.qmp_wire.specs.Inlets.{Ceases, Greets, IsShort, Learns, Meets, Minds, PassesLine, Takes, end_after, seen}
 use Rattle.qmp_wire.specs.Lines.{IsLine, line_end, text}
 use Rattle.qmp_wire.specs.declared.fault.QmpFault.{QmpFault}

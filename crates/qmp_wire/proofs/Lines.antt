@@ -3,7 +3,6 @@ use Rattle.std.proofs.Common.{◌≡◌, ◌+◌, ◌<◌, ◌≤◌, ◌==◌, 
 use Rattle.std.proofs.lemmas.List.{append-nil, get_or-take, length-append, length-take, take-append-drop}
 use Rattle.std.proofs.lemmas.List.Elements.{All-append, All-from_get_or}
 use Rattle.std.proofs.lemmas.Grind.{flat_map-append}
-use Rattle.std.specs.List.{flat_map}
 use Rattle.qmp_wire.specs.Lines.{HasNoEnd, IsTooLong, line_end, text}
 use Rattle.qmp_lines.specs.declared.command.TheConstants.{MOST_LINE_BYTES}
 

@@ -3,7 +3,6 @@ use Rattle.std.specs.Prelude.{◌≡◌, ◌⊎◌, ℕ, List, [], ◌∷◌, �
 use Rattle.std.specs.List.{AllByRecursion}
 use Rattle.monitor_link.specs.declared.link.Heard.{Heard}
 use Rattle.monitor_link.specs.declared.link.Heard.TheVariants as heard
-use Rattle.virt_types.specs.Below.types_base.declared.memory.OrNoMemory.{OrNoMemory}
 use Rattle.virt_types.specs.Below.types_base.declared.memory.OrNoMemory.TheVariants as or
 use Rattle.virt_types.specs.declared.answer.Answer.TheVariants as answer
 use Rattle.virt_types.specs.declared.ask.GuestEvent.{GuestEvent}

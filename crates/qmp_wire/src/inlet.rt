@@ -84,7 +84,11 @@ impl<S: Source> Inlet<S> {
                 line: self.lines + 1,
             }));
         }
-        if self.line.extend_from_slice(bytes.split_at(count).0).is_err() {
+        if self
+            .line
+            .extend_from_slice(bytes.split_at(count).0)
+            .is_err()
+        {
             return Err(OrNoMemory::NoMemory);
         }
         self.piece.skip(count);

@@ -1,4 +1,4 @@
-use Rattle.std.proofs.Common.{ℕ, List, [], ◌∷◌, refl, subst}
+use Rattle.std.proofs.Common.{[], ◌∷◌, refl, subst}
 use Rattle.qmp_wire.specs.Inflow.{Hears, Inflow, Stops, greeting}
 use Rattle.qmp_wire.specs.Inlets.{seen}
 use Rattle.qmp_wire.proofs.Opening.{fails}
